@@ -62,7 +62,12 @@ impl Fault {
         match status {
             Status::Ok | Status::ReadsFailed | Status::Illegal { .. } => None,
             Status::Usage { index } => Some(Fault::Word(index)),
-            _ => Some(Fault::Ended(status.code())),
+            Status::BadTrace { .. }
+            | Status::SourceFault
+            | Status::SinkFault
+            | Status::PoolFault
+            | Status::NoMemory
+            | Status::PoolFull { .. } => Some(Fault::Ended(status.code())),
         }
     }
 

@@ -72,8 +72,10 @@ Exit status:
   3   The standard input holds no trace, no list of pages, or no log
   4   The standard input could not be read
   5   The standard output could not be written
-  6   The pool could not be opened once more for each of several callers
+  6   The pool could not be opened once more for each of several callers, or not
+      be written in a sync
   7   There was too little memory
+  8   The pool has too little room for what a sync has to write
   9   The file names are missing, or a word is not UTF-8
   10  An event of the log may not come where it stands
   11  The pool's file could not be opened, or is longer than 2^40 bytes

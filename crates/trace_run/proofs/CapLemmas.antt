@@ -8,7 +8,7 @@ use Rattle.arc_core.specs.Operations.{Act}
 use Rattle.turn_table.specs.Places.{Place}
 use Rattle.arc_table.specs.declared.view.Known.{Known}
 use Rattle.arc_table.specs.Cache.{Cache}
-use Rattle.trace_run.specs.Making.{HasTold}
+use Rattle.trace_run.specs.Deeds.{HasToldAll}
 use Rattle.trace_text.specs.declared.op.Op.{Op}
 use Rattle.trace_text.specs.declared.op.Op.TheVariants as ops
 use Rattle.trace_text.specs.declared.reply.Reply.{Reply}
@@ -23,10 +23,11 @@ module _ {C P : Type 0} (g : Config) (pools : Ghosts P) (blocks : List Ptr) (p q
   cap-there : (c : ℕ) → HasResized g c p q → DidThere g blocks kept (ops.Cap c) (Capped c) p q
   cap-there c r = record {
     number = r.number;
-    told = λ before told. subst (λ (l : List Act). HasTold g l q) (sym (append-nil before)) (r.told before told);
+    told = λ before noted told. subst (λ (l : List Act). HasToldAll g l noted q) (sym (append-nil before)) (r.told before noted told);
     alone = λ alone shard. r.seen shard;
     all = r.all;
     joined = λ his. absurd (false≢true his);
+    keeps = λ his. absurd (false≢true his);
   }
 
   cap-line : (c : ℕ) → HasResized g c p q → DidLine g pools blocks (ops.Cap c) (Capped c) (at p kept a) (at q kept a)
@@ -43,7 +44,7 @@ module _ {C P : Type 0} (g : Config) (pools : Ghosts P) (blocks : List Ptr) (p q
   pub capped-line : (op : Op) (reply : Reply) → (c : ℕ) × (op ≡ ops.Cap c) × (reply ≡ Capped c) × HasResized g c p q → DidLine g pools blocks op reply (at p kept a) (at q kept a)
   capped-line op reply did = subst (λ (x : Op × Reply). DidLine g pools blocks x.0 x.1 (at p kept a) (at q kept a)) (λ i. (sym did.1 i, sym did.2 i)) (cap-line did.0 did.3)
 
-his-some : (n : ℕ) (op : Op) → is_of_caller n op ≡ true → IsSome (caller_of op)
+pub his-some : (n : ℕ) (op : Op) → is_of_caller n op ≡ true → IsSome (caller_of op)
 his-some n (ops.Read m t x window) his = refl
 his-some n (ops.Hold m t x) his = refl
 his-some n (ops.Drop m x) his = refl

@@ -18,7 +18,7 @@ use Rattle.arc_core.specs.Config.{IsConfig}
 use Rattle.arc_core.specs.declared.config.Config.{Config}
 use Rattle.arc_core.specs.declared.event.Event.{Event}
 use Rattle.arc_core.specs.declared.event.Event.TheVariants.{Drop}
-use Rattle.arc_core.specs.Operations.{Moment, event_key, moments, number_of, own_moments}
+use Rattle.arc_core.specs.Operations.{Act, Moment, event_key, moments, number_of, own_moments}
 use Rattle.arc_core.specs.PlainShard.{PlainShard}
 use Rattle.turn_table.specs.declared.standing.Kept.{Kept}
 use Rattle.turn_table.specs.Moments.{WasFree}
@@ -62,8 +62,14 @@ use Rattle.dbuf_state.specs.Soundness.{IsSound, plain_cell}
 use Rattle.dbuf_state.specs.declared.event.CellEvent.{CellEvent}
 use Rattle.dbuf_state.specs.declared.event.CellEvent.TheVariants.{End}
 use Rattle.dbuf_state.specs.declared.state.Mapping.{Mapping}
-use Rattle.trace_run.specs.CellEnds.{end_entry, events_there}
+use Rattle.trace_run.specs.CellEnds.{HasToldOthers, end_entry, ends_from}
+use Rattle.trace_run.specs.DbufTurns.{CellsDone}
+use Rattle.trace_run.specs.Deeds.{Noted, acts_of_events, events_there, noted_in}
 use Rattle.trace_run.specs.Making.{HasSeenItsEvents}
+use Rattle.trace_run.proofs.deeds.CellsDone.{turn-done}
+use Rattle.trace_run.proofs.deeds.DeedLemmas.{events-acts}
+use Rattle.trace_run.proofs.deeds.TurnMakes.{AreTurnEvents}
+use Rattle.trace_run.proofs.theorem.ToldLemmas.{others-turn}
 use Rattle.trace_run.proofs.CellsLeft.{CellsGrow, LeavesCells, does-leaves, leaves-same, leaves-seen, leaves-then}
 use Rattle.trace_run.proofs.MoveLemmas.{made-only}
 use Rattle.trace_run.proofs.callers.MeetLemmas.{own-seen-more, starts-then}
@@ -156,6 +162,10 @@ drops-each c (d ∷ ds) es each = subst (AreDropsOf c) (sym each.4) (all-then (�
 drops-cells : (g : Config) (i : ℕ) (es : List Event) → AreDropsOf (cell_number g i) es → AreCellDrops g es
 drops-cells g i [] all = tt
 drops-cells g i (e ∷ es) all = (subst (λ (x : Event). parties_of g ≤ number_of x) (sym all.0.1) (omega arith), drops-cells g i es all.1)
+
+drops-turn : (n c : ℕ) (es : List Event) → AreDropsOf c es → AreTurnEvents n c es
+drops-turn n c [] all = tt
+drops-turn n c (e ∷ es) all = (inr (inl all.0), drops-turn n c es all.1)
 
 -- they are no party's
 pub drops-unmade : (g : Config) (n : ℕ) (s : PlainShard) (front es : List Event) → n < parties_of g → AreCellDrops g es → own_moments n (moments s (front ++ es)) ≡ own_moments n (moments s front)
@@ -433,6 +443,23 @@ module _ (g : Config) (valid : IsConfig g) (i : ℕ) (in_range : IsCell g i) (p 
         (λ differs. subst (λ (l : List Line). StartsWith l (front_of j p.own.seen)) (sym (back-else j range differs)) (starts_whole (front_of j p.own.seen)));
   }
 
+  -- what it made and did, as it is told
+  cell-kinds : AreTurnEvents p.number (cell_number g i) e.drops
+  cell-kinds = drops-turn p.number (cell_number g i) e.drops are-drops
+
+  cell-done : CellsDone g (noted_in i (End p.number ∷ [])) e.drops p q
+  cell-done = turn-done g valid i in_range e.before (End p.number ∷ []) e.drops p q config (sees, entries) cell-kinds e.turn
+
+  pub cell-told : (did : List Act) (had : List Noted) → HasToldOthers g did had p → HasToldOthers g (did ++ acts_of_events e.drops) (had ++ noted_in i (End p.number ∷ [])) q
+  cell-told did had before = others-turn g did had (noted_in i (End p.number ∷ [])) e.drops (cell_number g i) p q cell-done.number cell-kinds cell-done.made cell-done.entries before
+
+  -- and what it has seen of cells then
+  pub cell-end : (before : List Line) × (front_of i q.own.seen ≡ before ++ end_entry p.number i)
+  cell-end = (map line.Entry (map event_numbers e.before.value.history), ap (λ (x : PartyPlace). front_of i x.own.seen) t.gave ∙ back-front)
+
+  pub cell-else : (j : ℕ) → IsCell g j → j ≢ i → front_of j q.own.seen ≡ front_of j p.own.seen
+  cell-else j range differs = ap (λ (x : PartyPlace). front_of j x.own.seen) t.gave ∙ back-else j range differs
+
   -- nobody had done anything to a cell from this one on
   module _ (none : IsUntouched g i p) where
     abbrev found : PartyPlace
@@ -487,6 +514,9 @@ module _ (g : Config) (valid : IsConfig g) where
   pub record HasEndedFrom (i count : ℕ) (p q : PartyPlace) : Type 0 where
     pub drops : List Event
     pub some_ended : HasEndedSome g drops p q
+    pub told : (did : List Act) (had : List Noted) → HasToldOthers g did had p → HasToldOthers g (did ++ acts_of_events drops) (had ++ ends_from p.number i count) q
+    pub last : (j : ℕ) → IsCell g j → i ≤ j → j < i + count → (before : List Line) × (front_of j q.own.seen ≡ before ++ end_entry p.number j)
+    pub lower : (j : ℕ) → IsCell g j → j < i → front_of j q.own.seen ≡ front_of j p.own.seen
     pub idle : IsUntouched g i p → HasEndedIdle g i (i + count) drops p q
 
   pub all-ended : (i count : ℕ) (p q : PartyPlace) → i + count ≤ g.cells → p.own.about.config ≡ g → HasSeenItsEvents g p → HasSeenItsEntries g p → HasAll p → EndsFrom g i count p q → HasEndedFrom i count p q
@@ -509,6 +539,9 @@ module _ (g : Config) (valid : IsConfig g) where
       starts = λ k. starts_whole (front_of (turn_of g k) p.own.seen);
       cells = λ j range. starts_whole (front_of j p.own.seen);
     };
+    told = λ did had h. subst (λ (x : List Act × List Noted). HasToldOthers g x.0 x.1 p) (λ z. (sym (append-nil did) z, sym (append-nil had) z)) h;
+    last = λ j range above below. absurd (omega (arith, above, below));
+    lower = λ j range less. refl;
     idle = λ none. record {
       none = refl;
       untouched = subst (λ (k : ℕ). IsUntouched g k p) (let e : i ≡ i + 0 = omega arith in e) none;
@@ -543,6 +576,23 @@ module _ (g : Config) (valid : IsConfig g) where
           starts = λ k. starts-then (front_of (turn_of g k) q.own.seen) (front_of (turn_of g k) r.own.seen) (front_of (turn_of g k) p.own.seen) (b.starts k) (a.starts k);
           cells = λ j range. starts-then (front_of j q.own.seen) (front_of j r.own.seen) (front_of j p.own.seen) (b.cells j range) (a.cells j range);
         };
+        told = λ did had h.
+            let now : Noted = record { cell = i; event = End p.number } in
+            let first = cell-told g valid i here p r config sees entries all ends.1 did had h in
+            subst (λ (x : List Act × List Noted). HasToldOthers g x.0 x.1 q)
+            (λ z. (
+              (append_assoc did (acts_of_events ends.1.drops) (acts_of_events rest.drops) ∙ ap (λ (l : List Act). did ++ l) (sym (events-acts ends.1.drops rest.drops))) z,
+              (append_assoc had (now ∷ []) (ends_from r.number (suc i) count) ∙ ap (λ (n : ℕ). had ++ now ∷ ends_from n (suc i) count) a.number) z,
+            ))
+            (rest.told (did ++ acts_of_events ends.1.drops) (had ++ now ∷ []) first);
+        last = λ j range above below. dite (ℕ_discrete j i)
+            (λ is.
+            let e = cell-end g valid i here p r config sees entries all ends.1 in
+            (e.0, rest.lower j range (omega (arith, is)) ∙ (ap (λ (x : ℕ). front_of x r.own.seen) is ∙ (e.1 ∙ ap (λ (x : ℕ). e.0 ++ end_entry p.number x) (sym is)))))
+            (λ differs.
+            let e = rest.last j range (later j i above differs) (omega (arith, below)) in
+            (e.0, e.1 ∙ ap (λ (n : ℕ). e.0 ++ end_entry n j) a.number));
+        lower = λ j range less. rest.lower j range (omega (arith, less)) ∙ cell-else g valid i here p r config sees entries all ends.1 j range (λ is. omega (arith, is, less));
         idle = λ none.
             let x = one-idle g valid i here p r config sees entries all ends.1 none in
             let y = rest.idle x.untouched in

@@ -14,16 +14,20 @@ use Rattle.arc_table.specs.declared.view.Mine.{Mine}
 use Rattle.arc_table.specs.Cache.{Cache, IsPartyOf}
 use Rattle.arc_table.specs.Fronts.{front_of}
 use Rattle.arc_table.specs.Geometry.{parties_of}
-use Rattle.arc_table.specs.Seen.{AreSeen, HasAll, events_in, seen_of, turn_of}
+use Rattle.arc_table.specs.Seen.{AreEntriesSeen, AreSeen, HasAll, events_in, seen_of, turn_of}
 use Rattle.arc_table.specs.Telling.{opening_of}
 use Rattle.dbuf_cells.specs.Ending.{EndsFrom}
 use Rattle.dbuf_cells.specs.Turns.{KeepsClaims, OnHeap, PartyPlace, dbuf_meanings}
-use Rattle.trace_run.specs.CellEnds.{EndedCells, EndedIdle, end_entry, events_there}
+use Rattle.trace_run.specs.CellEnds.{EndedCells, EndedIdle, HasToldOthers, end_entry, ends_from}
+use Rattle.trace_run.specs.Deeds.{Noted, acts_of_events, events_there}
 use Rattle.trace_run.specs.KeptBlocks.{Stands, times}
 use Rattle.trace_run.specs.Making.{AreEventsSeen, AreNoEntries}
 use Rattle.trace_run.specs.Meeting.{AreLast, HasLearned, HaveParted, IsApart, JoinAll, Joins, MayPart, PartAll}
+use Rattle.trace_run.proofs.CellsLeft.{entries-more}
 use Rattle.trace_run.proofs.CellEnds.{HasEndedFrom, HasEndedSome, IsUntouched, NoneFrom, all-ended, cell-drops-there, drops-unmade}
-use Rattle.trace_run.proofs.callers.MeetLemmas.{HaveJoined, all-parted, are-last, joined-front, joined_of, left_alone, own-seen-more, parted-then, parted_from}
+use Rattle.trace_run.proofs.callers.MeetLemmas.{HaveJoined, all-parted, are-last, joined-front, joined_of, left_alone, own-seen-more, parted-then, parted_from, starts-then}
+use Rattle.trace_run.proofs.deeds.MakesLemmas.{grown-same}
+use Rattle.trace_run.proofs.theorem.ToldLemmas.{others-still}
 use Rattle.trace_run.proofs.callers.TurnLemmas.{joined, joined-all, joined-stands}
 
 module _ (cache : Cache) (p : PartyPlace) (others : List PartyPlace) (stands : Stands cache p []) (alone : p.joined ≡ [])
@@ -131,6 +135,14 @@ module _ (cache : Cache) (p : PartyPlace) (others : List PartyPlace) (stands : S
     pub last-of : (numbers : List ℕ) → numbers ≡ map (λ o. o.number) others → AreLast numbers r.joined
     last-of numbers is = subst (λ (x : List ℕ × List (Kept (Known OnHeap))). AreLast x.0 x.1) (λ i. (sym is i, sym kept-joined i)) (are-last others)
 
+    all-entries : (os : List PartyPlace) → AllByRecursion (λ o. HasLearned g o q) os → AllByRecursion (IsApart cache) os → AllByRecursion (λ o. AreEntriesSeen g o.number o.own.mine r.own.seen) os
+    all-entries [] learned each = tt
+    all-entries (o ∷ os) learned each = (
+      entries-more g o.number o.own.mine o.own.seen r.own.seen
+          (λ i range. starts-then (front_of i r.own.seen) (front_of i q.own.seen) (front_of i o.own.seen) (then.cells i range) (learned.0.cells i range)) each.0.1.cells.own,
+      all-entries os learned.1 each.1,
+    )
+
     module _ (numbers : List ℕ) (numbers_are : numbers ≡ map (λ o. o.number) others) (xs : List PartyPlace) (z : PartyPlace) (parts : PartAll numbers r xs z) where
       parted : (xs ≡ map (parted_from r) others) × (z ≡ left_alone r)
       parted = all-parted others numbers r xs z kept-joined (subst (λ (l : List ℕ). AreLast l (joined_of others)) (sym numbers_are) (are-last others)) parts
@@ -146,6 +158,14 @@ module _ (cache : Cache) (p : PartyPlace) (others : List PartyPlace) (stands : S
         stands = last-stands;
         own = λ shard. subst (λ (n : ℕ). own_moments n (moments (opening_of g) (seen_of g shard r)) ≡ own_moments n (moments (opening_of g) (seen_of g shard q))) have.number (then.own shard) ∙ have.self.own shard;
         drops = ended.drops;
+        numbers = then.drops;
+        told = λ did noted h.
+            let q_told : HasToldOthers g did noted q = others-still g did noted p q (grown-same g p q have.number have.about have.mine have.self.starts have.self.cells stands.seen stands.cells) h in
+            let r_told = ended.told did noted q_told in
+            let is : noted ++ ends_from q.number 0 g.cells ≡ noted ++ ends_from p.number 0 g.cells = ap (λ (n : ℕ). noted ++ ends_from n 0 g.cells) have.number in
+            subst (λ (l : List Noted). HasToldOthers g (did ++ acts_of_events ended.drops) l (left_alone r)) is record { cells = r_told.cells; kinds = r_told.kinds; entries = r_told.entries };
+        ends = λ i range. let e = ended.last i range (omega arith) (omega (arith, range)) in (e.0, e.1 ∙ ap (λ (n : ℕ). e.0 ++ end_entry n i) have.number);
+        entries = all-entries others have.all apart;
         same = λ before own rest shard. then.shards shard ∙ ap (λ (l : List Line). events_in l ++ events_there g shard ended.drops) (have.level before own rest shard);
         one = λ o is seen shard. then.shards shard ∙ ap (λ (l : List Event). l ++ events_there g shard ended.drops) (one-front o is seen shard);
         idle = was-idle;

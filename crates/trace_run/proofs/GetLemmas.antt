@@ -113,7 +113,7 @@ module _ {C P D : Type 0} (m : Meanings C) (g : Config) (valid : IsConfig g) (po
       alone = λ x. subst (λ (es : List Event). AddsAll g _ es p q) (a.alone x).0 (a.moves.alone x);
       all = a.moves.all;
       joined = a.moves.joined;
-      only = a.moves.only;
+      same = a.moves.same;
     };
     source = λ x. (a.alone x).1;
   }
@@ -127,7 +127,7 @@ module _ {C P D : Type 0} (m : Meanings C) (g : Config) (valid : IsConfig g) (po
       alone = λ x. subst (λ (es : List Event). AddsAll g _ es p q) (a.alone x).0 (a.moves.alone x);
       all = a.moves.all;
       joined = a.moves.joined;
-      only = a.moves.only;
+      same = a.moves.same;
     };
     asked = λ x. (a.alone x).1;
   }

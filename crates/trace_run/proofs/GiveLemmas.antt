@@ -21,7 +21,7 @@ use Rattle.trace_run.specs.Acts.{acts_of_drop, acts_of_drops}
 use Rattle.trace_run.specs.KeptBlocks.{DroppedAlone, Drops, GivesAll, GivesKeptBack, Stands, held_key, holds_in, read_of}
 use Rattle.trace_run.specs.one_caller.OneCaller.{events_of_drops}
 use Rattle.arc_table.specs.Seen.{HasAll, seen_of, turn_of}
-use Rattle.trace_run.specs.Making.{HasTold}
+use Rattle.trace_run.specs.Deeds.{HasToldAll, Noted}
 use Rattle.trace_run.proofs.CellsLeft.{LeavesCells, leaves-same, leaves-then}
 use Rattle.trace_run.proofs.KeptBlockLemmas.{KeepsJoined, given-drops, given-keeps, given-leaves, given-stands, keeps-same}
 use Rattle.trace_run.proofs.callers.MeetLemmas.{starts-then}
@@ -31,9 +31,9 @@ module _ {C : Type 0} (g : Config) (p q : Place (Known C)) where
   drop-number None is = ap (λ (x : Place (Known C)). x.number) is
   drop-number (Some k) adds = adds.number
 
-  drop-told : (o : Option Key) → Drops g o p q → (before : List Act) → HasTold g before p → HasTold g (before ++ acts_of_drop p.number o) q
-  drop-told None is before told = subst (λ (x : List Act × Place (Known C)). HasTold g x.0 x.1) (λ h. (sym (append-nil before) h, sym is h)) told
-  drop-told (Some k) adds before told = adds.told before told
+  drop-told : (o : Option Key) → Drops g o p q → (before : List Act) (noted : List Noted) → HasToldAll g before noted p → HasToldAll g (before ++ acts_of_drop p.number o) noted q
+  drop-told None is before noted told = subst (λ (x : List Act × Place (Known C)). HasToldAll g x.0 noted x.1) (λ h. (sym (append-nil before) h, sym is h)) told
+  drop-told (Some k) adds before noted told = adds.told before noted told
 
   drop-all : (o : Option Key) → Drops g o p q → HasAll p → HasAll q
   drop-all None is all = subst HasAll (sym is) all
@@ -92,14 +92,14 @@ module _ {C : Type 0} (m : Meanings C) (cache : Cache) where
       let one = step b bs p gives.0 stands gives.1 in
       all-number bs gives.0 q one.0 gives.2 ∙ drop-number g p gives.0 (held_key b.kept) one.1
 
-  pub all-told : (kept : List KeptBlock) (p q : Place (Known C)) → Stands cache p kept → GivesAll m g kept p q → (before : List Act) → HasTold g before p → HasTold g (before ++ acts_of_drops p.number (map read_of kept)) q
-  all-told [] p q stands is before told = subst (λ (x : List Act × Place (Known C)). HasTold g x.0 x.1) (λ h. (sym (append-nil before) h, sym is h)) told
-  all-told (b ∷ bs) p q stands gives before told =
+  pub all-told : (kept : List KeptBlock) (p q : Place (Known C)) → Stands cache p kept → GivesAll m g kept p q → (before : List Act) (noted : List Noted) → HasToldAll g before noted p → HasToldAll g (before ++ acts_of_drops p.number (map read_of kept)) noted q
+  all-told [] p q stands is before noted told = subst (λ (x : List Act × Place (Known C)). HasToldAll g x.0 noted x.1) (λ h. (sym (append-nil before) h, sym is h)) told
+  all-told (b ∷ bs) p q stands gives before noted told =
       let r = gives.0 in
       let one = step b bs p r stands gives.1 in
       let number : r.number ≡ p.number = drop-number g p r (held_key b.kept) one.1 in
-      let rest = all-told bs r q one.0 gives.2 (before ++ acts_of_drop p.number (held_key b.kept)) (drop-told g p r (held_key b.kept) one.1 before told) in
-      subst (λ (l : List Act). HasTold g l q)
+      let rest = all-told bs r q one.0 gives.2 (before ++ acts_of_drop p.number (held_key b.kept)) noted (drop-told g p r (held_key b.kept) one.1 before noted told) in
+      subst (λ (l : List Act). HasToldAll g l noted q)
       (append_assoc before (acts_of_drop p.number (held_key b.kept)) (acts_of_drops r.number (map read_of bs))
       ∙ ap (λ (n : ℕ). before ++ (acts_of_drop p.number (held_key b.kept) ++ acts_of_drops n (map read_of bs))) number)
       rest

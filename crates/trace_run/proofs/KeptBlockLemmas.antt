@@ -44,7 +44,8 @@ use Rattle.arc_table.specs.TableLaws.{starts_whole}
 use Rattle.trace_run.specs.one_caller.Access.{events_of_drop}
 use Rattle.trace_run.specs.Acts.{acts_of_drop}
 use Rattle.trace_run.proofs.CacheLemmas.{digest_eq-is}
-use Rattle.trace_run.proofs.MoveLemmas.{does-made-own, made-only, only-then}
+use Rattle.trace_run.proofs.MoveLemmas.{does-made-own, does-moves}
+use Rattle.trace_run.proofs.deeds.DeedLemmas.{told-own}
 use Rattle.arc_table.proofs.OwnLemmas.{grows, made-all, made-alone, made-own, made-sees}
 use Rattle.arc_table.proofs.reads.ReadMoments.{own-single}
 use Rattle.trace_run.proofs.one_caller.TellLemmas.{digest_eq-same}
@@ -240,13 +241,12 @@ module _ {C : Type 0} (m : Meanings C) (cache : Cache) (p q : Place (Known C)) (
     pub held-adds : Adds g (shard_of g.shards hold.key) (acts_of_drop p.number (Some hold.key)) (events_of_drop p.number (Some hold.key)) p q
     held-adds = record {
       number = made.same.number;
-      told = λ before told. record {
-        acts = told-more g before (GivenBack p.number hold.key) (record { before = d.before.now; event = Drop p.number hold.key } ∷ []) p q refl told.acts
-            (subst (λ (ms : List Moment). AddsOwn g (shard_of g.shards hold.key) ms p q) moments-are (made-own g (shard_of g.shards hold.key) d.before (Drop hold.owner hold.key ∷ []) p q made))
-            (record { events = refl; digests = (tt, tt) });
-        only = only-then g p q (does-leaves m g valid hold.key (Drop hold.owner hold.key ∷ []) p q config d)
-            (made-only g (shard_of g.shards hold.key) d.before (Drop hold.owner hold.key ∷ []) p q made mine) told.only;
-      };
+      told = λ before noted told. told-own g before (acts_of_drop p.number (Some hold.key)) noted p q (refl, tt)
+          (told-more g before (GivenBack p.number hold.key) (record { before = d.before.now; event = Drop p.number hold.key } ∷ []) p q refl told.acts
+          (subst (λ (ms : List Moment). AddsOwn g (shard_of g.shards hold.key) ms p q) moments-are (made-own g (shard_of g.shards hold.key) d.before (Drop hold.owner hold.key ∷ []) p q made))
+          (record { events = refl; digests = (tt, tt) }))
+          (does-moves m g valid hold.key p q config stands.seen (Drop hold.owner hold.key ∷ []) mine d).same told;
+      keeps = (does-moves m g valid hold.key p q config stands.seen (Drop hold.owner hold.key ∷ []) mine d).same.keeps;
       alone = λ all. subst (λ (n : ℕ). AddsAll g (shard_of g.shards hold.key) (Drop n hold.key ∷ []) p q) owner (made-alone g (shard_of g.shards hold.key) d.before (Drop hold.owner hold.key ∷ []) p q made all);
       all = λ all. made-all g (shard_of g.shards hold.key) d.before (Drop hold.owner hold.key ∷ []) p q made all;
       joined = made.same.joined;

@@ -26,6 +26,7 @@ pub mod RestoreLemmas
 pub mod RunLemmas
 pub mod ServeLemmas
 pub mod TakenLemmas
+pub mod WorkLemmas
 pub mod callers
 pub mod deeds
 pub mod one_caller

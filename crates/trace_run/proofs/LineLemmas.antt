@@ -52,7 +52,10 @@ use Rattle.trace_run.specs.one_caller.OverShards.{AreNamed, IsNamed}
 use Rattle.trace_run.specs.Reads.{CameFromPool, DidAct, DidActs, DidAnswer, DidRead, IsRefused, access_now, now_of}
 use Rattle.arc_table.specs.Seen.{AddsAll, HasAll, seen_of}
 use Rattle.trace_run.specs.Tally.{kept_of_block}
-use Rattle.trace_run.specs.Making.{HasSeenItsEvents, HasTold}
+use Rattle.trace_run.specs.Deeds.{HasToldAll}
+use Rattle.trace_run.specs.Making.{HasSeenItsEvents}
+use Rattle.trace_run.proofs.deeds.DeedLemmas.{told-own}
+use Rattle.trace_run.proofs.deeds.MakesLemmas.{keeps-none, same-then}
 use Rattle.trace_run.proofs.GetLemmas.{all-last}
 use Rattle.trace_run.proofs.MoveLemmas.{Moves, one-moves}
 use Rattle.arc_table.proofs.reads.ReadMoments.{moment}
@@ -64,7 +67,8 @@ module _ {C : Type 0} (g : Config) (p q : Place (Known C)) where
   pub acts-none : (shard : ℕ) → q ≡ p → DidActs g shard [] [] p q
   acts-none shard is = subst (DidActs g shard [] [] p) (sym is) (record {
     number = refl;
-    told = λ before told. subst (λ (l : List Act). HasTold g l p) (sym (append-nil before)) told;
+    told = λ before noted told. subst (λ (l : List Act). HasToldAll g l noted p) (sym (append-nil before)) told;
+    keeps = keeps-none g p;
     alone = λ a. record { number = refl; here = sym (append-nil (seen_of g shard p)); others = λ j differs. refl };
     all = λ all. all;
     joined = refl;
@@ -74,7 +78,8 @@ module _ {C : Type 0} (g : Config) (p q : Place (Known C)) where
   pub acts-one : (act : Act) (es : List Event) → actor_of act ≡ p.number → DidAct g act es p q → DidActs g (shard_of g.shards (act_key act)) (act ∷ []) es p q
   acts-one act es his did = record {
     number = did.own.number;
-    told = λ before told. record { acts = told-more g before act did.made p q his told.acts did.own did.act_is; only = did.only told.only };
+    told = λ before noted told. told-own g before (act ∷ []) noted p q (his, tt) (told-more g before act did.made p q his told.acts did.own did.act_is) did.same told;
+    keeps = did.same.keeps;
     alone = did.alone;
     all = did.all;
     joined = did.joined;
@@ -139,7 +144,7 @@ module _ {C : Type 0} (m : Meanings C) (g : Config) (valid : IsConfig g) (t : �
         (did.act.alone a);
     all = did.act.all;
     joined = did.act.joined;
-    only = did.act.only;
+    same = did.act.same;
   }
 
   read-loose : (from : Served) → None ≡ key_held_by ptr from → DidAnswer g t ptr from p r → q ≡ r → DidAct g (Reads p.number t ptr from) (events from) p q
@@ -174,7 +179,7 @@ module _ {C : Type 0} (m : Meanings C) (g : Config) (valid : IsConfig g) (t : �
             (adds-all-then g here (events_of_answered p.number t ptr from (access_now g ptr p)) (Drop p.number ptr.key ∷ []) p r q (did.act.alone a) (drop.alone (did.act.all a)));
         all = λ all. drop.all (did.act.all all);
         joined = drop.joined ∙ did.act.joined;
-        only = λ only. drop.only (did.act.only only);
+        same = same-then g p r q did.act.same drop.same;
       }
 
   -- what is kept of it is given back
@@ -249,7 +254,7 @@ module _ {C : Type 0} (g : Config) (blocks : List Ptr) (kept : List KeptRead) (o
   pub there-of : (acts : List Act) (es : List Event) → acts ≡ acts_of blocks kept op reply → es ≡ events_of blocks (now_of g its p) kept op reply → DidActs g its acts es p q → DidThere g blocks kept op reply p q
   there-of acts es same_acts same_events did = record {
     number = did.number;
-    told = λ before told. subst (λ (l : List Act). HasTold g (before ++ l) q) same_acts (did.told before told);
+    told = λ before noted told. subst (λ (l : List Act). HasToldAll g (before ++ l) noted q) same_acts (did.told before noted told);
     alone = λ alone shard.
         let adds = did.alone alone in
         let there : Bool → List Event = λ b. if b then events_of blocks (now_of g shard p) kept op reply else [] in
@@ -262,6 +267,7 @@ module _ {C : Type 0} (g : Config) (blocks : List Ptr) (kept : List KeptRead) (o
         ∙ (sym (append-nil (seen_of g shard p)) ∙ ap (λ (l : List Event). seen_of g shard p ++ l) (sym (ap there (in-it shard ∙ ne_eqb its shard differs)))));
     all = did.all;
     joined = λ his. did.joined;
+    keeps = λ his. did.keeps;
   }
 
 -- ---- the line of each operation
@@ -319,7 +325,7 @@ module _ {C P : Type 0} (g : Config) (pools : Ghosts P) (blocks : List Ptr) (p q
       let here : shard_of g.shards k ≡ shard_of_block g.shards blocks x =
       ap (shard_of g.shards) own.2 ∙ ap (λ (o : Option Ptr). option_map_or (λ (ptr : Ptr). shard_of g.shards ptr.key) o 0) (sym own.1) in
       subst (λ (shard : ℕ). DidActs g shard (acts_of_drop p.number (Some k)) (events_of_drop p.number (Some k)) p q) here
-      (record { number = drops.number; told = drops.told; alone = λ alone. drops.alone alone; all = drops.all; joined = drops.joined })
+      (record { number = drops.number; told = drops.told; keeps = drops.keeps; alone = λ alone. drops.alone alone; all = drops.all; joined = drops.joined })
 
   drop-acts : (n x had gave : ℕ) (kept : List KeptRead) (reply : Reply) → AreNamed blocks kept → AnswersDrop had gave x reply → Drops g (oldest_key x kept) p q → (reply ≢ Dropped → oldest_key x kept ≡ None)
       → DidActs g (shard_of_block g.shards blocks x) (acts_of_dropping p.number x kept (effect_of reply)) (events_of_dropping p.number x kept (effect_of reply)) p q

@@ -27,7 +27,7 @@ use Rattle.trace_run.specs.one_caller.OverShards.{AllLinesOver, AreNamed, events
 use Rattle.trace_run.specs.Reads.{now_of}
 use Rattle.arc_table.specs.Seen.{HasAll, seen_of}
 use Rattle.trace_run.specs.Tally.{AnswersNow, IsTally, kept_of_block}
-use Rattle.trace_run.specs.Making.{HasTold}
+use Rattle.trace_run.specs.Deeds.{HasToldAll, Noted}
 use Rattle.trace_run.proofs.AnswerLemmas.{EachAnswers, more_answers, more_tally, take_one, to_answer}
 use Rattle.trace_run.proofs.LineLemmas.{named-after}
 use Rattle.trace_run.proofs.RunLemmas.{calls-then}
@@ -71,14 +71,14 @@ module _ {C P : Type 0} (g : Config) (pools : Ghosts P) (blocks : List Ptr) wher
   lines-length (o ∷ os) (r ∷ rs) a b did = ap suc (lines-length os rs did.0 b did.2)
 
   -- the acts of all lines are told
-  pub lines-told : (os : List Op) (rs : List Reply) (a b : At C P) → DidLines g pools blocks os rs a b → (before : List Act) → HasTold g before a.party → HasTold g (before ++ acts_of_all blocks a.kept os rs) b.party
-  lines-told [] [] a b did before told = subst (λ (x : List Act × Place (Known C)). HasTold g x.0 x.1) (λ h. (sym (append-nil before) h, (sym did h).party)) told
-  lines-told [] (r ∷ rs) a b did before told = absurd did
-  lines-told (o ∷ os) [] a b did before told = absurd did
-  lines-told (o ∷ os) (r ∷ rs) a b did before told =
+  pub lines-told : (os : List Op) (rs : List Reply) (a b : At C P) → DidLines g pools blocks os rs a b → (before : List Act) (noted : List Noted) → HasToldAll g before noted a.party → HasToldAll g (before ++ acts_of_all blocks a.kept os rs) noted b.party
+  lines-told [] [] a b did before noted told = subst (λ (x : List Act × Place (Known C)). HasToldAll g x.0 noted x.1) (λ h. (sym (append-nil before) h, (sym did h).party)) told
+  lines-told [] (r ∷ rs) a b did before noted told = absurd did
+  lines-told (o ∷ os) [] a b did before noted told = absurd did
+  lines-told (o ∷ os) (r ∷ rs) a b did before noted told =
       let one = did.1 in
-      let rest = lines-told os rs did.0 b did.2 (before ++ acts_of blocks a.kept o r) (one.did.told before told) in
-      subst (λ (l : List Act). HasTold g l b.party)
+      let rest = lines-told os rs did.0 b did.2 (before ++ acts_of blocks a.kept o r) noted (one.did.told before noted told) in
+      subst (λ (l : List Act). HasToldAll g l noted b.party)
       (append_assoc before (acts_of blocks a.kept o r) (acts_of_all blocks did.0.kept os rs) ∙ ap (λ (ks : List KeptRead). before ++ (acts_of blocks a.kept o r ++ acts_of_all blocks ks os rs)) one.kept)
       rest
 

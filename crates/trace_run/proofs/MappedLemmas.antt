@@ -8,10 +8,10 @@ use Rattle.trace_text.specs.declared.reply.Reply.{Reply}
 use Rattle.trace_text.specs.declared.trace.Trace.{Trace}
 use Rattle.vdev_io.specs.declared.pool.Pool.{Ghosts}
 use Rattle.trace_run.specs.one_caller.Alone.{LinesAlone, RanAlone}
-use Rattle.trace_run.specs.Explaining.{Explain}
+use Rattle.trace_run.specs.Explaining.{ExplainReads}
 
 pub explain-mapped : (trace : Trace) (restored : List Restored) (replies : List Reply) (ends : List ShardEnd) (histories : List (List Event))
-    → Explain (record trace { objects = [] }) restored replies ends histories → Explain trace restored replies ends histories
+    → ExplainReads (record trace { objects = [] }) restored replies ends histories → ExplainReads trace restored replies ends histories
 explain-mapped trace restored replies ends histories e = record {
   shards = e.shards;
   legal = e.legal;

@@ -1,5 +1,5 @@
 -- One call after another of a party in one shard: what they add to what it has seen, where it may have made events with a cell's number before.
-use Rattle.std.proofs.Common.{◌≡◌, ℕ, zero, suc, false, IsTrue, List, [], ◌∷◌, ◌++◌, refl, sym, ap, ◌∙◌, subst, inl, inr, append-nil}
+use Rattle.std.proofs.Common.{◌≡◌, ℕ, zero, suc, false, IsTrue, List, [], ◌∷◌, ◌++◌, length, refl, sym, ap, ◌∙◌, subst, inl, inr, append-nil}
 use mathlib.Core.Option.{some, some-injective, some-ne-none}
 use lib.ListN.{get_elem?}
 use Rattle.blk_ptr.specs.declared.key.Key.{Key}
@@ -26,8 +26,10 @@ use Rattle.arc_table.proofs.Reached.{reached}
 use Rattle.arc_table.proofs.reads.ReadMoments.{moment, own-one, own-single}
 use Rattle.arc_table.proofs.scans.RoomyLemmas.{roomy-made}
 use Rattle.arc_table.proofs.ToldLemmas.{adds-all-then, adds-own-then}
+use Rattle.trace_run.specs.Deeds.{SameMade}
 use Rattle.trace_run.specs.Making.{HasSeenItsEvents, MadeItsOwn}
 use Rattle.trace_run.proofs.CellsLeft.{LeavesCells, does-leaves, roomy-leaves}
+use Rattle.trace_run.proofs.deeds.MakesLemmas.{does-long, makes-more, numbers-of, own-same, roomy-long, same-none, same-then}
 
 -- ---- what is one's own
 
@@ -111,6 +113,7 @@ pub record Moves {C : Type 0} (g : Config) (shard : ℕ) (ms : List Moment) (es 
   pub seen : HasSeenItsEvents g q
   pub config : q.own.about.config ≡ g
   pub only : MadeItsOwn g p → MadeItsOwn g q
+  pub same : SameMade g p q
 
 module _ {C : Type 0} (g : Config) (shard : ℕ) where
   pub moves-none : (p : Place (Known C)) → p.own.about.config ≡ g → HasSeenItsEvents g p → Moves g shard [] [] p p
@@ -122,6 +125,7 @@ module _ {C : Type 0} (g : Config) (shard : ℕ) where
     seen = seen;
     config = config;
     only = λ only. only;
+    same = same-none g p;
   }
 
   pub moves-then : (ms ns : List Moment) (es fs : List Event) (p q r : Place (Known C)) → Moves g shard ms es p q → Moves g shard ns fs q r → Moves g shard (ms ++ ns) (es ++ fs) p r
@@ -133,11 +137,12 @@ module _ {C : Type 0} (g : Config) (shard : ℕ) where
     seen = b.seen;
     config = b.config;
     only = λ only. b.only (a.only only);
+    same = same-then g p q r a.same b.same;
   }
 
-  made-moves : (before : ShardLog) (es : List Event) (p q : Place (Known C)) → p.own.about.config ≡ g → HasSeenItsEvents g p → LeavesCells g p q → AreOwn (parties_of g) p.number es → MadeBy (IsNumberOrCell g) g shard before es p q
-      → Moves g shard (own_moments p.number (moments before.now es)) es p q
-  made-moves before es p q config seen left mine made = record {
+  made-moves : (before : ShardLog) (es : List Event) (p q : Place (Known C)) → p.own.about.config ≡ g → HasSeenItsEvents g p → LeavesCells g p q → AreOwn (parties_of g) p.number es → (made : MadeBy (IsNumberOrCell g) g shard before es p q)
+      → length made.news ≡ length es → Moves g shard (own_moments p.number (moments before.now es)) es p q
+  made-moves before es p q config seen left mine made long = record {
     own = made-own g shard before es p q made;
     alone = made-alone g shard before es p q made;
     all = made-all g shard before es p q made;
@@ -145,6 +150,7 @@ module _ {C : Type 0} (g : Config) (shard : ℕ) where
     seen = made-sees g shard before es p q made seen;
     config = ap (λ a. a.config) made.same.about ∙ config;
     only = only-then g p q left (made-only g shard before es p q made mine);
+    same = own-same g shard es p q made.same.number (numbers-of (parties_of g) p.number es mine) (makes-more g shard before es p q made long seen.own left.fronts) left;
   }
 
 module _ {C : Type 0} (m : Meanings C) (g : Config) (valid : IsConfig g) (k : Key) (p q : Place (Known C)) (config : p.own.about.config ≡ g) (seen : HasSeenItsEvents g p) where
@@ -152,7 +158,9 @@ module _ {C : Type 0} (m : Meanings C) (g : Config) (valid : IsConfig g) (k : Ke
   does-made-own es mine d = does-made m g valid k es p q config seen (own-wider g p.number es mine) d
 
   pub does-moves : (es : List Event) → AreOwn (parties_of g) p.number es → (d : Does m g k es p q) → Moves g (shard_of g.shards k) (own_moments p.number (moments d.before.now es)) es p q
-  does-moves es mine d = made-moves g (shard_of g.shards k) d.before es p q config seen (does-leaves m g valid k es p q config d) mine (does-made-own es mine d)
+  does-moves es mine d =
+      let made = does-made-own es mine d in
+      made-moves g (shard_of g.shards k) d.before es p q config seen (does-leaves m g valid k es p q config d) mine made (does-long m g valid k p q config es d made)
 
   pub roomy-made-own : (e : Event) → (number_of e ≡ p.number) × (is_pass e ≡ false) × IsTrue (goes_on p.number e) → (d : DoesRoomy m g k e p q) → MadeBy (IsNumberOrCell g) g (shard_of g.shards k) d.before (d.makes.passes ++ e ∷ []) p q
   roomy-made-own e fits d = roomy-made m g valid k e p q config seen (inl refl) (inl fits.0, fits.1, fits.2) d
@@ -165,7 +173,9 @@ module _ {C : Type 0} (m : Meanings C) (g : Config) (valid : IsConfig g) (k : Ke
 
   pub roomy-moves : (e : Event) → (number_of e ≡ p.number) × (is_pass e ≡ false) × IsTrue (goes_on p.number e) → (d : DoesRoomy m g k e p q)
       → Moves g (shard_of g.shards k) (own_moments p.number (moments d.before.now (d.makes.passes ++ e ∷ []))) (d.makes.passes ++ e ∷ []) p q
-  roomy-moves e fits d = made-moves g (shard_of g.shards k) d.before (d.makes.passes ++ e ∷ []) p q config seen (roomy-leaves m g valid k e p q config d) (roomy-mine e fits d) (roomy-made-own e fits d)
+  roomy-moves e fits d =
+      let made = roomy-made-own e fits d in
+      made-moves g (shard_of g.shards k) d.before (d.makes.passes ++ e ∷ []) p q config seen (roomy-leaves m g valid k e p q config d) (roomy-mine e fits d) made (roomy-long m g valid k p q config e d made)
 
   -- what a party finds that has every number
   pub does-now : (es : List Event) → AreOwn (parties_of g) p.number es → (d : Does m g k es p q) → HasAll p → d.before.now ≡ replay (opening_of g) (seen_of g (shard_of g.shards k) p)

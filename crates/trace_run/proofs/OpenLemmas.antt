@@ -19,17 +19,21 @@ use Rattle.arc_table.specs.declared.view.Known.{Known}
 use Rattle.arc_table.specs.declared.view.Ledger.{Ledger}
 use Rattle.arc_table.specs.declared.view.Line.{Line}
 use Rattle.arc_table.specs.Cache.{Cache, all_newcomers}
-use Rattle.arc_table.specs.Fronts.{front_of, seen_by_both}
+use Rattle.arc_table.specs.Fronts.{StartsWith, front_of, seen_by_both}
 use Rattle.arc_table.specs.Geometry.{IsCell, parties_of}
 use Rattle.arc_table.proofs.TableLaws.{there}
 use Rattle.arc_table.specs.Views.{after_learned, newcomer as known}
 use Rattle.arc_table.specs.Telling.{opening_of}
+use Rattle.arc_table.specs.TableLaws.{starts_whole}
 use Rattle.trace_run.specs.KeptBlocks.{AllQuiet, Stands}
 use Rattle.trace_run.proofs.CellsLeft.{all-entries-as, entries-as}
 use Rattle.trace_run.specs.Opened.{AreOpened, HasJoined, IsNew, IsOpened}
 use Rattle.trace_run.specs.Openings.{AllKnow, Knows}
 use Rattle.arc_table.specs.Seen.{AllEntriesSeen, AreEntriesSeen, AreSeen, AreSeenBy, HasAll, IsNumberOf, IsNumberOrCell, events_in, seen_of, turn_of}
-use Rattle.trace_run.specs.Making.{AllEventsSeen, AreEventsSeen, HasSeenItsEvents, HasTold}
+use Rattle.trace_run.specs.Deeds.{HasToldAll, with_number}
+use Rattle.trace_run.specs.MadeLines.{made_from}
+use Rattle.trace_run.specs.Making.{AllEventsSeen, AreEventsSeen, HasSeenItsEvents, MadeItsOwn}
+use Rattle.trace_run.proofs.deeds.DeedLemmas.{told-still}
 
 -- ---- a party at the start
 
@@ -58,17 +62,17 @@ module _ (C : Type 0) (cache : Cache) (about : About) (is : about.config ≡ cac
     listed = λ x. refl;
   }
 
-  pub newcomer-told : (n : ℕ) → HasTold cache.config [] (one n)
-  newcomer-told n = record {
-    acts = λ shard. refl;
-    only = record { events = no-mine IsNumberOf cache.config n []; entries = λ j a at in_range. absurd (some-ne-none a (sym at)) };
-  }
+  pub newcomer-told : (n : ℕ) → HasToldAll cache.config [] [] (one n)
+  newcomer-told n = record { acts = λ shard. refl; cells = λ shard c other. refl; kinds = λ shard c other. tt; entries = λ i in_range. refl }
+
+  newcomer-only : (n : ℕ) → MadeItsOwn cache.config (one n)
+  newcomer-only n = record { events = no-mine IsNumberOf cache.config n []; entries = λ j a at in_range. absurd (some-ne-none a (sym at)) }
 
   pub newcomer-new : (n : ℕ) → IsOpened cache n (one n)
   newcomer-new n = record {
     number = refl;
     joined = refl;
-    new = record { parties = refl; begun = refl; seen = refl; stands = newcomer-stands n; told = newcomer-told n };
+    new = record { parties = refl; begun = refl; seen = refl; stands = newcomer-stands n; told = newcomer-told n; only = newcomer-only n };
   }
 
   newcomers-count : (n k : ℕ) → length (newcomers cache.row.table (parties_of cache.config) (known {C = C} about) n k) ≡ k
@@ -187,14 +191,21 @@ module _ {C : Type 0} (cache : Cache) where
       );
     }
 
-    told-then : HasTold cache.config [] then
-    told-then = record {
-      acts = λ shard. ap (λ (s : List (List Line)). own_moments p.number (moments (opening_of cache.config) (events_in (front_of (turn_of cache.config shard) s)))) seen-none;
-      only = record {
-        events = subst (AreSeen cache.config p.number p.own.mine) (first.new.seen ∙ sym seen-none) first.new.told.only.events;
-        entries = first.new.told.only.entries;
-      };
-    }
+    told-then : HasToldAll cache.config [] [] then
+    told-then = told-still cache.config [] [] p then (λ shard. ap (λ (s : List (List Line)). own_moments p.number (moments (opening_of cache.config) (events_in (front_of (turn_of cache.config shard) s)))) seen-none)
+        record {
+          number = refl;
+          cells = λ shard c other. ap (λ (s : List (List Line)). with_number c (events_in (made_from (turn_of cache.config shard) 0 p.own.mine (front_of (turn_of cache.config shard) s)))) (seen-none ∙ sym first.new.seen);
+          entries = λ i in_range. ap (λ (s : List (List Line)). made_from i 0 p.own.mine (front_of i s)) (seen-none ∙ sym first.new.seen);
+          keeps = record {
+            about = refl;
+            fronts = λ i in_range. subst (λ (s : List (List Line)). StartsWith (front_of i s) (front_of i p.own.seen)) (sym (seen-none ∙ sym first.new.seen)) (starts_whole (front_of i p.own.seen));
+          };
+        }
+        first.new.told
+
+    only-then : MadeItsOwn cache.config then
+    only-then = record { events = subst (AreSeen cache.config p.number p.own.mine) (first.new.seen ∙ sym seen-none) first.new.only.events; entries = first.new.only.entries }
 
     same-first : (i : ℕ) → IsCell cache.config i → front_of i then.own.seen ≡ front_of i p.own.seen
     same-first i in_range = ap (front_of i) (seen-none ∙ sym first.new.seen)
@@ -225,7 +236,7 @@ module _ {C : Type 0} (cache : Cache) where
       number = first.number;
       has = λ n below. has-then n (which n below);
       low = low-then;
-      new = record { parties = first.new.parties; begun = first.new.begun; seen = seen-none; stands = stands-then; told = told-then };
+      new = record { parties = first.new.parties; begun = first.new.begun; seen = seen-none; stands = stands-then; told = told-then; only = only-then };
     }
       where
         less : (n c : ℕ) → n < suc c → n ≢ c → n < c

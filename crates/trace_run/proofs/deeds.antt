@@ -7,6 +7,7 @@ pub mod MadeCells
 pub mod MadeLemmas
 pub mod MakesLemmas
 pub mod ObjectAnswers
+pub mod ObjectReplies
 pub mod ObjectWork
 pub mod OperatesDone
 pub mod OwnAlone

@@ -1,5 +1,7 @@
+pub mod CellActs
 pub mod CellRun
 pub mod CloseLemmas
+pub mod CrewEnds
 pub mod EachLemmas
 pub mod EndLemmas
 pub mod GenLemmas
@@ -10,4 +12,7 @@ pub mod RanLemmas
 pub mod ReportLemmas
 pub mod RestLemmas
 pub mod SourceLemmas
+pub mod ToldLemmas
 pub mod WordLemmas
+pub mod WorkEnds
+pub mod WorkLemmas

@@ -1,11 +1,10 @@
 -- How the cells of a run end: the feeder ends them, while all other parties have joined it. And what they come to.
-use Rattle.std.specs.Prelude.{◌≡◌, ◌==◌, ℕ, false, List, [], ◌∷◌, ◌++◌, Some, filter, length, slice_get}
+use Rattle.std.specs.Prelude.{◌≡◌, ◌≢◌, ℕ, zero, suc, ◌<◌, ◌≤◌, ◌==◌, List, [], ◌∷◌, ◌++◌, Some, filter, length, slice_get}
 use Rattle.std.specs.List.{AllByRecursion}
-use Rattle.std.specs.Option.{option_map_or}
 use Rattle.blk_ptr.specs.Hash.{shard_of}
 use Rattle.arc_core.specs.declared.config.Config.{Config}
 use Rattle.arc_core.specs.declared.event.Event.{Event}
-use Rattle.arc_core.specs.Operations.{event_key, moments, own_moments}
+use Rattle.arc_core.specs.Operations.{Act, acts_in, moments, number_of as number_of_event, own_moments}
 use Rattle.turn_table.specs.Places.{Place, kept as as_kept}
 use Rattle.arc_table.specs.declared.view.Known.{Known}
 use Rattle.arc_table.specs.declared.view.Line.{Line}
@@ -13,16 +12,19 @@ use Rattle.arc_table.specs.declared.view.Line.TheVariants as line
 use Rattle.arc_table.specs.Cache.{Cache}
 use Rattle.arc_table.specs.Ended.{Ended}
 use Rattle.arc_table.specs.Fronts.{front_of}
-use Rattle.arc_table.specs.Geometry.{IsCell}
-use Rattle.arc_table.specs.Seen.{AreSeen, HasAll, events_in, seen_of}
+use Rattle.arc_table.specs.Geometry.{IsCell, parties_of}
+use Rattle.arc_table.specs.Seen.{AreEntriesSeen, AreSeen, HasAll, events_in, seen_of}
 use Rattle.arc_table.specs.Telling.{opening_of}
 use Rattle.dbuf_cells.specs.Turns.{OnHeap}
 use Rattle.dbuf_state.specs.History.{IsHistory}
-use Rattle.dbuf_state.specs.Numbers.{event_numbers}
+use Rattle.dbuf_state.specs.Numbers.{event_numbers, number_of}
 use Rattle.dbuf_state.specs.Objects.{PlainCell}
+use Rattle.dbuf_state.specs.declared.event.CellEvent.{CellEvent}
 use Rattle.dbuf_state.specs.declared.event.CellEvent.TheVariants.{End}
 use Rattle.trace_text.specs.declared.trace.Trace.{Trace}
+use Rattle.trace_run.specs.Deeds.{HasAct, Noted, acts_of_events, events_of_cell, events_there, lines_of_cell, with_number}
 use Rattle.trace_run.specs.KeptBlocks.{Stands}
+use Rattle.trace_run.specs.MadeLines.{made_in, made_of}
 use Rattle.trace_run.specs.Making.{AreEventsSeen, AreNoEntries}
 use Rattle.trace_run.specs.Meeting.{HaveParted, IsLevel}
 use Rattle.trace_run.specs.Openings.{Knows, opening_map}
@@ -31,9 +33,17 @@ use Rattle.trace_run.specs.Openings.{Knows, opening_map}
 abbrev pub end_entry : (n : ℕ) → ℕ → List Line
 end_entry n i = line.Entry (event_numbers (End n)) ∷ []
 
--- the events of these that are of keys of this shard
-abbrev pub events_there : Config → (shard : ℕ) → List Event → List Event
-events_there g shard = filter (λ e. option_map_or (λ k. shard_of g.shards k == shard) (event_key e) false)
+-- n ends so many cells, from the cell i on: this is noted of them
+abbrev pub ends_from : (n i count : ℕ) → List Noted
+ends_from n i zero = []
+ends_from n i (suc count) = record { cell = i; event = End n } ∷ ends_from n (suc i) count
+
+module _ {C : Type 0} where
+  -- What the party made with other numbers than its own, those of cells, are these acts, each once; and what it did to each cell is this.
+  pub record HasToldOthers (g : Config) (did : List Act) (noted : List Noted) (p : Place (Known C)) : Type 0 where
+    pub cells : (shard c : ℕ) → c ≢ p.number → acts_in (shard_of g.shards) shard c did ≡ acts_of_events (with_number c (made_in g shard p))
+    pub kinds : (shard c : ℕ) → c ≢ p.number → AllByRecursion HasAct (with_number c (made_in g shard p))
+    pub entries : (i : ℕ) → IsCell g i → made_of i p ≡ lines_of_cell i noted
 
 module _ {C : Type 0} where
   -- What it comes to where nobody had done anything to a cell: no event of a shard was made, and the party has seen just its ends.
@@ -53,7 +63,14 @@ module _ {C : Type 0} where
     pub alone : q.joined ≡ []
     pub stands : Stands cache q []
     pub own : (shard : ℕ) → own_moments p.number (moments (opening_of cache.config) (seen_of cache.config shard q)) ≡ own_moments p.number (moments (opening_of cache.config) (seen_of cache.config shard p))
+    -- what was dropped, with the numbers of cells; so it is told, with the ends
     pub drops : List Event
+    pub numbers : AllByRecursion (λ e. parties_of cache.config ≤ number_of_event e) drops
+    pub told : (did : List Act) (noted : List Noted) → HasToldOthers cache.config did noted p
+        → HasToldOthers cache.config (did ++ acts_of_events drops) (noted ++ ends_from p.number 0 cache.config.cells) q
+    -- of each cell it has seen the end as the last, and all that the others did there
+    pub ends : (i : ℕ) → IsCell cache.config i → (before : List Line) × (front_of i q.own.seen ≡ before ++ end_entry p.number i)
+    pub entries : AllByRecursion (λ o. AreEntriesSeen cache.config o.number o.own.mine q.own.seen) olds
     pub same : (before : ℕ → List Line) → IsLevel cache.config before p → AllByRecursion (IsLevel cache.config before) olds
         → (shard : ℕ) → events_in (lines shard) ≡ events_in (before shard) ++ events_there cache.config shard drops
     -- where one other party has seen all that both made, it is what that one had seen
@@ -91,17 +108,25 @@ module _ {C : Type 0} where
 
 -- ---- the cells of a closed cache
 
--- A cell of a run: it began with what the trace's lines say of its Oids, and with the configuration's bytes of clean dbufs. Its history is legal from there, and
--- nothing was done to it but that the feeder ended it.
-pub record IsCellOf (trace : Trace) (i : ℕ) (cell : OnHeap) : Type 0 where
+-- of what was done to a cell, what this number did
+abbrev pub done_by : ℕ → List CellEvent → List CellEvent
+done_by n = filter (λ e. number_of e == n)
+
+-- A cell of a run, where this is noted of each party: it began with what the trace's lines say of its Oids, and with the configuration's bytes of clean dbufs.
+-- Its history is legal from there, and the feeder's End is the last that was done to it. Each party did to it what is noted of the party, in that order, and nobody
+-- else did anything to it.
+pub record IsCellOf (trace : Trace) (noted : ℕ → List Noted) (i : ℕ) (cell : OnHeap) : Type 0 where
   pub limit : cell.value.limit ≡ trace.config.dbuf_bytes
   pub opening : cell.value.opening ≡ opening_map trace i
   pub bases : List (List ℕ)
   pub end : PlainCell
   pub legal : IsHistory cell.value.limit cell.value.opening cell.value.history bases end
-  pub history : cell.value.history ≡ End trace.config.callers ∷ []
+  pub front : List CellEvent
+  pub history : cell.value.history ≡ front ++ End trace.config.callers ∷ []
+  pub parties : AllByRecursion (λ e. number_of e < parties_of trace.config) cell.value.history
+  pub did : (n : ℕ) → n < parties_of trace.config → done_by n cell.value.history ≡ events_of_cell i (noted n)
 
 -- all cells of a closed cache are
-pub record AreCellsOf (trace : Trace) (closed : Ended OnHeap) : Type 0 where
+pub record AreCellsOf (trace : Trace) (noted : ℕ → List Noted) (closed : Ended OnHeap) : Type 0 where
   pub count : length closed.cells ≡ trace.config.cells
-  pub each : (i : ℕ) (cell : OnHeap) → slice_get closed.cells i ≡ Some cell → IsCellOf trace i cell
+  pub each : (i : ℕ) (cell : OnHeap) → slice_get closed.cells i ≡ Some cell → IsCellOf trace noted i cell

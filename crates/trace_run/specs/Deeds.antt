@@ -1,5 +1,5 @@
 -- What a party did, as what it made of histories tells it.
-use Rattle.std.specs.Prelude.{◌≡◌, ◌==◌, ℕ, ◌≤◌, false, filter, if◌then◌else◌, List, [], ◌∷◌, ◌++◌, map}
+use Rattle.std.specs.Prelude.{◌≡◌, ◌≢◌, ◌==◌, ℕ, false, filter, if◌then◌else◌, List, [], ◌∷◌, ◌++◌, map}
 use Rattle.std.specs.List.{AllByRecursion}
 use Rattle.std.specs.Option.{option_map_or}
 use Rattle.blk_ptr.specs.Hash.{shard_of}
@@ -11,7 +11,8 @@ use Rattle.turn_table.specs.Places.{Place}
 use Rattle.arc_table.specs.declared.view.Known.{Known}
 use Rattle.arc_table.specs.declared.view.Line.{Line}
 use Rattle.arc_table.specs.declared.view.Line.TheVariants as line
-use Rattle.arc_table.specs.Geometry.{IsCell, parties_of}
+use Rattle.arc_table.specs.Fronts.{StartsWith, front_of}
+use Rattle.arc_table.specs.Geometry.{IsCell}
 use Rattle.arc_table.specs.Told.{IsTold}
 use Rattle.dbuf_state.specs.Numbers.{event_numbers}
 use Rattle.dbuf_state.specs.declared.event.CellEvent.{CellEvent}
@@ -70,15 +71,22 @@ abbrev pub lines_of_cell : (i : ℕ) → List Noted → List Line
 lines_of_cell i noted = map line.Entry (map event_numbers (events_of_cell i noted))
 
 module _ {C : Type 0} where
-  -- In each shard the events of the party's own number are those of its acts among these, one after another, each once; and those that it made with a
-  -- cell's number are those of the cell's acts. What it did to each cell is this.
+  -- In each shard the events of the party's own number are those of its acts among these, one after another, each once; and those that it made with
+  -- another number, a cell's, are those of that number's acts. What it did to each cell is this.
   pub record HasToldAll (g : Config) (did : List Act) (noted : List Noted) (p : Place (Known C)) : Type 0 where
     pub acts : IsTold g did p
-    pub cells : (shard c : ℕ) → parties_of g ≤ c → acts_in (shard_of g.shards) shard c did ≡ acts_of_events (with_number c (made_in g shard p))
-    pub kinds : (shard c : ℕ) → parties_of g ≤ c → AllByRecursion HasAct (with_number c (made_in g shard p))
+    pub cells : (shard c : ℕ) → c ≢ p.number → acts_in (shard_of g.shards) shard c did ≡ acts_of_events (with_number c (made_in g shard p))
+    pub kinds : (shard c : ℕ) → c ≢ p.number → AllByRecursion HasAct (with_number c (made_in g shard p))
     pub entries : (i : ℕ) → IsCell g i → made_of i p ≡ lines_of_cell i noted
 
-  -- it made nothing with a cell's number, and nothing of a cell, more
+  -- it knows what it knew of the cells' beginnings, and has seen of each cell at least what it had
+  pub record KeepsCells (g : Config) (p q : Place (Known C)) : Type 0 where
+    pub about : q.own.about ≡ p.own.about
+    pub fronts : (i : ℕ) → IsCell g i → StartsWith (front_of i q.own.seen) (front_of i p.own.seen)
+
+  -- it made nothing with another number than its own, and nothing of a cell, more
   pub record SameMade (g : Config) (p q : Place (Known C)) : Type 0 where
-    pub cells : (shard c : ℕ) → parties_of g ≤ c → with_number c (made_in g shard q) ≡ with_number c (made_in g shard p)
+    pub number : q.number ≡ p.number
+    pub cells : (shard c : ℕ) → c ≢ p.number → with_number c (made_in g shard q) ≡ with_number c (made_in g shard p)
     pub entries : (i : ℕ) → IsCell g i → made_of i q ≡ made_of i p
+    pub keeps : KeepsCells g p q

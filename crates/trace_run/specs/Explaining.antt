@@ -17,7 +17,9 @@ use Rattle.trace_text.specs.declared.reply.Reply.{Reply}
 use Rattle.trace_text.specs.declared.report.Report.{Report}
 use Rattle.trace_text.specs.declared.trace.Trace.{Trace}
 use Rattle.trace_run.specs.Acts.{acts_of_callers}
+use Rattle.trace_run.specs.Deeds.{events_there}
 use Rattle.trace_run.specs.Effects.{calls_of_all}
+use Rattle.trace_run.specs.RunWork.{AreMadeBy, RunWork, acts_by, acts_of_cells, own_acts}
 use Rattle.trace_run.specs.Ends.{ends_of}
 use Rattle.arc_table.specs.Telling.{opening_of}
 use Rattle.trace_run.specs.KeptBlocks.{holds_in}
@@ -44,8 +46,8 @@ EndsWith history es = (front : List Event) × (history ≡ front ++ es)
 abbrev pub BeginsWith : List Event → List Event → Type 0
 BeginsWith history es = (rest : List Event) × (history ≡ es ++ rest)
 
--- The histories explain the replies, for any number of callers and shards, where these keys were found on the cache device.
-pub record Explain (trace : Trace) (restored : List Restored) (replies : List Reply) (shard_ends : List ShardEnd) (histories : List (List Event)) : Type 0 where
+-- The histories explain the replies where no line did anything to a cell, for any number of callers and shards, where these keys were found on the cache device.
+pub record ExplainReads (trace : Trace) (restored : List Restored) (replies : List Reply) (shard_ends : List ShardEnd) (histories : List (List Event)) : Type 0 where
   -- each shard has a history, by its number, which is legal from the shard's start
   pub shards : length histories ≡ trace.config.shards
   pub legal : AllByRecursion (λ history. IsTrue (is_legal_history (opening_of trace.config) history)) histories
@@ -61,6 +63,27 @@ pub record Explain (trace : Trace) (restored : List Restored) (replies : List Re
   -- each history ends with the drops at the end of the run
   pub ending : (shard : ℕ) → shard < length histories
       → EndsWith (slice_index_or histories shard []) (drops_at_end trace.config trace.blocks shard trace.config.callers trace.ops replies)
+
+-- The histories explain the replies, and what the run did beside them, for any number of callers and shards, where these keys were found on the cache device.
+pub record Explain (trace : Trace) (restored : List Restored) (work : RunWork) (replies : List Reply) (shard_ends : List ShardEnd) (histories : List (List Event)) : Type 0 where
+  -- each shard has a history, by its number, which is legal from the shard's start
+  pub shards : length histories ≡ trace.config.shards
+  pub legal : AllByRecursion (λ history. IsTrue (is_legal_history (opening_of trace.config) history)) histories
+  -- its replay gives the shard's end, where nothing is held or being read, and there is no feed
+  pub ends : shard_ends ≡ ends_of trace.config histories
+  pub at_rest : AllByRecursion (λ history. IsAtRest (replay (opening_of trace.config) history)) histories
+  -- each begins with the restores of its keys, in the order in which they were found
+  pub begins : (shard : ℕ) → shard < length histories → BeginsWith (slice_index_or histories shard []) (restores_in trace.config restored shard)
+  -- Each call of each caller stands once in the history of its key's shard, in the order of the lines; the feeder made these restores, then one
+  -- Resize in each for each capacity that the trace gives, in the order of the lines, and nothing else with its own number. The events with the numbers of cells
+  -- stand for acts, each for one.
+  pub every_call : HoldEveryCallOnce trace.config (shard_of trace.config.shards) (opening_of trace.config)
+      (own_acts trace.config trace.blocks work trace.config.callers ++ acts_of_cells trace.config histories) (events_by_feeder trace.config restored trace.ops replies) histories
+  -- these are the callers' and the feeder's acts with such a number, of each party in its order
+  pub made : (shard : ℕ) → shard < length histories → AreMadeBy trace.config shard (acts_by trace.config trace.blocks work) (slice_index_or histories shard [])
+  -- each history ends with the drops at the end of the run: those of what callers keep, and then those of what the cells keep
+  pub ending : (shard : ℕ) → shard < length histories
+      → EndsWith (slice_index_or histories shard []) (drops_at_end trace.config trace.blocks shard trace.config.callers trace.ops replies ++ events_there trace.config shard work.ended)
 
 -- What more holds of a run with one caller, which was lent the cache device, where there is one: its report is a plain function of the trace, what was found on
 -- that device, the bytes of both and which reads of either failed, as far as no two contents share a digest.

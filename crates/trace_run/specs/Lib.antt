@@ -22,12 +22,14 @@ pub mod Making
 pub mod Meeting
 pub mod ObjectLines
 pub mod Objects
+pub mod ObjectReplies
 pub mod Opened
 pub mod Openings
 pub mod Outcome
 pub mod Read
 pub mod Reads
 pub mod Restores
+pub mod RunWork
 pub mod States
 pub mod Status
 pub mod Syncing

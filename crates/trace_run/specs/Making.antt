@@ -3,7 +3,6 @@ use Rattle.std.specs.Prelude.{◌≡◌, ℕ, List}
 use mathlib.Core.Option.{some}
 use lib.ListN.{get_elem?}
 use Rattle.arc_core.specs.declared.config.Config.{Config}
-use Rattle.arc_core.specs.Operations.{Act}
 use Rattle.turn_table.specs.declared.standing.Kept.{Kept as Joined}
 use Rattle.turn_table.specs.Places.{Place}
 use Rattle.arc_table.specs.declared.view.Known.{Known}
@@ -11,7 +10,6 @@ use Rattle.arc_table.specs.declared.view.Line.{Line}
 use Rattle.arc_table.specs.declared.view.Mine.{Mine}
 use Rattle.arc_table.specs.Geometry.{IsCell}
 use Rattle.arc_table.specs.Seen.{AllSeenBy, AreSeen, AreSeenBy, HasSeenBy, IsNumberOrCell}
-use Rattle.arc_table.specs.Told.{IsTold}
 
 -- these lines of shards stand in what was seen, and n made them, with its own number or a cell's
 abbrev pub AreEventsSeen : Config → (n : ℕ) → List Mine → List (List Line) → Type 0
@@ -34,8 +32,3 @@ module _ {C : Type 0} where
   pub record MadeItsOwn (g : Config) (p : Place (Known C)) : Type 0 where
     pub events : AreSeen g p.number p.own.mine p.own.seen
     pub entries : AreNoEntries g p.own.mine
-
-  -- in each shard the events of the party's own number are those of these acts, one after another, each once; and it made nothing else
-  pub record HasTold (g : Config) (did : List Act) (p : Place (Known C)) : Type 0 where
-    pub acts : IsTold g did p
-    pub only : MadeItsOwn g p

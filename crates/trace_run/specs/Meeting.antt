@@ -18,7 +18,8 @@ use Rattle.arc_table.specs.Items.{Meanings}
 use Rattle.arc_table.specs.pact.Rule.{Pact}
 use Rattle.arc_table.specs.Seen.{events_in, seen_of, turn_of}
 use Rattle.arc_table.specs.Telling.{opening_of}
-use Rattle.trace_run.specs.Making.{AreEventsSeen, AreNoEntries, HasSeenItsEvents, HasTold, MadeItsOwn}
+use Rattle.trace_run.specs.Deeds.{HasToldAll, Noted, SameMade}
+use Rattle.trace_run.specs.Making.{AreEventsSeen, AreNoEntries, HasSeenItsEvents, MadeItsOwn}
 use Rattle.arc_table.specs.Views.{after_learned}
 use Rattle.trace_run.specs.declared.kept_blocks.KeptBlock.{KeptBlock}
 use Rattle.trace_run.specs.Acts.{acts_of_drops}
@@ -79,12 +80,12 @@ module _ {C : Type 0} where
   abbrev pub IsLevel : Config → (ℕ → List Line) → Place (Known C) → Type 0
   IsLevel g lines p = (shard : ℕ) → front_of (turn_of g shard) p.own.seen ≡ lines shard
 
-  -- A party that stands by itself with these kept reads and has done these acts.
-  pub record Waits (cache : Cache) (n : ℕ) (acts : List Act) (kept : List KeptBlock) (p : Place (Known C)) : Type 0 where
+  -- A party that stands by itself with these kept reads, and has done these acts, and this to cells.
+  pub record Waits (cache : Cache) (n : ℕ) (acts : List Act) (noted : List Noted) (kept : List KeptBlock) (p : Place (Known C)) : Type 0 where
     pub number : p.number ≡ n
     pub alone : p.joined ≡ []
     pub stands : Stands cache p kept
-    pub told : HasTold cache.config acts p
+    pub told : HasToldAll cache.config acts noted p
 
   -- The feeder's party stands by itself and keeps nothing, and knows that the cells began so. These are the events of each shard that it made, and what
   -- it has seen begins with these.
@@ -126,6 +127,7 @@ module _ {C : Type 0} where
     pub starts : (shard : ℕ) → StartsWith (seen_of cache.config shard new) (seen_of cache.config shard old)
     pub mine : new.own.mine ≡ old.own.mine
     pub only : MadeItsOwn cache.config old → MadeItsOwn cache.config new
+    pub same : (kept : List KeptBlock) → Stands cache old kept → SameMade cache.config old new
 
   abbrev pub HaveParted : Cache → (ℕ → List Line) → (olds news : List (Place (Known C))) → Type 0
   HaveParted cache lines [] [] = Unit {0}
@@ -141,7 +143,7 @@ module _ {C : Type 0} where
     pub are : news ≡ rest ++ last ∷ []
     pub parted : HaveParted cache lines others rest
     pub level : IsLevel cache.config lines last
-    pub gave : (n : ℕ) (acts : List Act) → Waits cache n acts kept p → Waits cache n (acts ++ acts_of_drops n (map read_of kept)) [] last
+    pub gave : (n : ℕ) (acts : List Act) (noted : List Noted) → Waits cache n acts noted kept p → Waits cache n (acts ++ acts_of_drops n (map read_of kept)) noted [] last
     pub fed : (openings : List (List ℕ)) (fed since : (shard : ℕ) → List Event) → kept ≡ [] → IsFed cache openings fed since p → IsFed cache openings fed since last
     pub drops : (before : ℕ → List Line) → IsLevel cache.config before p → AllByRecursion (IsLevel cache.config before) others
         → (shard : ℕ) → events_in (lines shard) ≡ events_in (before shard) ++ events_of_drops p.number (holds_in cache.config shard (map read_of kept))
@@ -174,24 +176,24 @@ drops_from g shard n (k ∷ ks) = events_of_drops n (holds_in g shard (map read_
 
 module _ {C : Type 0} where
   -- callers by their numbers from this one on, which keep these reads
-  abbrev pub AreWaiting : Cache → (ℕ → List Act) → (n : ℕ) → List (List KeptBlock) → List (Place (Known C)) → Type 0
-  AreWaiting cache acts n [] [] = Unit {0}
-  AreWaiting cache acts n (k ∷ ks) (p ∷ ps) = Waits cache n (acts n) k p × AreWaiting cache acts (suc n) ks ps
-  AreWaiting cache acts n _ _ = ⊥
+  abbrev pub AreWaiting : Cache → (ℕ → List Act) → (ℕ → List Noted) → (n : ℕ) → List (List KeptBlock) → List (Place (Known C)) → Type 0
+  AreWaiting cache acts noted n [] [] = Unit {0}
+  AreWaiting cache acts noted n (k ∷ ks) (p ∷ ps) = Waits cache n (acts n) (noted n) k p × AreWaiting cache acts noted (suc n) ks ps
+  AreWaiting cache acts noted n _ _ = ⊥
 
   -- and once they have given them back
-  abbrev pub AllGave : Cache → (ℕ → List Act) → (n : ℕ) → List (List KeptBlock) → List (Place (Known C)) → Type 0
-  AllGave cache acts n [] [] = Unit {0}
-  AllGave cache acts n (k ∷ ks) (p ∷ ps) = Waits cache n (acts n ++ acts_of_drops n (map read_of k)) [] p × AllGave cache acts (suc n) ks ps
-  AllGave cache acts n _ _ = ⊥
+  abbrev pub AllGave : Cache → (ℕ → List Act) → (ℕ → List Noted) → (n : ℕ) → List (List KeptBlock) → List (Place (Known C)) → Type 0
+  AllGave cache acts noted n [] [] = Unit {0}
+  AllGave cache acts noted n (k ∷ ks) (p ∷ ps) = Waits cache n (acts n ++ acts_of_drops n (map read_of k)) (noted n) [] p × AllGave cache acts noted (suc n) ks ps
+  AllGave cache acts noted n _ _ = ⊥
 
   -- All callers gave back what they kept, by rising caller; the feeder's party stands behind theirs. All have seen the same: of each shard what was
   -- so before, and then their drops.
-  pub record HaveGivenBack (cache : Cache) (acts : ℕ → List Act) (openings : List (List ℕ)) (feeds since : (shard : ℕ) → List Event) (kept : List (List KeptBlock)) (ps : List (Place (Known C))) : Type 0 where
+  pub record HaveGivenBack (cache : Cache) (acts : ℕ → List Act) (noted : ℕ → List Noted) (openings : List (List ℕ)) (feeds since : (shard : ℕ) → List Event) (kept : List (List KeptBlock)) (ps : List (Place (Known C))) : Type 0 where
     pub callers : List (Place (Known C))
     pub feeder : Place (Known C)
     pub are : ps ≡ callers ++ feeder ∷ []
-    pub gave : AllGave cache acts 0 kept callers
+    pub gave : AllGave cache acts noted 0 kept callers
     pub fed : IsFed cache openings feeds since feeder
     pub first : ℕ → List Event
     pub lines : ℕ → List Line

@@ -41,7 +41,7 @@ use Rattle.trace_text.specs.declared.reply.Refusal.TheVariants as refusals
 use Rattle.trace_text.specs.declared.reply.Reply.{Reply}
 use Rattle.trace_text.specs.declared.reply.Reply.TheVariants as replies
 use Rattle.trace_run.specs.Answers.{IsReadRefusal}
-use Rattle.trace_run.specs.Deeds.{HasToldAll, Noted, acts_of_events, events_there, lines_of_cell, noted_in}
+use Rattle.trace_run.specs.Deeds.{HasToldAll, KeepsCells, Noted, acts_of_events, events_there, lines_of_cell, noted_in}
 use Rattle.trace_run.specs.DeviceReads.{AsksFor}
 use Rattle.trace_run.specs.Effects.{Effect, Answered, calls_of, effect_of}
 use Rattle.trace_run.specs.Objects.{AnswersKey, AnswersNoBlock, AnswersRange, Brought, Nothing, Loaded, Refused, acts_of_bringing, loads_of}
@@ -130,7 +130,7 @@ pub record DidWork (g : Config) (t c : ℕ) (brought : Brought) (es : List Event
   pub source : HasAll p → CameFrom g p brought
   pub all : HasAll p → HasAll q
   pub joined : q.joined ≡ p.joined
-  pub cells : (i : ℕ) → IsCell g i → StartsWith (front_of i q.own.seen) (front_of i p.own.seen)
+  pub keeps : KeepsCells g p q
   pub cells_alone : HasAll p → (i : ℕ) → IsCell g i → front_of i q.own.seen ≡ front_of i p.own.seen ++ lines_of_cell i noted
 
 -- the block was clean with this pointer, and its bytes were not there

@@ -13,7 +13,8 @@ use Rattle.dbuf_state.specs.declared.dbuf.Content.TheVariants.{Clean}
 use Rattle.dbuf_state.specs.declared.state.DbState.TheVariants as state
 use Rattle.dbuf_state.specs.declared.state.Mapping.{Mapping}
 use Rattle.trace_run.specs.KeptBlocks.{Stands}
-use Rattle.trace_run.specs.Making.{HasTold}
+use Rattle.trace_run.specs.Deeds.{HasToldAll}
+use Rattle.trace_run.specs.Making.{MadeItsOwn}
 
 -- a cell at its start: it has this limit and maps this, and nothing was done to it
 pub record HasBegun (limit : ℕ) (opening : List Mapping) (cell : CellLog Kept) : Type 0 where
@@ -29,7 +30,8 @@ module _ {C : Type 0} where
     pub begun : p.own.ledger ≡ no_ledger
     pub seen : p.own.seen ≡ []
     pub stands : Stands cache p []
-    pub told : HasTold cache.config [] p
+    pub told : HasToldAll cache.config [] [] p
+    pub only : MadeItsOwn cache.config p
 
   -- it is alone under its number
   pub record IsOpened (cache : Cache) (n : ℕ) (p : Place (Known C)) : Type 0 where

@@ -3,7 +3,6 @@ use Rattle.std.specs.Prelude.{◌≡◌, ◌⊎◌, ℕ, ◌+◌, ◌*◌, ◌^�
 use Rattle.std.specs.Bool.{OnFalse}
 use Rattle.std.specs.List.{range_with_len}
 use Rattle.std.specs.Io.KnownBytes.{Appends}
-use Rattle.vdev_io.specs.Faults.{Rose}
 use Rattle.trace_text.specs.Grammar.{IsTraceText, IsFirstFault, longest_text}
 use Rattle.trace_text.specs.Pages.{IsFirstPageFault, IsPageText}
 use Rattle.trace_text.specs.ReportText.{report_text}
@@ -19,6 +18,8 @@ use Rattle.trace_text.specs.declared.fault.Kind.TheVariants as kinds
 use Rattle.trace_text.specs.declared.ends.ShardEnd.{ShardEnd}
 use Rattle.trace_text.specs.declared.report.Report.{Report}
 use Rattle.trace_text.specs.declared.trace.Trace.{Trace}
+use Rattle.trace_run.specs.declared.ran.Ending.{Ending}
+use Rattle.trace_run.specs.declared.ran.Ending.TheVariants.{Full, Whole}
 use Rattle.trace_run.specs.declared.status.Status.{Status}
 use Rattle.trace_run.specs.declared.status.Status.TheVariants as statuses
 use Rattle.trace_run.specs.declared.words.Command.{Command}
@@ -32,6 +33,7 @@ use Rattle.trace_text.specs.Generator.{generated_block, generated_read, generate
 use Rattle.trace_run.specs.Answers.{AnswersAll}
 use Rattle.trace_run.specs.Bounded.{device_len, with_bound}
 use Rattle.trace_run.specs.CellEnds.{AreCellsOf}
+use Rattle.trace_run.specs.RunWork.{IsRunWork, RunWork, noted_by, only_ended, plain_work}
 use Rattle.trace_run.specs.CheckText.{check_text}
 use Rattle.trace_run.specs.DeviceUse.{WasUsed}
 use Rattle.trace_run.specs.Devices.{Finds, MayLose, usable}
@@ -42,7 +44,7 @@ use Rattle.trace_run.specs.Restores.{found_keys}
 use Rattle.trace_run.specs.States.{Handed}
 use Rattle.vdev_io.specs.Streams.{NoneFailed, OneFailed, StreamState}
 use Rattle.vdev_io.specs.Streams.{Gives, AppendsFront, TakesAtMost}
-use Rattle.trace_run.specs.callers.Together.{RunsTogether, StopsAtGroup, TellsClosed, answered_ops, faults_told, report_status}
+use Rattle.trace_run.specs.callers.Together.{RunsTogether, StopsSo, TellsClosed, answered_ops, faults_told, report_status}
 use Rattle.trace_run.specs.Words.{IsCommand, IsFirstWrong}
 
 -- The words are a command, and this is what it did; or they are none, and their first wrong word is told.
@@ -55,6 +57,7 @@ AnswersWords words did statuses.SourceFault = (command : Command) × IsCommand w
 AnswersWords words did statuses.SinkFault = (command : Command) × IsCommand words command × did command
 AnswersWords words did statuses.PoolFault = (command : Command) × IsCommand words command × did command
 AnswersWords words did statuses.NoMemory = (command : Command) × IsCommand words command × did command
+AnswersWords words did (statuses.PoolFull need left) = (command : Command) × IsCommand words command × did command
 AnswersWords words did (statuses.Illegal shard index) = (command : Command) × IsCommand words command × did command
 
 -- The source gave a text, all that it had as far as it tells, by calls of which none failed, and the text is this trace.
@@ -79,29 +82,42 @@ pub record IsBadTrace (before after : StreamState) (line : ℕ) (kind : Kind) : 
   pub unfailed : NoneFailed before after
   pub fault : IsFirstFault text line kind ⊎ IsUndone text kind
 
--- Each operation that was answered has its answer, and the histories, which are those of the closed cache, explain the replies and the reads of
--- the pool; its faults rose by one for each reply that says so, and by one more where a fork failed, where each count had room. With one
+-- Each operation that was answered has its answer, and the histories, which are those of the closed cache, explain the replies, with this work beside them, and the
+-- reads of the pool; its faults rose by one for each reply that says so, and by one more where a fork failed, where each count had room. With one
 -- caller the report is a plain function; with several, each reads the pool through forks of its own, one for each group.
-pub record IsRun {P D : Type 0} (pool : Ghosts P) (device : Devices D) (before after : P) (lent back : Option D) (trace : Trace) (fork_failed : Bool) (closed : Ended OnHeap) (report : Report) : Type 0 where
-  pub answers : AnswersAll (pool.size before) (pool.told before) trace.blocks (answered_ops trace fork_failed report.replies) report.replies
-  pub explained : Explain trace (found_keys report.rebuilt) report.replies report.ends report.histories
+pub record IsRun {P D : Type 0} (pool : Ghosts P) (device : Devices D) (before after : P) (lent back : Option D) (trace : Trace) (ending : Ending) (work : RunWork) (closed : Ended OnHeap) (report : Report) : Type 0 where
+  pub answers : AnswersAll (pool.size before) (pool.told before) trace.blocks (answered_ops trace ending report.replies) report.replies
+  pub explained : Explain trace (found_keys report.rebuilt) work report.replies report.ends report.histories
   pub tells : TellsClosed closed report
   -- the shared cache was made with the trace's numbers
   pub config : closed.config ≡ trace.config
   -- no workers read for callers: the report has no line of them
   pub no_workers : report.io ≡ None
   pub reads : pool.reads before < 2 ^ 63 → pool.reads after ≡ pool.reads before + sum_by pool_reads report.histories
-  pub faults : pool.faults before < 2 ^ 63 → pool.faults after ≡ pool.faults before + faults_told fork_failed report.replies
-  pub alone : trace.config.callers ≡ 1 → (fork_failed ≡ false) × RunsAlone pool device before after lent back trace report
-  pub together : 2 ≤ trace.config.callers → RunsTogether pool before after trace fork_failed closed.cells report
+  pub faults : pool.faults before < 2 ^ 63 → pool.faults after ≡ pool.faults before + faults_told ending report.replies
+  pub alone : trace.config.callers ≡ 1 → (ending ≡ Whole) × RunsAlone pool device before after lent back trace report
+  pub together : 2 ≤ trace.config.callers → RunsTogether pool before after trace ending closed.cells report
   -- a trace without an operation has no work: no fork is made for it, and the pool is as it was
-  pub idle : trace.ops ≡ [] → (fork_failed ≡ false) × (after ≡ before)
-  -- a fork failed as a group began, which has no reply then
-  pub failed : fork_failed ≡ true → Rose (pool.faults before) (pool.faults after) × StopsAtGroup trace report.replies
+  pub idle : trace.ops ≡ [] → (ending ≡ Whole) × (after ≡ before)
+  -- a fork failed as a group began, or a sync stopped, which has no reply then
+  pub stopped : StopsSo pool before after trace report.replies ending
+
+-- Room is told as missing with the numbers of the sync that stopped for it, and of no other end.
+abbrev pub TellsEnding : Status → Ending → Type 0
+TellsEnding (statuses.PoolFull need left) ending = ending ≡ Full need left
+TellsEnding statuses.Ok ending = Unit {0}
+TellsEnding statuses.ReadsFailed ending = Unit {0}
+TellsEnding (statuses.Usage index) ending = Unit {0}
+TellsEnding (statuses.BadTrace line kind) ending = Unit {0}
+TellsEnding statuses.SourceFault ending = Unit {0}
+TellsEnding statuses.SinkFault ending = Unit {0}
+TellsEnding statuses.PoolFault ending = Unit {0}
+TellsEnding statuses.NoMemory ending = Unit {0}
+TellsEnding (statuses.Illegal shard index) ending = Unit {0}
 
 -- The report is that of a run of the trace that the source gave, all of whose lines the program does. The trace's bound of one feed is at most half of
 -- the device's ring. What is reported of the device is what its start found; callers had forks of it, and it is handed back.
-pub record IsReport {P D : Type 0} (pool : Ghosts P) (device : Devices D) (before after : Handed P D) (closed : Ended OnHeap) (report : Report) : Type 0 where
+pub record IsReport {P D : Type 0} (pool : Ghosts P) (device : Devices D) (before after : Handed P D) (answer : Status) (closed : Ended OnHeap) (report : Report) : Type 0 where
   pub trace : Trace
   pub read : WasRead before.source after.source trace
   pub done : has_undone trace ≡ false
@@ -109,11 +125,15 @@ pub record IsReport {P D : Type 0} (pool : Ghosts P) (device : Devices D) (befor
   pub started : Option D
   pub found : Finds device before.cache started report.rebuilt
   pub used : WasUsed device (with_bound trace (device_len device.size before.cache)) report.replies started after.cache
-  pub fork_failed : Bool
-  pub run : IsRun pool device before.pool after.pool (usable device started) (usable device after.cache) (with_bound trace (device_len device.size before.cache)) fork_failed closed report
-  -- the cells began with the trace's lines, and were ended
-  pub cells : AreCellsOf (with_bound trace (device_len device.size before.cache)) closed
-  pub status : report.status ≡ report_status fork_failed report.replies
+  pub ending : Ending
+  -- what the answered lines did beside their replies, and the feeder
+  pub work : RunWork
+  pub did : IsRunWork trace.config (answered_ops trace ending report.replies) report.replies work
+  pub run : IsRun pool device before.pool after.pool (usable device started) (usable device after.cache) (with_bound trace (device_len device.size before.cache)) ending work closed report
+  -- the cells began with the trace's lines; that was done to them, and they were ended
+  pub cells : AreCellsOf (with_bound trace (device_len device.size before.cache)) (noted_by trace.config work) closed
+  pub status : report.status ≡ report_status ending report.replies
+  pub told : TellsEnding answer ending
   pub whole : report.short ≡ false
 
 -- the made trace of this seed, with so many blocks and so many operations
@@ -134,10 +154,10 @@ zeros_of blocks = replicate (blocks * 512) 0
 pub record IsGenReport (seed blocks ops : ℕ) (closed : Ended OnHeap) (report : Report) : Type 0 where
   pub plain : report ≡ record (report_of (generated seed blocks ops) None (images (zeros_of blocks) []) [] []) { short = true }
   pub answers : AnswersAll (blocks * 512) (Some (zeros_of blocks)) (generated seed blocks ops).blocks (generated seed blocks ops).ops report.replies
-  pub explained : Explain (generated seed blocks ops) [] report.replies report.ends report.histories
+  pub explained : Explain (generated seed blocks ops) [] (plain_work (generated seed blocks ops).ops report.replies) report.replies report.ends report.histories
   pub tells : TellsClosed closed report
   pub config : closed.config ≡ generated_sizes blocks
-  pub cells : AreCellsOf (generated seed blocks ops) closed
+  pub cells : AreCellsOf (generated seed blocks ops) (only_ended (generated_sizes blocks)) closed
   pub status : report.status ≡ 0
 
 -- the report is there exactly where the trace was run
@@ -149,6 +169,7 @@ has_report statuses.PoolFault = true
 has_report (statuses.Usage index) = false
 has_report (statuses.BadTrace line kind) = false
 has_report statuses.SourceFault = false
+has_report (statuses.PoolFull need left) = true
 has_report statuses.NoMemory = false
 has_report (statuses.Illegal shard index) = false
 
@@ -162,6 +183,7 @@ ran statuses.ReadsFailed = true
 ran statuses.SinkFault = true
 ran statuses.PoolFault = true
 ran statuses.NoMemory = true
+ran (statuses.PoolFull need left) = true
 ran (statuses.Illegal shard index) = false
 
 -- what a source must have done for a status: one call of it failed where that is told, and none else. No trace is judged.
@@ -174,6 +196,7 @@ AnswersSource before after (statuses.Usage index) = NoneFailed before after
 AnswersSource before after statuses.SinkFault = NoneFailed before after
 AnswersSource before after statuses.PoolFault = NoneFailed before after
 AnswersSource before after statuses.NoMemory = NoneFailed before after
+AnswersSource before after (statuses.PoolFull need left) = NoneFailed before after
 AnswersSource before after (statuses.Illegal shard index) = ⊥
 
 -- What was written behind what the sink had: the report's text where the status is the report's, a front of it where the sink
@@ -182,11 +205,13 @@ abbrev pub AnswersSink : Bool → StreamState → StreamState → Status → Opt
 AnswersSink events before after statuses.Ok (Some report) = Appends before.told after.told (report_text report events) × (report.status ≡ 0) × NoneFailed before after
 AnswersSink events before after statuses.ReadsFailed (Some report) = Appends before.told after.told (report_text report events) × (report.status ≡ 1) × NoneFailed before after
 AnswersSink events before after statuses.PoolFault (Some report) = Appends before.told after.told (report_text report events) × (report.status ≡ 6) × NoneFailed before after
+AnswersSink events before after (statuses.PoolFull need left) (Some report) = Appends before.told after.told (report_text report events) × (report.status ≡ 8) × NoneFailed before after
 AnswersSink events before after statuses.SinkFault (Some report) =
     AppendsFront before.told after.told (report_text report events) × OneFailed before after
 AnswersSink events before after statuses.Ok None = after ≡ before
 AnswersSink events before after statuses.ReadsFailed None = after ≡ before
 AnswersSink events before after statuses.PoolFault None = after ≡ before
+AnswersSink events before after (statuses.PoolFull need left) None = after ≡ before
 AnswersSink events before after statuses.SinkFault None = after ≡ before
 AnswersSink events before after (statuses.Usage index) report = after ≡ before
 AnswersSink events before after (statuses.BadTrace line kind) report = after ≡ before
@@ -218,6 +243,7 @@ AnswersPageSource before after (statuses.Usage index) = NoneFailed before after
 AnswersPageSource before after statuses.SinkFault = NoneFailed before after
 AnswersPageSource before after statuses.PoolFault = NoneFailed before after
 AnswersPageSource before after statuses.NoMemory = NoneFailed before after
+AnswersPageSource before after (statuses.PoolFull need left) = NoneFailed before after
 AnswersPageSource before after (statuses.Illegal shard index) = ⊥
 
 -- What was read and written for a list of pages, with room for c of them: the text of the pages, a front of it where the sink failed,
@@ -236,6 +262,7 @@ AnswersPages c source_before source_after sink_before sink_after statuses.Source
 AnswersPages c source_before source_after sink_before sink_after statuses.NoMemory = NoneFailed source_before source_after × (sink_after ≡ sink_before)
 AnswersPages c source_before source_after sink_before sink_after statuses.ReadsFailed = ⊥
 AnswersPages c source_before source_after sink_before sink_after statuses.PoolFault = ⊥
+AnswersPages c source_before source_after sink_before sink_after (statuses.PoolFull need left) = ⊥
 AnswersPages c source_before source_after sink_before sink_after (statuses.Usage index) = ⊥
 AnswersPages c source_before source_after sink_before sink_after (statuses.Illegal shard index) = ⊥
 
@@ -263,6 +290,7 @@ AnswersLogSource before after statuses.ReadsFailed = ⊥
 AnswersLogSource before after (statuses.Usage index) = ⊥
 AnswersLogSource before after statuses.SinkFault = ⊥
 AnswersLogSource before after statuses.PoolFault = ⊥
+AnswersLogSource before after (statuses.PoolFull need left) = ⊥
 AnswersLogSource before after (statuses.Illegal shard index) = ⊥
 
 -- The source gave a log, and this is the verdict on it: each history is legal from the opening of the log's configuration, and the ends are those
@@ -296,6 +324,7 @@ AnswersLog source_before source_after sink_before sink_after statuses.SourceFaul
 AnswersLog source_before source_after sink_before sink_after statuses.NoMemory = NoneFailed source_before source_after × (sink_after ≡ sink_before)
 AnswersLog source_before source_after sink_before sink_after statuses.ReadsFailed = ⊥
 AnswersLog source_before source_after sink_before sink_after statuses.PoolFault = ⊥
+AnswersLog source_before source_after sink_before sink_after (statuses.PoolFull need left) = ⊥
 AnswersLog source_before source_after sink_before sink_after (statuses.Usage index) = ⊥
 
 -- ---- what each command does
@@ -314,7 +343,7 @@ pub record DoesRun {P D : Type 0} (pool : Ghosts P) (device : Devices D) (events
   pub took : TakesAtMost before.source.told after.source.told (longest_text + 1)
   pub unrun : OnFalse (ran status) ((after.pool ≡ before.pool) × (after.cache ≡ before.cache))
   pub cache : MayLose device before.cache after.cache
-  pub reported : IfReported report closed (IsReport pool device before after)
+  pub reported : IfReported report closed (IsReport pool device before after status)
   pub sink : AnswersSink events before.sink after.sink status report
   pub present : is_some report ≡ has_report status
 
@@ -325,6 +354,7 @@ IsGenStatus statuses.SinkFault = Unit {0}
 IsGenStatus statuses.NoMemory = Unit {0}
 IsGenStatus statuses.ReadsFailed = ⊥
 IsGenStatus statuses.PoolFault = ⊥
+IsGenStatus (statuses.PoolFull need left) = ⊥
 IsGenStatus (statuses.Usage index) = ⊥
 IsGenStatus (statuses.BadTrace line kind) = ⊥
 IsGenStatus statuses.SourceFault = ⊥
@@ -374,6 +404,7 @@ IfUsage statuses.SourceFault fact = Unit {0}
 IfUsage statuses.SinkFault fact = Unit {0}
 IfUsage statuses.PoolFault fact = Unit {0}
 IfUsage statuses.NoMemory fact = Unit {0}
+IfUsage (statuses.PoolFull need left) fact = Unit {0}
 IfUsage (statuses.Illegal shard index) fact = Unit {0}
 
 -- a status at which a trace was not read
@@ -386,11 +417,8 @@ IsReadStatus statuses.ReadsFailed = ⊥
 IsReadStatus (statuses.Usage index) = ⊥
 IsReadStatus statuses.SinkFault = ⊥
 IsReadStatus statuses.PoolFault = ⊥
+IsReadStatus (statuses.PoolFull need left) = ⊥
 IsReadStatus (statuses.Illegal shard index) = ⊥
-
--- the status of a report of a run
-abbrev pub IsReportStatus : ℕ → Type 0
-IsReportStatus status = (status ≡ 0) ⊎ (status ≡ 1) ⊎ (status ≡ 6)
 
 -- a status at which a trace was run
 abbrev pub IsDelivered : Status → Type 0
@@ -399,6 +427,7 @@ IsDelivered statuses.ReadsFailed = Unit {0}
 IsDelivered statuses.SinkFault = Unit {0}
 IsDelivered statuses.PoolFault = Unit {0}
 IsDelivered statuses.NoMemory = Unit {0}
+IsDelivered (statuses.PoolFull need left) = Unit {0}
 IsDelivered (statuses.Usage index) = ⊥
 IsDelivered (statuses.BadTrace line kind) = ⊥
 IsDelivered statuses.SourceFault = ⊥

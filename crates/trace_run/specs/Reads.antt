@@ -28,7 +28,7 @@ use Rattle.trace_run.specs.one_caller.OneCaller.{key_held_by}
 use Rattle.trace_run.specs.KeptReads.{kept_read}
 use Rattle.trace_run.specs.Read.{IsFromPool, IsMismatch, IsReadOf}
 use Rattle.arc_table.specs.Seen.{AddsAll, AddsOwn, HasAll, seen_of}
-use Rattle.trace_run.specs.Making.{HasTold, MadeItsOwn}
+use Rattle.trace_run.specs.Deeds.{HasToldAll, KeepsCells, Noted, SameMade}
 
 module _ {C : Type 0} where
   -- what a party that has every number finds of a shard: the replay of what it has seen
@@ -44,7 +44,7 @@ module _ {C : Type 0} where
     pub made : List Moment
     pub own : AddsOwn g (shard_of g.shards (act_key act)) made p q
     pub act_is : StandsFor act made
-    pub only : MadeItsOwn g p → MadeItsOwn g q
+    pub same : SameMade g p q
     pub alone : HasAll p → AddsAll g (shard_of g.shards (act_key act)) es p q
     pub all : HasAll p → HasAll q
     pub joined : q.joined ≡ p.joined
@@ -61,7 +61,8 @@ module _ {C : Type 0} where
   -- In one shard the party's own number has these acts more. A party that is alone has seen just these events more, and in no other shard any.
   pub record DidActs (g : Config) (shard : ℕ) (acts : List Act) (es : List Event) (p q : Place (Known C)) : Type 0 where
     pub number : q.number ≡ p.number
-    pub told : (before : List Act) → HasTold g before p → HasTold g (before ++ acts) q
+    pub told : (before : List Act) (noted : List Noted) → HasToldAll g before noted p → HasToldAll g (before ++ acts) noted q
+    pub keeps : KeepsCells g p q
     pub alone : HasAll p → AddsAll g shard es p q
     pub all : HasAll p → HasAll q
     pub joined : q.joined ≡ p.joined

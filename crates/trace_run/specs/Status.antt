@@ -12,4 +12,5 @@ code_of statuses.SourceFault = 4
 code_of statuses.SinkFault = 5
 code_of statuses.PoolFault = 6
 code_of statuses.NoMemory = 7
+code_of (statuses.PoolFull need left) = 8
 code_of (statuses.Illegal shard index) = 10

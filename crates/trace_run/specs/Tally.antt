@@ -9,6 +9,7 @@ use Rattle.trace_text.specs.declared.reply.Reply.TheVariants.{Capped}
 use Rattle.trace_run.specs.KeptReads.{KeptRead}
 use Rattle.trace_run.specs.Answers.{AnswersRead, AnswersHold, AnswersDrop, kept_reads, dropped_reads}
 use Rattle.trace_run.specs.Lines.{caller_of}
+use Rattle.trace_run.specs.ObjectLines.{IsSized}
 use Rattle.trace_run.specs.one_caller.OneCaller.{is_of_block, kept_after}
 
 -- how many of the kept reads are of the block
@@ -37,9 +38,9 @@ AreAnswered pool_len image blocks kept (op ∷ ops) [] = ⊥
 AreAnswered pool_len image blocks kept (op ∷ ops) (reply ∷ replies) =
     AnswersNow pool_len image blocks kept op reply × AreAnswered pool_len image blocks (kept_after blocks op reply kept) ops replies
 
--- each operation is on a block that is declared, of so many, or on none
+-- each operation is on a block that is declared, of so many, or on none; and what is written whole has a size that a block may have
 abbrev pub AreDeclared : ℕ → List Op → Type 0
-AreDeclared blocks ops = (k : ℕ) (op : Op) → slice_get ops k ≡ Some op → IsOnDeclared blocks op
+AreDeclared blocks ops = (k : ℕ) (op : Op) → slice_get ops k ≡ Some op → IsOnDeclared blocks op × IsSized op
 
 -- each operation that is a caller's is this caller's
 abbrev pub IsOfCaller : ℕ → List Op → Type 0

@@ -1,3 +1,4 @@
+pub mod Beside
 pub mod CallerLines
 pub mod Callers
 pub mod DeviceForks

@@ -1,5 +1,5 @@
 //! The run of a trace with one caller over the shared cache.
-ghost use Rattle.std.specs.Prelude.{◌≡◌, ℕ, [], IfOk, List, false, map};
+ghost use Rattle.std.specs.Prelude.{◌≡◌, ℕ, [], IfOk, List, map};
 ghost use Rattle.arc_lists.specs.Adapting.{IsCapacity};
 ghost use Rattle.arc_table.specs.Geometry.{parties_of};
 ghost use Rattle.arc_table.specs.Reading.{KeepsDevice};
@@ -10,6 +10,7 @@ ghost use Rattle.trace_text.specs.Grammar.{IsFormed, IsOperation};
 ghost use Rattle.trace_run.specs.declared.kept_blocks.KeptBlock.{KeptBlock};
 ghost use Rattle.trace_run.specs.one_caller.Alone.{RanAlone};
 ghost use Rattle.trace_run.specs.callers.CallerLines.{DidLines, HasFed, HasResized, at};
+ghost use Rattle.trace_run.specs.RunWork.{only_ended};
 ghost use Rattle.trace_run.specs.CellEnds.{AreCellsOf, HasSeenEnds};
 ghost use Rattle.trace_run.specs.KeptBlocks.{Stands, read_of};
 ghost use Rattle.trace_run.specs.Meeting.{HasFeeder};
@@ -25,9 +26,9 @@ ghost use Rattle.trace_run.specs.Restores.{restored_shard, restores_in};
 use crate::cells::end_cells_joined;
 use crate::device::Device;
 use crate::kept_blocks::{KeptBlocks, give_back_all};
-use crate::lines::{is_of_caller, line};
+use crate::lines::{is_of_caller, is_on_object, line};
 use crate::opening::open_cache;
-use crate::ran::Ran;
+use crate::ran::{Ending, Ran};
 use crate::resizing::resize_joined;
 use crate::restoring::restore_joined;
 use arc_core::Restored;
@@ -200,8 +201,12 @@ fn lines_alone<P: Pool, D: CacheDev, G: Gate>(
             replies.push(reply)?;
             continue;
         }
+        // A trace of one caller with a line on an object is refused before it is run.
+        if is_on_object(op) {
+            return Err(NoMemory);
+        }
         gate.before(caller, number as u32);
-        let reply = line(rt, arcs, &mut party, kept, pool, device, blocks, op)?;
+        let reply = line(alloc, rt, arcs, &mut party, kept, pool, device, blocks, op)?;
         gate.after(caller, number as u32);
         replies.push(reply)?;
     }
@@ -224,8 +229,8 @@ fn run_over<P: Pool, D: CacheDev, G: Gate>(
     ensures ran { IfOk result (λ ran. RanAlone P.Pool pool.old pool.new trace.now restored.now ran.replies.items ran.closed) }
     ensures asks { IfOk result (λ ran. (calls : List Call) × AsksLines D.CacheDev trace.now.config.shards trace.now.blocks (restored_shard trace.now.config restored.now) []
         trace.now.ops ran.replies.items calls device.old device.new) }
-    ensures cells { IfOk result (λ ran. AreCellsOf trace.now ran.closed) }
-    ensures fork { IfOk result (λ ran. ran.fork_failed ≡ false) }
+    ensures cells { IfOk result (λ ran. AreCellsOf trace.now (only_ended trace.now.config) ran.closed) }
+    ensures whole { IfOk result (λ ran. ran.ending ≡ Ending.Whole) }
     ensures pool { KeepsPool P.Pool pool.old pool.new }
     ensures device { KeepsDevice D.CacheDev device.old device.new }
 {
@@ -242,7 +247,7 @@ fn run_over<P: Pool, D: CacheDev, G: Gate>(
     Ok(Ran {
         replies,
         closed,
-        fork_failed: false,
+        ending: Ending::Whole,
     })
 }
 
@@ -261,8 +266,8 @@ pub(crate) fn run_alone<P: Pool, D: CacheDev, G: Gate>(
     requires keys { HaveKeys restored.now }
     ensures ran { IfOk result (λ ran. RanAlone P.Pool pool.old pool.new trace.now restored.now ran.replies.items ran.closed) }
     ensures read { IfOk result (λ ran. ReadsAlone P.Pool D.CacheDev pool.old trace.now restored.now ran.replies.items (lent_in device.old) (lent_in device.new)) }
-    ensures cells { IfOk result (λ ran. AreCellsOf trace.now ran.closed) }
-    ensures fork { IfOk result (λ ran. ran.fork_failed ≡ false) }
+    ensures cells { IfOk result (λ ran. AreCellsOf trace.now (only_ended trace.now.config) ran.closed) }
+    ensures whole { IfOk result (λ ran. ran.ending ≡ Ending.Whole) }
     ensures pool { KeepsPool P.Pool pool.old pool.new }
     ensures device { WasLent D.CacheDev device.old device.new }
 {

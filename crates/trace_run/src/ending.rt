@@ -5,6 +5,7 @@ ghost use Rattle.std.specs.List.{AllByRecursion};
 ghost use Rattle.arc_table.specs.Geometry.{parties_of};
 ghost use Rattle.arc_core.specs.declared.event.Event.{Event};
 ghost use Rattle.arc_core.specs.Operations.{Act};
+ghost use Rattle.trace_run.specs.Deeds.{Noted};
 ghost use Rattle.trace_run.specs.Meeting.{AreLast, AreWaiting, FirstGaveBack, FirstMayGoOn, GaveBackJoined, HaveGivenBack, IsFed, JoinAll, MayGoOn, MayJoin, MayPart, PartAll};
 
 use crate::kept_blocks::{KeptBlocks, give_back_all};
@@ -104,10 +105,10 @@ pub(crate) fn all_give_back<C: Keeps>(
 ) -> Result<Vec<Party<C>>, NoMemory>
     requires parties { arcs.now.row.parties ≡ parties_of arcs.now.config }
     requires count { vec_len kept ≡ arcs.now.config.callers }
-    requires callers { (acts : ℕ → List Act) × AreWaiting arcs.now acts 0 kept.items callers.items }
+    requires callers { (acts : ℕ → List Act) × (noted : ℕ → List Noted) × AreWaiting arcs.now acts noted 0 kept.items callers.items }
     requires feeder { (openings : List (List ℕ)) × (feeds since : (shard : ℕ) → List Event) × IsFed arcs.now openings feeds since feeder }
-    ensures { IfOk result (λ parties. (acts : ℕ → List Act) → AreWaiting arcs.now acts 0 kept.items callers.items
-        → (openings : List (List ℕ)) (feeds since : (shard : ℕ) → List Event) → IsFed arcs.now openings feeds since feeder → HaveGivenBack arcs.now acts openings feeds since kept.items parties.items) }
+    ensures { IfOk result (λ parties. (acts : ℕ → List Act) (noted : ℕ → List Noted) → AreWaiting arcs.now acts noted 0 kept.items callers.items
+        → (openings : List (List ℕ)) (feeds since : (shard : ℕ) → List Event) → IsFed arcs.now openings feeds since feeder → HaveGivenBack arcs.now acts noted openings feeds since kept.items parties.items) }
 {
     let mut parties = give_back_joined(alloc, rt, arcs, feeder, KeptBlocks::new(alloc), callers)?;
     for reads in kept {

@@ -1,16 +1,20 @@
-//! The work of several callers at once, each by its own lines, with its own party and its own forks of the pool and of the cache device.
+//! The work of several callers at once, each by its own lines, with its own party and its own forks of the pool and of the cache device; and of the feeder
+//! beside them.
 ghost use Rattle.std.specs.Prelude.{All, ◌≡◌, ℕ, ◌<◌, ◌≤◌, ◌+◌, ◌^◌, ◌++◌, ◌∷◌, [], IfOk, IsErrOf, List, OnErr, OnOk, filter, length, map, vec_len};
 ghost use Rattle.std.specs.List.{AllByRecursion, AllZip};
 ghost use Rattle.vdev_io.specs.Calls.{KeepsPool};
 ghost use Rattle.trace_text.specs.declared.reply.Reply.{Reply};
 ghost use Rattle.vdev_io.specs.Faults.{CountsIoFault, Rose, last_count};
 ghost use Rattle.vdev_io.specs.declared.fault.IoFault.{IoFault};
+ghost use Rattle.dbuf_cells.specs.Turns.{dbuf_meanings};
 ghost use Rattle.trace_run.specs.DeviceReads.{AsksGiven};
 ghost use Rattle.trace_run.specs.Devices.{WasLent, lent_in};
 ghost use Rattle.trace_run.specs.KeptBlocks.{Stands, read_of};
 ghost use Rattle.trace_run.specs.Lines.{is_of_caller};
 ghost use Rattle.trace_run.specs.callers.CallerLines.{DidLines, at};
-ghost use Rattle.trace_run.specs.callers.DeviceForks.{HasAsked, HaveRead, TakesForkBack, TakesForksBack};
+ghost use Rattle.trace_run.specs.Feeds.{DoesFeeds, IsIdleFeeder, MayBeFed, TriesFeeds, is_feed};
+ghost use Rattle.trace_run.specs.callers.Beside.{TriesBeside, WorksBeside};
+ghost use Rattle.trace_run.specs.callers.DeviceForks.{HasAsked, TakesForkBack, TakesForksBack};
 ghost use Rattle.trace_run.specs.one_caller.OverShards.{AreNamed};
 ghost use Rattle.trace_run.specs.callers.Callers.{Absorbs, AbsorbsAll, AreAtStart, AreEnlisted, HasTried, HaveComeBack, IsReady, Replied};
 ghost use Rattle.trace_run.specs.callers.Group.{HaveWorked, IsFork, LeavesPool};
@@ -18,11 +22,13 @@ ghost use Rattle.trace_run.specs.Tally.{AreDeclared};
 
 use crate::device::Device;
 use crate::device_forks::{device_forks, take_fork_back};
+use crate::feeder::{feed_lines, has_feed};
 use crate::kept_blocks::KeptBlocks;
-use crate::lines::all_lines;
+use crate::lines::{all_lines, has_objects};
 use arc_core::Keeps;
-use arc_table::{Arcs, Party};
+use arc_table::Party;
 use blk_ptr::{NoMemory, Ptr};
+use dbuf_cells::{Cells, HeapCell};
 use std::alloc::Global;
 use std::sync::Wait;
 use std::thread;
@@ -142,11 +148,11 @@ fn enlist<C: Keeps, P: Pool, D: CacheDev>(
 }
 
 /// Does the lines of a caller over the cache device that it was given, or over none.
-fn lines_over<C: Keeps, P: Pool, D: CacheDev, G: Gate>(
+fn lines_over<P: Pool, D: CacheDev, G: Gate>(
     alloc: Global,
     rt: &impl Wait,
-    arcs: &Arcs<C>,
-    party: &mut Party<C>,
+    arcs: &Cells,
+    party: &mut Party<HeapCell>,
     kept: &mut KeptBlocks,
     pool: &mut P,
     device: &mut Option<D>,
@@ -164,6 +170,10 @@ fn lines_over<C: Keeps, P: Pool, D: CacheDev, G: Gate>(
         (at party.old (map read_of kept.old) pool.old) (at party.new (map read_of kept.new) pool.new)) }
     ensures asked { IfOk result (λ replies. AsksGiven D.CacheDev blocks.now (filter (is_of_caller party.old.number) ops.now) replies.items device.old device.new) }
 {
+    // A trace with a line on an object is refused before it is run.
+    if has_objects(ops) {
+        return Err(NoMemory);
+    }
     match device {
         Some(device) => all_lines(
             alloc, rt, arcs, party, kept, pool, device, blocks, ops, first, gate,
@@ -185,11 +195,11 @@ fn lines_over<C: Keeps, P: Pool, D: CacheDev, G: Gate>(
 }
 
 /// Does the lines of a caller.
-fn work<C: Keeps, P: Pool, D: CacheDev, G: Gate>(
+fn work<P: Pool, D: CacheDev, G: Gate>(
     alloc: Global,
     rt: &impl Wait,
-    arcs: &Arcs<C>,
-    caller: &mut Caller<C, P, D>,
+    arcs: &Cells,
+    caller: &mut Caller<HeapCell, P, D>,
     blocks: &[Ptr],
     ops: &[Op],
     first: u32,
@@ -217,11 +227,11 @@ fn work<C: Keeps, P: Pool, D: CacheDev, G: Gate>(
 }
 
 /// Does the lines of all callers, each in a thread of its own where one can be started.
-fn work_all<R: Threads + Wait + Sync, C: Keeps + Send, P: Pool, D: CacheDev, G: Gate>(
+fn work_all<R: Threads + Wait + Sync, P: Pool, D: CacheDev, G: Gate>(
     alloc: Global,
     rt: &R,
-    arcs: &Arcs<C>,
-    callers: &mut [Caller<C, P, D>],
+    arcs: &Cells,
+    callers: &mut [Caller<HeapCell, P, D>],
     blocks: &[Ptr],
     ops: &[Op],
     first: u32,
@@ -233,11 +243,106 @@ fn work_all<R: Threads + Wait + Sync, C: Keeps + Send, P: Pool, D: CacheDev, G: 
     ensures tried { AllZip (HasTried arcs.now P.Pool blocks.now ops.now) callers.old callers.new }
     ensures asked { AllZip (HasAsked D.CacheDev blocks.now ops.now) callers.old callers.new }
 {
-    let each = |_: usize, caller: &mut Caller<C, P, D>|
+    let each = |_: usize, caller: &mut Caller<HeapCell, P, D>|
         requires { IsReady arcs.now blocks.now caller.old × AreDeclared (length blocks.now) ops.now × (first + length ops.now < 2 ^ 32) }
         ensures { HasTried arcs.entry.now P.Pool blocks.entry.now ops.entry.now caller.old caller.new × HasAsked D.CacheDev blocks.entry.now ops.entry.now caller.old caller.new }
     { work(alloc, rt, arcs, caller, blocks, ops, first, gate) };
     thread::for_each_mut(rt, callers, MOST_CALLERS, &each);
+}
+
+/// The same of callers in a vector.
+fn work_lines<R: Threads + Wait + Sync, P: Pool, D: CacheDev, G: Gate>(
+    alloc: Global,
+    rt: &R,
+    arcs: &Cells,
+    callers: &mut Vec<Caller<HeapCell, P, D>>,
+    blocks: &[Ptr],
+    ops: &[Op],
+    first: u32,
+    gate: &G,
+)
+    requires ready { AllByRecursion (IsReady arcs.now blocks.now) callers.old.items }
+    requires declared { AreDeclared (length blocks.now) ops.now }
+    requires few { first + length ops.now < 2 ^ 32 }
+    ensures tried { AllZip (HasTried arcs.now P.Pool blocks.now ops.now) callers.old.items callers.new.items }
+    ensures asked { AllZip (HasAsked D.CacheDev blocks.now ops.now) callers.old.items callers.new.items }
+{
+    work_all(alloc, rt, arcs, callers, blocks, ops, first, gate);
+}
+
+/// Does the lines of all callers, and beside them, in a thread of its own where one can be started, what the closure does.
+fn work_beside<R: Threads + Wait + Sync, P: Pool, D: CacheDev, G: Gate, F>(
+    alloc: Global,
+    rt: &R,
+    arcs: &Cells,
+    callers: &mut Vec<Caller<HeapCell, P, D>>,
+    blocks: &[Ptr],
+    ops: &[Op],
+    first: u32,
+    gate: &G,
+    feed: &mut F,
+) -> Result<Vec<Reply>, NoMemory>
+where
+    F: FnMut() -> Result<Vec<Reply>, NoMemory> + Send,
+    requires feed { F.pre feed.old }
+    requires ready { AllByRecursion (IsReady arcs.now blocks.now) callers.old.items }
+    requires declared { AreDeclared (length blocks.now) ops.now }
+    requires few { first + length ops.now < 2 ^ 32 }
+    ensures feed { F.step feed.old result feed.new }
+    ensures worked { AllZip (HasTried arcs.now P.Pool blocks.now ops.now) callers.old.items callers.new.items }
+    ensures asked { AllZip (HasAsked D.CacheDev blocks.now ops.now) callers.old.items callers.new.items }
+{
+    let (replies, ()) = thread::join_mut(
+        rt,
+        feed,
+        &mut ||
+            requires { AllByRecursion (IsReady arcs.now blocks.now) callers.now.items × AreDeclared (length blocks.now) ops.now × (first + length ops.now < 2 ^ 32) }
+            ensures worked { AllZip (HasTried arcs.entry.now P.Pool blocks.entry.now ops.entry.now) callers.entry.now.items callers.exit.now.items }
+            ensures asked { AllZip (HasAsked D.CacheDev blocks.entry.now ops.entry.now) callers.entry.now.items callers.exit.now.items }
+        { work_lines(alloc, rt, arcs, callers, blocks, ops, first, gate) },
+    );
+    replies
+}
+
+/// Does the lines of all callers, and beside them the lines `feed`. Where there are none, no thread more is started.
+fn work_and_feed<R: Threads + Wait + Sync, P: Pool, D: CacheDev, G: Gate>(
+    alloc: Global,
+    rt: &R,
+    arcs: &Cells,
+    callers: &mut Vec<Caller<HeapCell, P, D>>,
+    feeder: &mut Party<HeapCell>,
+    device: &mut Device<D>,
+    blocks: &[Ptr],
+    ops: &[Op],
+    first: u32,
+    gate: &G,
+) -> Result<Vec<Reply>, NoMemory>
+    requires ready { AllByRecursion (IsReady arcs.now blocks.now) callers.old.items }
+    requires declared { AreDeclared (length blocks.now) ops.now }
+    requires few { first + length ops.now < 2 ^ 32 }
+    requires feeder { IsIdleFeeder arcs.now feeder.old }
+    requires device { MayBeFed D.CacheDev arcs.now.config device.old }
+    ensures worked { AllZip (HasTried arcs.now P.Pool blocks.now ops.now) callers.old.items callers.new.items }
+    ensures asked { AllZip (HasAsked D.CacheDev blocks.now ops.now) callers.old.items callers.new.items }
+    ensures feeder { IsIdleFeeder arcs.now feeder.new }
+    ensures device { MayBeFed D.CacheDev arcs.now.config device.new }
+    ensures tried { TriesFeeds dbuf_meanings D.CacheDev arcs.now (filter is_feed ops.now) device.old device.new feeder.old feeder.new }
+    ensures fed { IfOk result (λ replies. DoesFeeds dbuf_meanings D.CacheDev arcs.now (filter is_feed ops.now) replies.items device.old device.new feeder.old feeder.new) }
+{
+    if !has_feed(ops) {
+        work_lines(alloc, rt, arcs, callers, blocks, ops, first, gate);
+        return Ok(Vec::new(alloc));
+    }
+    let mut feed = ||
+        requires { IsIdleFeeder arcs.now feeder.now × MayBeFed D.CacheDev arcs.now.config device.now }
+        ensures feeder { IsIdleFeeder arcs.entry.now feeder.exit.now }
+        ensures device { MayBeFed D.CacheDev arcs.entry.now.config device.exit.now }
+        ensures tried { TriesFeeds dbuf_meanings D.CacheDev arcs.entry.now (filter is_feed ops.entry.now) device.entry.now device.exit.now feeder.entry.now feeder.exit.now }
+        ensures fed { IfOk result (λ replies. DoesFeeds dbuf_meanings D.CacheDev arcs.entry.now (filter is_feed ops.entry.now) replies.items device.entry.now device.exit.now feeder.entry.now feeder.exit.now) }
+    { feed_lines(alloc, rt, arcs, feeder, device, ops) };
+    work_beside(
+        alloc, rt, arcs, callers, blocks, ops, first, gate, &mut feed,
+    )
 }
 
 /// Takes a caller back that has done its lines: the pool and the cache device take its forks.
@@ -300,13 +405,15 @@ fn take_all_back<C: Keeps, P: Pool, D: CacheDev>(
 }
 
 /// Lets callers work at once, each by its own lines among these, with its own party, the reads that it keeps and its own forks of the pool and of
-/// the cache device. Then these take their forks back, by their numbers. The first of the lines has this number in the trace.
-pub(crate) fn run_group<R: Threads + Wait + Sync, C: Keeps + Send, P: Pool, D: CacheDev, G: Gate>(
+/// the cache device; and beside them the feeder, by the lines `feed`, with its party and the device itself. Then these take their forks back, by their
+/// numbers. The first of the lines has this number in the trace. The replies to the feeds are a list of their own.
+pub(crate) fn run_group<R: Threads + Wait + Sync, P: Pool, D: CacheDev, G: Gate>(
     alloc: Global,
     rt: &R,
-    arcs: &Arcs<C>,
-    parties: Vec<Party<C>>,
+    arcs: &Cells,
+    parties: Vec<Party<HeapCell>>,
     kept: Vec<KeptBlocks>,
+    feeder: &mut Party<HeapCell>,
     forks: Vec<P>,
     pool: &mut P,
     device: &mut Device<D>,
@@ -314,20 +421,37 @@ pub(crate) fn run_group<R: Threads + Wait + Sync, C: Keeps + Send, P: Pool, D: C
     ops: &[Op],
     first: u32,
     gate: &G,
-) -> Result<Worked<C>, NoMemory>
+) -> Result<(Worked<HeapCell>, Vec<Reply>), NoMemory>
     requires parties { AreAtStart arcs.now blocks.now 0 kept.items parties.items }
+    requires feeder { IsIdleFeeder arcs.now feeder.old }
+    requires device { MayBeFed D.CacheDev arcs.now.config device.old }
     requires forks { AllByRecursion (IsFork P.Pool pool.old) forks.items }
     requires same { vec_len forks ≡ vec_len parties }
     requires declared { AreDeclared (length blocks.now) ops.now }
     requires few { first + length ops.now < 2 ^ 32 }
-    ensures worked { IfOk result (λ worked. HaveWorked arcs.now P.Pool blocks.now ops.now (vec_len parties) pool.old pool.new (map (λ v. v.items) worked.replies.items)
-        kept.items parties.items worked.kept.items worked.parties.items) }
-    ensures read { IfOk result (λ worked. HaveRead D.CacheDev blocks.now ops.now (vec_len parties) (map (λ v. v.items) worked.replies.items) (lent_in device.old) (lent_in device.new)) }
+    ensures worked { IfOk result (λ done. HaveWorked arcs.now P.Pool blocks.now ops.now (vec_len parties) pool.old pool.new (map (λ v. v.items) done.0.replies.items)
+        kept.items parties.items done.0.kept.items done.0.parties.items) }
+    ensures beside { IfOk result (λ done. WorksBeside dbuf_meanings D.CacheDev arcs.now blocks.now ops.now (vec_len parties) (map (λ v. v.items) done.0.replies.items) done.1.items device.old device.new feeder.old feeder.new) }
+    ensures tried { TriesBeside dbuf_meanings D.CacheDev arcs.now ops.now device.old device.new feeder.old feeder.new }
+    ensures feeder { IsIdleFeeder arcs.now feeder.new }
+    ensures device { MayBeFed D.CacheDev arcs.now.config device.new }
     ensures pool { LeavesPool P.Pool pool.old pool.new }
-    ensures device { WasLent D.CacheDev device.old device.new }
 {
     let devices = device_forks(alloc, device, parties.len())?;
     let mut callers = enlist(alloc, parties, kept, forks, devices)?;
-    work_all(alloc, rt, arcs, &mut callers, blocks, ops, first, gate);
-    take_all_back(alloc, callers, pool, device)
+    let fed = work_and_feed(
+        alloc,
+        rt,
+        arcs,
+        &mut callers,
+        feeder,
+        device,
+        blocks,
+        ops,
+        first,
+        gate,
+    );
+    let worked = take_all_back(alloc, callers, pool, device)?;
+    let fed = fed?;
+    Ok((worked, fed))
 }

@@ -3,6 +3,9 @@ ghost use Rattle.std.specs.Prelude.{◌≡◌, ◌⊎◌, ℕ, ◌<◌, ◌≤�
 ghost use Rattle.std.specs.List.{AllByRecursion};
 ghost use Rattle.arc_core.specs.declared.served.Restored.{Restored};
 ghost use Rattle.arc_table.specs.Geometry.{parties_of};
+ghost use Rattle.arc_table.specs.declared.view.Known.{Known};
+ghost use Rattle.dbuf_cells.specs.Turns.{OnHeap, dbuf_meanings};
+ghost use Rattle.turn_table.specs.Places.{Place};
 ghost use Rattle.blk_ptr.specs.Key.{IsValid, key_end};
 ghost use Rattle.blk_ptr.specs.Size.{sector};
 ghost use Rattle.trace_text.specs.Grammar.{IsFormed, IsOperation};
@@ -10,7 +13,10 @@ ghost use Rattle.trace_text.specs.declared.op.Op.{Op};
 ghost use Rattle.trace_text.specs.declared.reply.Reply.{Reply};
 ghost use Rattle.trace_run.specs.Devices.{WasLent, lent_in};
 ghost use Rattle.trace_run.specs.callers.Callers.{AreAtStart};
+ghost use Rattle.trace_run.specs.Feeds.{IsIdleFeeder, MayBeFed};
+ghost use Rattle.trace_run.specs.callers.Beside.{TriesBeside, WorksInOrder};
 ghost use Rattle.trace_run.specs.callers.DeviceForks.{HaveReadSoFar, ReadAtOnce, these};
+ghost use Rattle.trace_run.specs.callers.InOrder.{AreInGroup};
 ghost use Rattle.trace_run.specs.callers.Group.{IsFork, LeavesPool};
 ghost use Rattle.trace_run.specs.callers.Groups.{AreBetween, AreOfCallers, DidEndLine, DidLinesAtOnce, AreDone, KeepNothing, MaySync, StepsOn};
 ghost use Rattle.trace_run.specs.Making.{AreNoEntries};
@@ -22,10 +28,11 @@ use crate::device::Device;
 use crate::group::{Worked, forks, run_group};
 use crate::in_order::in_order;
 use crate::kept_blocks::KeptBlocks;
+use crate::ran::Ending;
 use crate::resizing::resize_joined;
 use crate::syncing::{AfterSync, sync_joined};
 use arc_core::Keeps;
-use arc_table::{Arcs, Party};
+use arc_table::Party;
 use blk_ptr::{NoMemory, Ptr};
 use dbuf_cells::{Cells, HeapCell};
 use std::alloc::Global;
@@ -52,8 +59,8 @@ pub(crate) struct Came<C: Keeps> {
     pub(crate) crew: Crew<C>,
     /// The replies to the lines that were answered, in their order.
     pub(crate) replies: Vec<Reply>,
-    /// Whether a fork of the pool failed, which ended the run before the next group.
-    pub(crate) fork_failed: bool,
+    /// How the lines ended.
+    pub(crate) ending: Ending,
 }
 
 /// No reads for each of so many callers.
@@ -117,13 +124,13 @@ fn group_end(ops: &[Op], from: usize) -> usize
     ops.len()
 }
 
-/// The callers do the lines of a group at once, each on its forks of the pool and of the cache device. The replies, in the order of the lines, come
-/// behind those so far.
-fn lines_at_once<R: Threads + Wait + Sync, C: Keeps + Send, P: Pool, D: CacheDev, G: Gate>(
+/// The callers do the lines of a group at once, each on its forks of the pool and of the cache device, and beside them the feeder the lines `feed`. The
+/// replies stand in the order of the lines.
+fn lines_at_once<R: Threads + Wait + Sync, P: Pool, D: CacheDev, G: Gate>(
     alloc: Global,
     rt: &R,
-    arcs: &Arcs<C>,
-    crew: Crew<C>,
+    arcs: &Cells,
+    crew: Crew<HeapCell>,
     forks: Vec<P>,
     pool: &mut P,
     device: &mut Device<D>,
@@ -131,38 +138,87 @@ fn lines_at_once<R: Threads + Wait + Sync, C: Keeps + Send, P: Pool, D: CacheDev
     ops: &[Op],
     first: u32,
     gate: &G,
-) -> Result<(Crew<C>, Vec<Reply>), NoMemory>
+) -> Result<(Crew<HeapCell>, Vec<Reply>), NoMemory>
     requires start { AreAtStart arcs.now blocks.now 0 crew.kept.items crew.parties.items }
     requires forks { AllByRecursion (IsFork P.Pool pool.old) forks.items }
     requires same { vec_len forks ≡ vec_len crew.parties }
     requires declared { AreDeclared (length blocks.now) ops.now }
-    requires callers { AreOfCallers (vec_len crew.parties) ops.now }
+    requires group { AreInGroup (vec_len crew.parties) ops.now }
+    requires feeder { IsIdleFeeder arcs.now crew.feeder }
+    requires device { MayBeFed D.CacheDev arcs.now.config device.old }
     requires few { first + length ops.now < 2 ^ 32 }
     ensures did { IfOk result (λ done. DidLinesAtOnce arcs.now P.Pool blocks.now ops.now pool.old pool.new crew done.0 done.1.items) }
-    ensures read { IfOk result (λ done. ReadAtOnce D.CacheDev blocks.now (vec_len crew.parties) (these ops.now done.1.items) (lent_in device.old) (lent_in device.new)) }
+    ensures beside { IfOk result (λ done. WorksInOrder dbuf_meanings D.CacheDev arcs.now blocks.now ops.now (vec_len crew.parties) done.1.items device.old device.new crew.feeder done.0.feeder) }
+    ensures tried { (p : Place (Known OnHeap)) × TriesBeside dbuf_meanings D.CacheDev arcs.now ops.now device.old device.new crew.feeder p }
+    ensures feeder { IfOk result (λ done. IsIdleFeeder arcs.now done.0.feeder) }
+    ensures device { MayBeFed D.CacheDev arcs.now.config device.new }
     ensures pool { LeavesPool P.Pool pool.old pool.new }
-    ensures device { WasLent D.CacheDev device.old device.new }
 {
     let Crew {
-        feeder,
+        mut feeder,
         parties,
         kept,
     } = crew;
-    let worked = run_group(
-        alloc, rt, arcs, parties, kept, forks, pool, device, blocks, ops, first, gate,
+    let (worked, fed) = run_group(
+        alloc,
+        rt,
+        arcs,
+        parties,
+        kept,
+        &mut feeder,
+        forks,
+        pool,
+        device,
+        blocks,
+        ops,
+        first,
+        gate,
     )?;
     let Worked {
         parties,
         kept,
         replies,
     } = worked;
-    let replies = in_order(alloc, ops, replies)?;
+    let replies = in_order(alloc, ops, replies, fed)?;
     let crew = Crew {
         feeder,
         parties,
         kept,
     };
     Ok((crew, replies))
+}
+
+/// The lines of a group none of which asks for a feed: the feeder is as before, and the cache device was only lent.
+fn callers_at_once<R: Threads + Wait + Sync, P: Pool, D: CacheDev, G: Gate>(
+    alloc: Global,
+    rt: &R,
+    arcs: &Cells,
+    crew: Crew<HeapCell>,
+    forks: Vec<P>,
+    pool: &mut P,
+    device: &mut Device<D>,
+    blocks: &[Ptr],
+    ops: &[Op],
+    first: u32,
+    gate: &G,
+) -> Result<(Crew<HeapCell>, Vec<Reply>), NoMemory>
+    requires start { AreAtStart arcs.now blocks.now 0 crew.kept.items crew.parties.items }
+    requires forks { AllByRecursion (IsFork P.Pool pool.old) forks.items }
+    requires same { vec_len forks ≡ vec_len crew.parties }
+    requires declared { AreDeclared (length blocks.now) ops.now }
+    requires callers { AreOfCallers (vec_len crew.parties) ops.now }
+    requires feeder { IsIdleFeeder arcs.now crew.feeder }
+    requires device { MayBeFed D.CacheDev arcs.now.config device.old }
+    requires few { first + length ops.now < 2 ^ 32 }
+    ensures did { IfOk result (λ done. DidLinesAtOnce arcs.now P.Pool blocks.now ops.now pool.old pool.new crew done.0 done.1.items) }
+    ensures feeder { IfOk result (λ done. done.0.feeder ≡ crew.feeder) }
+    ensures read { IfOk result (λ done. ReadAtOnce D.CacheDev blocks.now (vec_len crew.parties) (these ops.now done.1.items) (lent_in device.old) (lent_in device.new)) }
+    ensures pool { LeavesPool P.Pool pool.old pool.new }
+    ensures device { WasLent D.CacheDev device.old device.new }
+{
+    lines_at_once(
+        alloc, rt, arcs, crew, forks, pool, device, blocks, ops, first, gate,
+    )
 }
 
 /// Where the syncs of a run stand.
@@ -290,6 +346,7 @@ fn next_group<R: Threads + Wait + Sync, P: Pool, D: CacheDev, G: Gate>(
     requires formed { IsFormed trace.now }
     requires config { arcs.now.config ≡ trace.now.config }
     requires rows { arcs.now.row.parties ≡ parties_of arcs.now.config }
+    requires device { MayBeFed D.CacheDev arcs.now.config device.old }
     requires between { (start : BetweenGroups P) × (restored : List Restored) × AreBetween arcs.now restored P.Pool trace.now start (between_groups pool.old syncs.group syncs.next) replies.old.items crew }
     requires more { vec_len replies.old < length trace.now.ops }
     ensures steps { (start : BetweenGroups P) (restored : List Restored) → AreBetween arcs.now restored P.Pool trace.now start (between_groups pool.old syncs.group syncs.next) replies.old.items crew
@@ -308,7 +365,7 @@ fn next_group<R: Threads + Wait + Sync, P: Pool, D: CacheDev, G: Gate>(
         Err(IoFault::Failed) => return Ok((crew, syncs, false)),
         Err(IoFault::NoMemory) => return Err(NoMemory),
     };
-    let (crew, answered) = lines_at_once(
+    let (crew, answered) = callers_at_once(
         alloc,
         rt,
         arcs,
@@ -345,9 +402,10 @@ pub(crate) fn all_groups<R: Threads + Wait + Sync, P: Pool, D: CacheDev, G: Gate
     requires formed { IsFormed trace.now }
     requires config { arcs.now.config ≡ trace.now.config }
     requires rows { arcs.now.row.parties ≡ parties_of arcs.now.config }
+    requires device { MayBeFed D.CacheDev arcs.now.config device.old }
     requires between { (restored : List Restored) × AreBetween arcs.now restored P.Pool trace.now (between_groups pool.old syncs.group syncs.next) (between_groups pool.old syncs.group syncs.next) [] crew }
     ensures stopped { (restored : List Restored) → AreBetween arcs.now restored P.Pool trace.now (between_groups pool.old syncs.group syncs.next) (between_groups pool.old syncs.group syncs.next) [] crew
-        → IfOk result (λ came. AreDone arcs.now restored P.Pool trace.now (between_groups pool.old syncs.group syncs.next) pool.new came.fork_failed came.replies.items came.crew) }
+        → IfOk result (λ came. AreDone arcs.now restored P.Pool trace.now (between_groups pool.old syncs.group syncs.next) pool.new came.ending came.replies.items came.crew) }
     ensures read { IfOk result (λ came. HaveReadSoFar D.CacheDev trace.now came.replies.items (lent_in device.old) (lent_in device.new)) }
     ensures pool { LeavesPool P.Pool pool.old pool.new }
     ensures device { WasLent D.CacheDev device.old device.new }
@@ -374,13 +432,13 @@ pub(crate) fn all_groups<R: Threads + Wait + Sync, P: Pool, D: CacheDev, G: Gate
             return Ok(Came {
                 crew,
                 replies,
-                fork_failed: true,
+                ending: Ending::Fork,
             });
         }
     }
     Ok(Came {
         crew,
         replies,
-        fork_failed: false,
+        ending: Ending::Whole,
     })
 }

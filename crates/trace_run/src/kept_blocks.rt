@@ -6,7 +6,7 @@ ghost use Rattle.trace_run.specs.Acts.{acts_of_drops};
 ghost use Rattle.trace_run.specs.KeptBlocks.{AreOfOthers, DroppedAlone, Drops, GivesAll, GivesKeptBack, IsTakenOut, Stands, read_of};
 ghost use Rattle.trace_run.specs.one_caller.OneCaller.{oldest_key, oldest_kept, without_oldest};
 ghost use Rattle.arc_table.specs.Seen.{HasAll};
-ghost use Rattle.trace_run.specs.Making.{HasTold};
+ghost use Rattle.trace_run.specs.Deeds.{HasToldAll, Noted};
 ghost use Rattle.trace_run.specs.declared.kept_blocks.KeptBlock.{KeptBlock};
 
 use arc_core::Keeps;
@@ -132,8 +132,8 @@ pub(crate) fn give_back_all<C: Keeps>(
     requires { Stands arcs.now party.old kept }
     ensures stands { Stands arcs.now party.new [] }
     ensures gives { GivesAll C.Keeps arcs.now.config kept party.old party.new }
-    ensures told { (before : List Act) → HasTold arcs.now.config before party.old
-        → HasTold arcs.now.config (before ++ acts_of_drops party.old.number (map read_of kept)) party.new }
+    ensures told { (before : List Act) (noted : List Noted) → HasToldAll arcs.now.config before noted party.old
+        → HasToldAll arcs.now.config (before ++ acts_of_drops party.old.number (map read_of kept)) noted party.new }
     ensures alone { HasAll party.old → DroppedAlone arcs.now.config (map read_of kept) party.old party.new }
 {
     while let Some(read) = kept.pop_oldest() {

@@ -1,6 +1,7 @@
 //! One caller's lines over the shared cache.
-ghost use Rattle.std.specs.Prelude.{◌≡◌, ◌≢◌, ◌<◌, ◌+◌, ◌^◌, [], IfOk, IfSome, List, None, OnErr, filter, length, map, true};
-ghost use Rattle.arc_table.specs.Reading.{KeepsDevice};
+ghost use Rattle.std.specs.Prelude.{◌≡◌, ◌≢◌, ◌<◌, ◌+◌, ◌^◌, [], IfOk, IfSome, List, None, OnErr, filter, is_some, length, map, true};
+ghost use Rattle.std.specs.List.{list_any};
+ghost use Rattle.arc_table.specs.Reading.{KeepsDevice, outside};
 ghost use Rattle.arc_table.specs.Seen.{HasAll};
 ghost use Rattle.blk_ptr.specs.Hash.{shard_of};
 ghost use Rattle.vdev_io.specs.Calls.{Call, KeepsPool, MakesCalls};
@@ -8,8 +9,9 @@ ghost use Rattle.dbuf_state.specs.Dbufs.{window_of};
 ghost use Rattle.trace_run.specs.Acts.{acts_of_hold, acts_of_read};
 ghost use Rattle.trace_run.specs.Answering.{KeepsImage, ReadsImage};
 ghost use Rattle.trace_run.specs.Answers.{AnswersDrop, AnswersHold, AnswersRead, IsInside};
-ghost use Rattle.trace_run.specs.callers.CallerLines.{DidLine, DidLines, at};
-ghost use Rattle.trace_run.specs.DeviceReads.{AsksFor, LineAsks, LinesAsk};
+ghost use Rattle.trace_run.specs.callers.WorkLines.{DidOps, DidWith, at_work};
+ghost use Rattle.trace_run.specs.DeviceReads.{AsksFor};
+ghost use Rattle.trace_run.specs.ObjectLines.{IsSized, on_object};
 ghost use Rattle.trace_run.specs.Effects.{calls_of, effect_of};
 ghost use Rattle.trace_run.specs.KeptBlocks.{Drops, Stands, read_of};
 ghost use Rattle.trace_run.specs.Lines.{caller_of, is_of_caller, shard_of_line};
@@ -23,9 +25,11 @@ ghost use Rattle.trace_run.specs.declared.kept_blocks.KeptBlock.{KeptBlock};
 
 use crate::get::{Got, get};
 use crate::kept_blocks::{KeptBlocks, give_back, give_back_oldest};
+use crate::objects::object_line;
 use arc_core::{Keeps, ReadFault};
 use arc_table::{Arcs, Party};
 use blk_ptr::{Block, NoMemory, Ptr, Shows};
+use dbuf_cells::{Cells, HeapCell};
 use std::alloc::Global;
 use std::sync::Wait;
 use trace_text::{Op, Refusal, Reply, Shown, Window};
@@ -165,10 +169,11 @@ fn drop_line<C: Keeps>(
 }
 
 /// Answers one operation of a caller.
-pub(crate) fn line<C: Keeps, P: Pool, D: CacheDev>(
+pub(crate) fn line<P: Pool, D: CacheDev>(
+    alloc: Global,
     rt: &impl Wait,
-    arcs: &Arcs<C>,
-    party: &mut Party<C>,
+    arcs: &Cells,
+    party: &mut Party<HeapCell>,
     kept: &mut KeptBlocks,
     pool: &mut P,
     device: &mut D,
@@ -179,15 +184,14 @@ pub(crate) fn line<C: Keeps, P: Pool, D: CacheDev>(
     requires own { is_of_caller party.old.number op.now ≡ true }
     requires declared { IsOnDeclared (length blocks.now) op.now }
     requires named { AreNamed blocks.now (map read_of kept.old) }
+    requires sized { IsSized op.now }
     ensures stands { IfOk result (λ reply. Stands arcs.now party.new kept.new) }
-    ensures asks { IfOk result (λ reply. HasAll party.old → (calls : List Call)
+    ensures did { IfOk result (λ reply. DidWith P.Pool D.CacheDev arcs.now.config blocks.now op.now reply
+        (at_work party.old (map read_of kept.old) (outside pool.old device.old)) (at_work party.new (map read_of kept.new) (outside pool.new device.new))) }
+    ensures asks { on_object op.now ≡ None → IfOk result (λ reply. HasAll party.old → (calls : List Call)
         × AsksLine D.CacheDev blocks.now (now_of arcs.now.config (shard_of_line arcs.now.config.shards blocks.now op.now) party.old) op.now reply calls device.old device.new) }
-    ensures keeps { KeepsDevice D.CacheDev device.old device.new }
-    ensures did { IfOk result (λ reply. DidLine arcs.now.config P.Pool blocks.now op.now reply
-        (at party.old (map read_of kept.old) pool.old) (at party.new (map read_of kept.new) pool.new)) }
     ensures pool { KeepsPool P.Pool pool.old pool.new }
-    ensures device { D.size device.new ≡ D.size device.old }
-    ensures asked { IfOk result (λ reply. LineAsks D.CacheDev blocks.now op.now reply device.old device.new) }
+    ensures device { KeepsDevice D.CacheDev device.old device.new }
 {
     match *op {
         Op::Read { t, x, w, .. } => {
@@ -207,9 +211,31 @@ pub(crate) fn line<C: Keeps, P: Pool, D: CacheDev>(
             )
         }
         Op::Drop { x, .. } => Ok(drop_line(rt, arcs, party, kept, x)),
-        // A trace with a line that is not done yet is refused before it is run, and a capacity is no caller's.
-        _ => Err(NoMemory),
+        Op::Get { .. } | Op::Put { .. } | Op::Patch { .. } | Op::Pin { .. } | Op::Unpin { .. } => {
+            object_line(alloc, rt, arcs, party, pool, device, op)
+        }
+        Op::Feed | Op::Txg { .. } | Op::Cap { .. } => unreachable!(),
     }
+}
+
+/// Whether an operation is on an object.
+pub(crate) fn is_on_object(op: &Op) -> bool
+    ensures { result ≡ is_some (on_object op.now) }
+{
+    match *op {
+        Op::Get { .. } | Op::Put { .. } | Op::Patch { .. } | Op::Pin { .. } | Op::Unpin { .. } => {
+            true
+        }
+        Op::Read { .. } | Op::Hold { .. } | Op::Drop { .. } => false,
+        Op::Feed | Op::Txg { .. } | Op::Cap { .. } => false,
+    }
+}
+
+/// Whether one of the operations is on an object.
+pub(crate) fn has_objects(ops: &[Op]) -> bool
+    ensures { result ≡ list_any (λ op. is_some (on_object op)) ops.now }
+{
+    ops.iter().any(|op| is_on_object(op))
 }
 
 /// The caller of an operation, where it is a caller's.
@@ -244,11 +270,11 @@ pub(crate) fn is_of_caller(op: &Op, caller: u32) -> bool
 
 /// Answers those of these operations that are this caller's, in their order, each between the gate's calls with its number in the trace, where
 /// the first of them has this one.
-pub(crate) fn all_lines<C: Keeps, P: Pool, D: CacheDev, G: Gate>(
+pub(crate) fn all_lines<P: Pool, D: CacheDev, G: Gate>(
     alloc: Global,
     rt: &impl Wait,
-    arcs: &Arcs<C>,
-    party: &mut Party<C>,
+    arcs: &Cells,
+    party: &mut Party<HeapCell>,
     kept: &mut KeptBlocks,
     pool: &mut P,
     device: &mut D,
@@ -262,11 +288,10 @@ pub(crate) fn all_lines<C: Keeps, P: Pool, D: CacheDev, G: Gate>(
     requires named { AreNamed blocks.now (map read_of kept.old) }
     requires few { first + length ops.now < 2 ^ 32 }
     ensures stands { IfOk result (λ replies. Stands arcs.now party.new kept.new) }
-    ensures did { IfOk result (λ replies. DidLines arcs.now.config P.Pool blocks.now (filter (is_of_caller party.old.number) ops.now) replies.items
-        (at party.old (map read_of kept.old) pool.old) (at party.new (map read_of kept.new) pool.new)) }
+    ensures did { IfOk result (λ replies. DidOps P.Pool D.CacheDev arcs.now.config blocks.now (filter (is_of_caller party.old.number) ops.now) replies.items
+        (at_work party.old (map read_of kept.old) (outside pool.old device.old)) (at_work party.new (map read_of kept.new) (outside pool.new device.new))) }
     ensures pool { KeepsPool P.Pool pool.old pool.new }
-    ensures device { D.size device.new ≡ D.size device.old }
-    ensures asked { IfOk result (λ replies. LinesAsk D.CacheDev blocks.now (filter (is_of_caller party.old.number) ops.now) replies.items device.old device.new) }
+    ensures device { KeepsDevice D.CacheDev device.old device.new }
 {
     let caller = party.number();
     let mut replies = Vec::new(alloc);
@@ -276,7 +301,7 @@ pub(crate) fn all_lines<C: Keeps, P: Pool, D: CacheDev, G: Gate>(
         }
         let number = first + number as u32;
         gate.before(caller, number);
-        let reply = line(rt, arcs, party, kept, pool, device, blocks, op)?;
+        let reply = line(alloc, rt, arcs, party, kept, pool, device, blocks, op)?;
         gate.after(caller, number);
         replies.push(reply)?;
     }

@@ -13,15 +13,28 @@ use std::alloc::Global;
 use std::sync::Arc;
 use trace_text::{Ends, Histories, History, Rebuilt, Replies, Reply, Report, ShardEnd};
 
+/// How the lines of a trace ended.
+#[derive(Clone, Copy)]
+pub(crate) enum Ending {
+    /// All are done.
+    Whole,
+    /// A fork of the pool failed as a group of lines began.
+    Fork,
+    /// The pool failed in a sync.
+    Sync,
+    /// A sync's dirty blocks need so many bytes, and the pool has so many left for them, which are fewer.
+    Full { need: u128, left: u64 },
+}
+
 /// What a run of a trace came to.
 #[derive(Drop)]
 pub(crate) struct Ran {
-    /// The answers to the operations, in the order of their lines; none where a fork of the pool failed.
+    /// The answers to the operations that were done, in the order of their lines.
     pub(crate) replies: Vec<Reply>,
     /// The shared cache at its end.
     pub(crate) closed: Closed<HeapCell>,
-    /// Whether a fork of the pool failed, which ended the run before its first operation.
-    pub(crate) fork_failed: bool,
+    /// How the lines ended.
+    pub(crate) ending: Ending,
 }
 
 /// The report of a run, and the closed cache whose histories it has.
@@ -29,6 +42,7 @@ pub(crate) struct Ran {
 pub(crate) struct Reported {
     pub(crate) report: Report,
     pub(crate) closed: Closed<HeapCell>,
+    pub(crate) ending: Ending,
 }
 
 impl Ran {
@@ -38,15 +52,16 @@ impl Ran {
         alloc: Global,
         rebuilt: Option<Rebuilt>,
     ) -> Result<Reported, NoMemory>
-        ensures report { IfOk result (λ told. told.report ≡ report_of_closed self.fork_failed rebuilt self.replies.items self.closed) }
+        ensures report { IfOk result (λ told. told.report ≡ report_of_closed self.ending rebuilt self.replies.items self.closed) }
         ensures closed { IfOk result (λ told. told.closed ≡ self.closed) }
+        ensures ending { IfOk result (λ told. told.ending ≡ self.ending) }
     {
         let histories = histories_of(alloc, &self.closed.shared_shards()?)?;
         let ends = ends_of(alloc, self.closed.shards())?;
-        let status = if self.fork_failed {
-            6
-        } else {
-            status_of(&self.replies)
+        let status = match self.ending {
+            Ending::Whole => status_of(&self.replies),
+            Ending::Fork | Ending::Sync => 6,
+            Ending::Full { .. } => 8,
         };
         let report = Report {
             replies: Replies::from_vec(self.replies),
@@ -60,6 +75,7 @@ impl Ran {
         Ok(Reported {
             report,
             closed: self.closed,
+            ending: self.ending,
         })
     }
 }

@@ -1,14 +1,16 @@
 //! The run of a trace, and its report.
-ghost use Rattle.std.specs.Prelude.{◌≡◌, ◌≤◌, Bool, IfOk, false};
+ghost use Rattle.std.specs.Prelude.{◌≡◌, ◌≤◌, IfOk, false};
 ghost use Rattle.l2_dev.specs.Rebuilding.{HaveKeys};
 ghost use Rattle.trace_text.specs.Grammar.{IsFormed};
 ghost use Rattle.trace_run.specs.Outcome.{IsGenReport, IsRun};
 ghost use Rattle.trace_run.specs.CellEnds.{AreCellsOf};
 ghost use Rattle.trace_run.specs.Devices.{WasLent, lent_in};
+ghost use Rattle.trace_run.specs.Feeds.{MayBeFed};
 ghost use Rattle.trace_run.specs.callers.DeviceForks.{ReadInGroups};
 ghost use Rattle.trace_run.specs.callers.Group.{LeavesPool};
 ghost use Rattle.trace_run.specs.Devices.{WasLent, lent_in};
 ghost use Rattle.trace_run.specs.Restores.{found_keys};
+ghost use Rattle.trace_run.specs.RunWork.{only_ended, plain_work};
 ghost use Rattle.trace_run.specs.callers.Together.{groups_of, report_status};
 ghost use Rattle.trace_run.specs.Words.{IsInRange};
 ghost use Rattle.trace_run.specs.declared.words.Command.TheVariants as command;
@@ -49,9 +51,10 @@ pub(crate) fn run_trace<R: Threads + Wait + Sync, P: Pool, D: CacheDev, G: Gate>
 ) -> Result<Reported, NoMemory>
     requires formed { IsFormed trace.now }
     requires keys { HaveKeys (found_keys rebuilt) }
-    ensures run { IfOk result (λ told. (fork_failed : Bool) × IsRun P.Pool D.CacheDev pool.old pool.new (lent_in device.old) (lent_in device.new) trace.now fork_failed told.closed told.report
-        × (told.report.status ≡ report_status fork_failed told.report.replies)) }
-    ensures cells { IfOk result (λ told. AreCellsOf trace.now told.closed) }
+    requires device { MayBeFed D.CacheDev trace.now.config device.old }
+    ensures run { IfOk result (λ told. IsRun P.Pool D.CacheDev pool.old pool.new (lent_in device.old) (lent_in device.new) trace.now told.ending (plain_work trace.now.ops told.report.replies) told.closed told.report
+        × (told.report.status ≡ report_status told.ending told.report.replies)) }
+    ensures cells { IfOk result (λ told. AreCellsOf trace.now (only_ended trace.now.config) told.closed) }
     ensures rebuilt { IfOk result (λ told. told.report.rebuilt ≡ rebuilt) }
     ensures whole { IfOk result (λ told. told.report.short ≡ false) }
     ensures together { IfOk result (λ told. 2 ≤ trace.now.config.callers
@@ -78,7 +81,8 @@ pub(crate) fn run_generated_trace<R: Threads + Wait + Sync, G: Gate>(
     gate: &G,
 ) -> Result<Reported, NoMemory>
     requires { IsInRange (command.Gen seed blocks ops) }
-    ensures { IfOk result (λ told. IsGenReport seed blocks ops told.closed told.report) }
+    ensures generated { IfOk result (λ told. IsGenReport seed blocks ops told.closed told.report) }
+    ensures status { IfOk result (λ told. told.report.status ≡ report_status told.ending told.report.replies) }
 {
     let trace = gen_trace(alloc, seed, blocks, ops)?;
     let mut pool = ZeroPool::new(u64::from(blocks) * SECTOR);

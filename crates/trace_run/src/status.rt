@@ -20,10 +20,12 @@ pub enum Status {
     SourceFault,
     /// The sink failed while the report was written.
     SinkFault,
-    /// A fork of the pool failed.
+    /// A fork of the pool failed, or the pool failed in a sync.
     PoolFault,
     /// Memory was refused.
     NoMemory,
+    /// The dirty blocks of a sync need `need` bytes, and the pool has `left` for them, which are fewer.
+    PoolFull { need: u128, left: u64 },
     /// A log of events was judged, and event `index` of shard `shard`, each counted from 0, may not come where it stands.
     Illegal { shard: u32, index: u64 },
 }
@@ -44,6 +46,7 @@ impl Status {
             Status::SinkFault => 5,
             Status::PoolFault => 6,
             Status::NoMemory => 7,
+            Status::PoolFull { .. } => 8,
             Status::Illegal { .. } => 10,
         }
     }

@@ -7,8 +7,11 @@ ghost use Rattle.arc_table.specs.Geometry.{parties_of};
 ghost use Rattle.arc_table.specs.declared.view.Line.{Line};
 ghost use Rattle.l2_dev.specs.Rebuilding.{HaveKeys};
 ghost use Rattle.trace_text.specs.Grammar.{IsFormed};
+ghost use Rattle.trace_run.specs.RunWork.{only_ended};
 ghost use Rattle.trace_run.specs.CellEnds.{AreCellsOf};
+ghost use Rattle.trace_run.specs.Deeds.{Noted};
 ghost use Rattle.trace_run.specs.Devices.{WasLent, lent_in};
+ghost use Rattle.trace_run.specs.Feeds.{MayBeFed};
 ghost use Rattle.trace_run.specs.callers.DeviceForks.{ReadInGroups};
 ghost use Rattle.trace_run.specs.callers.Together.{groups_of};
 ghost use Rattle.trace_run.specs.callers.Group.{LeavesPool};
@@ -50,7 +53,7 @@ fn close_crew(
 ) -> Result<Closed<HeapCell>, NoMemory>
     requires rows { arcs.row.parties ≡ parties_of arcs.config }
     requires count { vec_len crew.kept ≡ arcs.config.callers }
-    requires callers { (acts : ℕ → List Act) × AreWaiting arcs acts 0 crew.kept.items crew.parties.items }
+    requires callers { (acts : ℕ → List Act) × (noted : ℕ → List Noted) × AreWaiting arcs acts noted 0 crew.kept.items crew.parties.items }
     requires feeder { (openings : List (List ℕ)) × (feeds since : (shard : ℕ) → List Event) × IsFed arcs openings feeds since crew.feeder }
     ensures { IfOk result (λ closed. HaveClosed ⟦<HeapCell as Keeps>⟧ arcs crew closed) }
 {
@@ -104,8 +107,9 @@ pub(crate) fn run_together<R: Threads + Wait + Sync, P: Pool, D: CacheDev, G: Ga
 ) -> Result<Ran, NoMemory>
     requires formed { IsFormed trace.now }
     requires keys { HaveKeys restored.now }
-    ensures ran { IfOk result (λ ran. RanTogether P.Pool pool.old pool.new trace.now ran.fork_failed restored.now ran.replies.items ran.closed) }
-    ensures cells { IfOk result (λ ran. AreCellsOf trace.now ran.closed) }
+    requires device { MayBeFed D.CacheDev trace.now.config device.old }
+    ensures ran { IfOk result (λ ran. RanTogether P.Pool pool.old pool.new trace.now ran.ending restored.now ran.replies.items ran.closed) }
+    ensures cells { IfOk result (λ ran. AreCellsOf trace.now (only_ended trace.now.config) ran.closed) }
     ensures read { IfOk result (λ ran. ReadInGroups D.CacheDev trace.now.blocks trace.now.config.callers (groups_of trace.now.ops ran.replies.items) (lent_in device.old) (lent_in device.new)) }
     ensures pool { LeavesPool P.Pool pool.old pool.new }
     ensures device { WasLent D.CacheDev device.old device.new }
@@ -120,12 +124,12 @@ pub(crate) fn run_together<R: Threads + Wait + Sync, P: Pool, D: CacheDev, G: Ga
     let Came {
         crew,
         replies,
-        fork_failed,
+        ending,
     } = all_groups(alloc, rt, &arcs, trace, crew, syncs, pool, device, gate)?;
     let closed = close_crew(alloc, rt, arcs, crew)?;
     Ok(Ran {
         replies,
         closed,
-        fork_failed,
+        ending,
     })
 }

@@ -3,8 +3,9 @@ ghost use Rattle.std.specs.Prelude.{◌≡◌, ◌<◌, ◌^◌, IfOk, IfErr, No
 ghost use Rattle.trace_text.specs.Grammar.{IsFormed, longest_text};
 ghost use Rattle.trace_run.specs.Lines.{has_undone};
 ghost use Rattle.vdev_io.specs.Streams.{TakesAtMost};
-ghost use Rattle.trace_run.specs.Outcome.{AnswersWords, AnswersSource, AnswersSink, DoesCommand, DoesRun, IfReported, IfUsage, IsDelivered, IsGenReport, IsGenStatus, IsReadStatus, IsReportStatus, WasRead, has_report};
+ghost use Rattle.trace_run.specs.Outcome.{AnswersWords, AnswersSource, AnswersSink, DoesCommand, DoesRun, IfReported, IfUsage, IsDelivered, IsGenReport, IsGenStatus, IsReadStatus, TellsEnding, WasRead, has_report};
 ghost use Rattle.trace_run.specs.callers.Group.{LeavesPool};
+ghost use Rattle.trace_run.specs.callers.Together.{report_status};
 ghost use Rattle.trace_run.specs.States.{handed};
 ghost use Rattle.vdev_io.specs.Streams.{sink_state, source_state};
 ghost use Rattle.trace_run.specs.Words.{IsInRange, texts};
@@ -14,7 +15,7 @@ use crate::bounded::with_bound;
 use crate::check::run_check;
 use crate::device::{Begun, begin, device_len};
 use crate::paper::run_paper;
-use crate::ran::Reported;
+use crate::ran::{Ending, Reported};
 use crate::run_trace::{run_generated_trace, run_trace};
 use crate::status::{Outcome, Status};
 use crate::undone::{first_undone, has_undone};
@@ -168,22 +169,28 @@ fn read_source<S: Source>(alloc: Global, source: &mut S) -> Result<Trace, Status
 
 /// Writes a report's text to the sink.
 fn deliver<K: Sink>(alloc: Global, events: bool, sink: &mut K, reported: Reported) -> Outcome
-    requires status { IsReportStatus reported.report.status }
+    requires status { reported.report.status ≡ report_status reported.ending reported.report.replies }
     ensures sink { AnswersSink events (sink_state K.Sink sink.old) (sink_state K.Sink sink.new) result.status result.report }
     ensures present { is_some result.report ≡ has_report result.status }
     ensures same { IfReported result.report result.closed (λ closed told. (told ≡ reported.report) × (closed ≡ reported.closed)) }
     ensures which { IsDelivered result.status }
+    ensures full { TellsEnding result.status reported.ending }
 {
-    let Reported { report, closed } = reported;
+    let Reported {
+        report,
+        closed,
+        ending,
+    } = reported;
     let mut text = Vec::new(alloc);
     if let Err(NoMemory) = report_text(alloc, &report, events, &mut text) {
         return untold(Status::NoMemory);
     }
-    let status = match (write_all(sink, &text), report.status) {
+    let status = match (write_all(sink, &text), ending) {
         (Err(Failed), _) => Status::SinkFault,
-        (Ok(()), 0) => Status::Ok,
-        (Ok(()), 1) => Status::ReadsFailed,
-        (Ok(()), _) => Status::PoolFault,
+        (Ok(()), Ending::Whole) if report.status == 0 => Status::Ok,
+        (Ok(()), Ending::Whole) => Status::ReadsFailed,
+        (Ok(()), Ending::Fork | Ending::Sync) => Status::PoolFault,
+        (Ok(()), Ending::Full { need, left }) => Status::PoolFull { need, left },
     };
     Outcome {
         status,

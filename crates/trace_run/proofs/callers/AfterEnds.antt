@@ -11,7 +11,8 @@ use Rattle.arc_table.specs.Cache.{Cache}
 use Rattle.arc_table.specs.Seen.{AreSeen, events_in, seen_of}
 use Rattle.arc_table.specs.TableLaws.{get_front}
 use Rattle.arc_table.proofs.TableLaws.{get_last, get_more}
-use Rattle.trace_run.specs.CellEnds.{EndedCells, EndedCrew, EndedIdle, events_there}
+use Rattle.trace_run.specs.CellEnds.{EndedCells, EndedCrew, EndedIdle}
+use Rattle.trace_run.specs.Deeds.{events_there}
 use Rattle.trace_run.specs.callers.GroupRun.{HaveStopped}
 use Rattle.trace_run.specs.KeptBlocks.{Stands}
 use Rattle.trace_run.specs.Making.{AreNoEntries, MadeItsOwn}

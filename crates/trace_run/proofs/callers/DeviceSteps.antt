@@ -16,7 +16,7 @@ use Rattle.trace_run.specs.DeviceUse.{WasUsed}
 use Rattle.trace_run.specs.Devices.{IsRightKind, WasLent, device_of, lent_in}
 use Rattle.trace_run.specs.declared.device.Device.{Device}
 use Rattle.trace_run.specs.Lines.{is_of_caller}
-use Rattle.trace_run.specs.callers.DeviceForks.{AllAsk, AllAskIn, HaveRead, HaveReadSoFar, ReadAtOnce, ReadInGroups, these}
+use Rattle.trace_run.specs.callers.DeviceForks.{AllAsk, AllAskIn, HaveRead, HaveReadSoFar, ReadAtOnce, ReadInGroups, TakesForksBack, these}
 use Rattle.trace_run.specs.callers.Groups.{AreOfCallers}
 use Rattle.trace_run.specs.callers.InOrder.{AreInOrder}
 use Rattle.trace_run.specs.callers.Together.{BeginsGroup, EndLine, GroupLines, ends_group, groups_of, replies_of_caller}
@@ -39,15 +39,15 @@ module _ {D : Type 0} (devices : Ghosts D) (blocks : List Ptr) where
     asked-in-order qs ss (suc n) forks dones rss asked.1 (λ k m l is at. own (suc k) m l (omega (arith, is)) at),
   )
 
-  pub read-in-order : (qs : List Op) (ss : List Reply) (rss : List (List Reply)) (callers : ℕ) (old new : Option D) → HaveRead devices blocks qs callers rss old new → AreInOrder qs rss ss → ReadAtOnce devices blocks callers (these qs ss) old new
-  read-in-order qs ss rss callers old new h ordered = record {
+  pub read-in-order : (qs : List Op) (ss fed : List Reply) (rss : List (List Reply)) (callers : ℕ) (old lent later new : Option D) → later ≡ lent → HaveRead devices blocks qs callers rss old lent later new → AreInOrder qs rss fed ss → ReadAtOnce devices blocks callers (these qs ss) old new
+  read-in-order qs ss fed rss callers old lent later new same h ordered = record {
     forks = h.forks;
     count = h.count;
-    lent = h.lent;
+    lent = lent;
     given = h.given;
     done = h.done;
     asked = asked-in-order qs ss 0 h.forks h.done rss h.asked (λ k m rs is at. ordered.each m rs (let same : m ≡ k = omega (arith, is) in ap (λ (j : ℕ). get_elem? rss j) same ∙ at));
-    back = h.back;
+    back = subst (λ (x : Option D). TakesForksBack devices h.done x new) same h.back;
   }
 
   -- whatever line ends them

@@ -121,7 +121,7 @@ module _ {C P D : Type 0} (cache : Cache) (pools : Ghosts P) (blocks : List Ptr)
       subst (λ (r : Result (Vec Reply Global) NoMemory). IfOk r (λ replies. HasDone cache pools blocks ops old.party.number old new replies.items)) replied.replied tried.done in
       let done : HasDone cache pools blocks ops n old new rs = subst (λ (x : ℕ × List Reply). HasDone cache pools blocks ops x.0 old new x.1) (λ h. (his h, replied.replies_are h)) there in
       record {
-        waits = λ acts waits. record { number = done.number; alone = done.alone; stands = done.stands; told = done.told acts waits.told };
+        waits = λ acts noted waits. record { number = done.number; alone = done.alone; stands = done.stands; told = done.told acts noted waits.told };
         keeps = done.kept;
         answers = done.answers;
         calls = done.calls;

@@ -1,5 +1,5 @@
 -- The run of several callers: its parties at the end, what its closed cache explains, and what its pool counts.
-use Rattle.std.proofs.Common.{◌≡◌, ◌≢◌, ℕ, zero, suc, ◌+◌, ◌*◌, ◌<◌, ◌≤◌, ◌^◌, ◌==◌, Bool, true, false, cond, List, [], ◌∷◌, ◌++◌, length, length-append, map, take, drop, min, append-nil, append_assoc, Option, Some, None, Result, Ok, Err, IfOk, inl, inr, refl, sym, ap, ◌∙◌, subst, arith}
+use Rattle.std.proofs.Common.{◌≡◌, ◌≢◌, ℕ, zero, suc, ◌+◌, ◌*◌, ◌<◌, ◌≤◌, ◌^◌, ◌==◌, Bool, false, cond, List, [], ◌∷◌, ◌++◌, length, length-append, map, take, drop, min, append-nil, append_assoc, Option, Some, None, Result, Ok, Err, IfOk, inl, inr, refl, sym, ap, ◌∙◌, subst, arith}
 use Rattle.std.specs.Prelude.{count_by, filter, slice_get, slice_index_or, sum_by}
 use Rattle.std.specs.List.{AllByRecursion}
 use Rattle.std.specs.Option.{option_map_or}
@@ -36,36 +36,40 @@ use Rattle.trace_text.specs.declared.ends.ShardEnd.{ShardEnd}
 use Rattle.trace_text.specs.declared.op.Op.{Op}
 use Rattle.trace_text.specs.declared.op.Op.TheVariants as ops
 use Rattle.trace_text.specs.declared.reply.Reply.{Reply}
-use Rattle.trace_text.specs.declared.reply.Reply.TheVariants.{Capped}
 use Rattle.trace_text.specs.declared.trace.Trace.{Trace}
-use Rattle.trace_text.specs.Grammar.{IsFormed, IsPossible}
+use Rattle.trace_text.specs.Grammar.{IsFormed, IsOperation, IsPossible}
 use Rattle.trace_run.specs.declared.groups.Crew.{Crew}
+use Rattle.trace_run.specs.declared.ran.Ending.{Ending}
+use Rattle.trace_run.specs.declared.ran.Ending.TheVariants.{Fork, Full, Sync, Whole}
 use Rattle.trace_run.specs.declared.kept_blocks.KeptBlock.{KeptBlock}
 use Rattle.trace_run.specs.Acts.{acts_of_all, acts_of_caller, acts_of_callers, acts_of_drops, acts_of_lines, events_of_feeds}
 use Rattle.trace_run.specs.one_caller.Alone.{ends_in, histories_of}
 use Rattle.trace_run.specs.Answers.{AnswersAll, is_pool_fault}
 use Rattle.trace_run.specs.callers.Callers.{AreAtStart}
 use Rattle.dbuf_cells.specs.Turns.{OnHeap, PartyPlace}
+use Rattle.trace_run.specs.ObjectLines.{IsSized}
 use Rattle.trace_run.specs.Openings.{openings_of}
 use Rattle.trace_run.proofs.callers.SyncRun.{fresh-then, in-groups-as}
 use Rattle.trace_run.specs.CellEnds.{AreCellsOf}
+use Rattle.trace_run.specs.RunWork.{only_ended}
 use Rattle.trace_run.specs.Effects.{calls_of_all}
-use Rattle.trace_run.specs.Explaining.{EndsWith, Explain, drops_at_end}
+use Rattle.trace_run.specs.Explaining.{EndsWith, ExplainReads, drops_at_end}
 use Rattle.trace_run.specs.callers.GroupRun.{HaveClosed, HaveStopped, RanTogether}
-use Rattle.trace_run.specs.callers.Groups.{AreDone, AreEndLines, AreNamedAll, HaveCome, IsEndLine, StoodFresh}
+use Rattle.trace_run.specs.callers.Groups.{AreDone, AreEndLines, AreNamedAll, EndsLines, HaveCome, IsEndLine, StoodFresh}
 use Rattle.trace_run.specs.KeptBlocks.{Stands, holds_in, read_of}
 use Rattle.trace_run.specs.Making.{AreNoEntries, MadeItsOwn}
 use Rattle.trace_run.specs.KeptReads.{KeptRead}
 use Rattle.trace_run.specs.Lines.{caller_of, is_of_caller, replies_where}
+use Rattle.trace_run.specs.Deeds.{Noted}
 use Rattle.trace_run.specs.Meeting.{AllGave, AreWaiting, HaveGivenBack, IsApart, IsLevel, MayGoOn, Waits, drops_from}
 use Rattle.trace_run.specs.one_caller.OneCaller.{events_of_drops, kept_after, kept_after_all}
 use Rattle.trace_run.specs.one_caller.OverShards.{AreNamed}
 use Rattle.trace_run.specs.Restores.{events_by_feeder, restores_in}
 use Rattle.trace_run.specs.Tally.{AreDeclared}
-use Rattle.trace_run.specs.callers.Together.{AreCut, IsFirstPlace, GroupLines, StoodThen, WorkInGroups, answered_ops, faults_told, groups_of, over_callers, reads_of_caller, replies_of_caller, between_groups}
+use Rattle.trace_run.specs.callers.Together.{AreCut, EndsRun, IsFirstPlace, GroupLines, StoodThen, StopsSo, WorkInGroups, answered_ops, faults_told, groups_of, over_callers, reads_of_caller, replies_of_caller, between_groups}
 use Rattle.trace_run.proofs.callers.AbsorbLemmas.{over-few}
 use Rattle.trace_run.proofs.callers.AfterEnds.{AreAfter, crew-after, crew-long}
-use Rattle.trace_run.proofs.callers.CallerActLemmas.{line-kind}
+use Rattle.trace_run.proofs.callers.CallerActLemmas.{line-kind, own-lines}
 use Rattle.trace_run.proofs.theorem.EndLemmas.{HasEnded, caller-ended, caller-told, callers-counted, closed-level, explains, feeder-ended, history-starts, stands-idle}
 use Rattle.trace_run.proofs.callers.GroupCounts.{caller-reads, over-add, over-one, over-same, over-zero}
 use Rattle.trace_run.proofs.callers.GroupsLemmas.{acts-append, are-cut-more, cut-prefix, feeds-append, get-left, groups-prefix, kept-append, some-same, where-append}
@@ -73,7 +77,8 @@ use Rattle.trace_run.proofs.LineLemmas.{named-after}
 use Rattle.trace_run.proofs.MappedLemmas.{explain-mapped}
 use Rattle.trace_run.proofs.callers.MeetLemmas.{starts-then}
 use Rattle.trace_run.proofs.RunLemmas.{calls-few}
-use Rattle.trace_run.proofs.one_caller.TellLemmas.{some-number}
+use Rattle.trace_run.proofs.deeds.OwnAlone.{waits-alone}
+use Rattle.trace_run.proofs.one_caller.TellLemmas.{act-caller, act-lines, some-number}
 use Rattle.trace_run.proofs.callers.TogetherLemmas.{all-answered, answered-length}
 
 -- ---- what a trace has
@@ -83,8 +88,21 @@ module _ (trace : Trace) (formed : IsFormed trace) where
   possible-at k op at = subst (IsPossible trace.config trace.blocks) (get_or_from_slice_get trace.ops k op op at)
       (All-get_or (IsPossible trace.config trace.blocks) trace.ops k op (slice_get_within trace.ops k op at) formed.ops)
 
+  operation-sized : (callers shards : ℕ) (op : Op) → IsOperation callers shards op → IsSized op
+  operation-sized callers shards (ops.Put n t at size fill) possible = possible.3
+  operation-sized callers shards (ops.Get n t at window) possible = tt
+  operation-sized callers shards (ops.Patch n t at from bytes) possible = tt
+  operation-sized callers shards (ops.Pin n t at) possible = tt
+  operation-sized callers shards (ops.Unpin n at) possible = tt
+  operation-sized callers shards (ops.Read n t x window) possible = tt
+  operation-sized callers shards (ops.Hold n t x) possible = tt
+  operation-sized callers shards (ops.Drop n x) possible = tt
+  operation-sized callers shards ops.Feed possible = tt
+  operation-sized callers shards (ops.Txg t) possible = tt
+  operation-sized callers shards (ops.Cap c) possible = tt
+
   pub all-declared : AreDeclared (length trace.blocks) trace.ops
-  all-declared k op at = (possible-at k op at).1
+  all-declared k op at = let possible = possible-at k op at in (possible.1, operation-sized trace.config.callers trace.config.shards op possible.0)
 
   caller-below : (op : Op) → IsPossible trace.config trace.blocks op → (n : ℕ) → caller_of op ≡ Some n → n < trace.config.callers
   caller-below (ops.Read m t x w) possible n of = subst (λ (k : ℕ). k < trace.config.callers) (some-number m n of) possible.0.0
@@ -124,43 +142,43 @@ module _ {C : Type 0} (cache : Cache) where
 -- ---- where all callers did their work
 
 -- callers that wait, by their places
-module _ {C : Type 0} (cache : Cache) (acts : ℕ → List Act) where
+module _ {C : Type 0} (cache : Cache) (acts : ℕ → List Act) (noted : ℕ → List Noted) where
   wait-from : (n : ℕ) (ks : List (List KeptBlock)) (ps : List (Place (Known C))) → length ps ≡ length ks
-      → ((k : ℕ) → k < length ks → (x : List KeptBlock) × (p : Place (Known C)) × (get_elem? ks k ≡ some x) × (get_elem? ps k ≡ some p) × Waits cache (n + k) (acts (n + k)) x p) → AreWaiting cache acts n ks ps
+      → ((k : ℕ) → k < length ks → (x : List KeptBlock) × (p : Place (Known C)) × (get_elem? ks k ≡ some x) × (get_elem? ps k ≡ some p) × Waits cache (n + k) (acts (n + k)) (noted (n + k)) x p) → AreWaiting cache acts noted n ks ps
   wait-from n [] [] same each = tt
   wait-from n [] (p ∷ ps) same each = absurd (omega (arith, same))
   wait-from n (k ∷ ks) [] same each = absurd (omega (arith, same))
   wait-from n (k ∷ ks) (p ∷ ps) same each =
       let h = each 0 (omega arith) in
       let z : n + 0 ≡ n = omega arith in (
-        subst (λ (x : List KeptBlock × Place (Known C) × ℕ). Waits cache x.2 (acts x.2) x.0 x.1) (λ i. (sym (some-injective k h.0 h.2) i, sym (some-injective p h.1 h.3) i, z i)) h.4,
-        wait-from (suc n) ks ps (omega (arith, same)) (λ j below. let e = each (suc j) (omega (arith, below)) in let z : n + suc j ≡ suc n + j = omega arith in (e.0, e.1, e.2, e.3, subst (λ (x : ℕ). Waits cache x (acts x) e.0 e.1) z e.4)),
+        subst (λ (x : List KeptBlock × Place (Known C) × ℕ). Waits cache x.2 (acts x.2) (noted x.2) x.0 x.1) (λ i. (sym (some-injective k h.0 h.2) i, sym (some-injective p h.1 h.3) i, z i)) h.4,
+        wait-from (suc n) ks ps (omega (arith, same)) (λ j below. let e = each (suc j) (omega (arith, below)) in let z : n + suc j ≡ suc n + j = omega arith in (e.0, e.1, e.2, e.3, subst (λ (x : ℕ). Waits cache x (acts x) (noted x) e.0 e.1) z e.4)),
       )
 
   -- what the caller at a place is once it has given back
-  gave-at : (n : ℕ) (ks : List (List KeptBlock)) (ps : List (Place (Known C))) (k : ℕ) (p : Place (Known C)) → AllGave cache acts n ks ps → get_elem? ps k ≡ some p
-      → (x : List KeptBlock) × (get_elem? ks k ≡ some x) × Waits cache (n + k) (acts (n + k) ++ acts_of_drops (n + k) (map read_of x)) [] p
+  gave-at : (n : ℕ) (ks : List (List KeptBlock)) (ps : List (Place (Known C))) (k : ℕ) (p : Place (Known C)) → AllGave cache acts noted n ks ps → get_elem? ps k ≡ some p
+      → (x : List KeptBlock) × (get_elem? ks k ≡ some x) × Waits cache (n + k) (acts (n + k) ++ acts_of_drops (n + k) (map read_of x)) (noted (n + k)) [] p
   gave-at n [] [] k p gave at = absurd (some-ne-none p (sym at))
   gave-at n [] (q ∷ ps) k p gave at = absurd gave
   gave-at n (j ∷ ks) [] k p gave at = absurd gave
   gave-at n (j ∷ ks) (q ∷ ps) zero p gave at =
       let z : n ≡ n + 0 = omega arith in
-      (j, refl, subst (λ (x : Place (Known C) × ℕ). Waits cache x.1 (acts x.1 ++ acts_of_drops x.1 (map read_of j)) [] x.0) (λ i. (some-injective q p at i, z i)) gave.0)
+      (j, refl, subst (λ (x : Place (Known C) × ℕ). Waits cache x.1 (acts x.1 ++ acts_of_drops x.1 (map read_of j)) (noted x.1) [] x.0) (λ i. (some-injective q p at i, z i)) gave.0)
   gave-at n (j ∷ ks) (q ∷ ps) (suc k) p gave at =
       let h = gave-at (suc n) ks ps k p gave.1 at in
       let z : suc n + k ≡ n + suc k = omega arith in
-      (h.0, h.1, subst (λ (x : ℕ). Waits cache x (acts x ++ acts_of_drops x (map read_of h.0)) [] p) z h.2)
+      (h.0, h.1, subst (λ (x : ℕ). Waits cache x (acts x ++ acts_of_drops x (map read_of h.0)) (noted x) [] p) z h.2)
 
-  gave-length : (n : ℕ) (ks : List (List KeptBlock)) (ps : List (Place (Known C))) → AllGave cache acts n ks ps → length ps ≡ length ks
+  gave-length : (n : ℕ) (ks : List (List KeptBlock)) (ps : List (Place (Known C))) → AllGave cache acts noted n ks ps → length ps ≡ length ks
   gave-length n [] [] gave = refl
   gave-length n [] (p ∷ ps) gave = absurd gave
   gave-length n (k ∷ ks) [] gave = absurd gave
   gave-length n (k ∷ ks) (p ∷ ps) gave = ap suc (gave-length (suc n) ks ps gave.1)
 
 -- all parties have stopped once the callers gave back what they kept
-module _ {C : Type 0} (cache : Cache) (acts : ℕ → List Act) (openings : List (List ℕ)) (feeds since : (shard : ℕ) → List Event) (kept : List (List KeptBlock)) (all : List (Place (Known C))) (count : length kept ≡ cache.config.callers) (gone : HaveGivenBack cache acts openings feeds since kept all) where
+module _ {C : Type 0} (cache : Cache) (acts : ℕ → List Act) (noted : ℕ → List Noted) (openings : List (List ℕ)) (feeds since : (shard : ℕ) → List Event) (kept : List (List KeptBlock)) (all : List (Place (Known C))) (count : length kept ≡ cache.config.callers) (gone : HaveGivenBack cache acts noted openings feeds since kept all) where
   gone-long : length gone.callers ≡ cache.config.callers
-  gone-long = gave-length cache acts 0 kept gone.callers gone.gave ∙ count
+  gone-long = gave-length cache acts noted 0 kept gone.callers gone.gave ∙ count
 
   pub gone-some : 0 < length all
   gone-some = omega (arith, ap length gone.are, length-append gone.callers (gone.feeder ∷ []))
@@ -169,7 +187,7 @@ module _ {C : Type 0} (cache : Cache) (acts : ℕ → List Act) (openings : List
   gone-stopped = record {
     count = ap length gone.are ∙ (length-append gone.callers (gone.feeder ∷ []) ∙ ap (λ (x : ℕ). x + 1) gone-long);
     each = λ n p at. elim (get_more gone.callers gone.feeder p n (ap (λ (l : List (Place (Known C))). get_elem? l n) (sym gone.are) ∙ at)) [
-      | inl caller ↦ let h = gave-at cache acts 0 kept gone.callers n p gone.gave caller in let z : 0 + n ≡ n = omega arith in (h.2.number ∙ z, h.2.stands)
+      | inl caller ↦ let h = gave-at cache acts noted 0 kept gone.callers n p gone.gave caller in let z : 0 + n ≡ n = omega arith in (h.2.number ∙ z, h.2.stands)
       | inr is ↦ subst (λ (x : ℕ × Place (Known C)). (x.1.number ≡ x.0) × Stands cache x.1 []) (λ i. ((sym gone-long ∙ sym is.0) i, is.1 i)) (gone.fed.number, gone.fed.stands)
     ];
   }
@@ -191,16 +209,26 @@ drops-are g blocks shard n (k ∷ ks) os rs each =
     (λ j x at. let y : n + suc j ≡ suc n + j = omega arith in subst (λ (c : ℕ). map read_of x ≡ kept_after_all blocks [] (filter (is_of_caller c) os) (replies_where (is_of_caller c) os rs)) y (each (suc j) x at))
     ∙ ap (λ (c : ℕ). drops_at_end g blocks shard c os rs) more))
 
+-- what a caller made that has done its lines and given back what it kept
+caller-alone : {C : Type 0} (cache : Cache) (blocks : List Ptr) (os : List Op) (rs : List Reply) (n : ℕ) (p : Place (Known C)) → n < cache.config.callers
+    → Waits cache n (acts_of_caller blocks n (filter (is_of_caller n) os) (replies_of_caller n os rs)) [] [] p → MadeItsOwn cache.config p
+caller-alone cache blocks os rs n p below waits =
+    waits-alone cache n (acts_of_caller blocks n (filter (is_of_caller n) os) (replies_of_caller n os rs)) [] p below (act-caller blocks n (filter (is_of_caller n) os) (replies_of_caller n os rs) (own-lines n os)) waits
+
 module _ {C : Type 0} (cache : Cache) (restored : List Restored) (len : ℕ) (image : Option (List ℕ)) (blocks : List Ptr) (os : List Op) (rs : List Reply) (crew : Crew C) (come : HaveCome cache restored len image blocks os rs crew) where
   -- what each caller's lines did
   abbrev pub lines-acts : ℕ → List Act
   lines-acts n = acts_of_lines blocks os n (replies_of_caller n os rs)
 
-  pub come-wait : AreWaiting cache lines-acts 0 crew.kept.items crew.parties.items
-  come-wait = wait-from cache lines-acts 0 crew.kept.items crew.parties.items (come.parties ∙ sym come.kepts) (λ k below.
+  -- and what they did to cells: nothing yet
+  abbrev pub lines-noted : ℕ → List Noted
+  lines-noted n = []
+
+  pub come-wait : AreWaiting cache lines-acts lines-noted 0 crew.kept.items crew.parties.items
+  come-wait = wait-from cache lines-acts lines-noted 0 crew.kept.items crew.parties.items (come.parties ∙ sym come.kepts) (λ k below.
       let b = come.each k (subst (λ (c : ℕ). k < c) come.kepts below) in
       let z : k ≡ 0 + k = omega arith in
-      (b.reads, b.party, b.at.kept_at, b.at.party_at, subst (λ (x : ℕ). Waits cache x (lines-acts x) b.reads b.party) z b.come.waits))
+      (b.reads, b.party, b.at.kept_at, b.at.party_at, subst (λ (x : ℕ). Waits cache x (lines-acts x) [] b.reads b.party) z b.come.waits))
 
   -- all stand by themselves, so the feeder may go on
   apart-from : (n : ℕ) (ps : List (Place (Known C))) → ((k : ℕ) (p : Place (Known C)) → get_elem? ps k ≡ some p → (p.number ≡ n + k) × IsApart cache p) → AllByRecursion (IsApart cache) ps
@@ -234,6 +262,12 @@ module _ {C : Type 0} (cache : Cache) (restored : List Restored) (len : ℕ) (im
     differ = differ-from 0 crew.feeder.number crew.parties.items (omega (arith, come.parties, come.feeder.number)) caller-stands;
   }
 
+  -- what a caller made are events of shards, with its own number
+  comes-alone : (k : ℕ) (below : k < cache.config.callers) → MadeItsOwn cache.config (come.each k below).party
+  comes-alone k below =
+      let b = come.each k below in
+      waits-alone cache k (lines-acts k) b.reads b.party below (act-lines k blocks [] (filter (is_of_caller k) os) (replies_of_caller k os rs) (own-lines k os)) b.come.waits
+
   -- no party has made an entry of a cell
   pub come-unwritten : AllByRecursion (λ o. AreNoEntries cache.config o.own.mine) (crew.feeder ∷ crew.parties.items)
   come-unwritten = (
@@ -241,7 +275,7 @@ module _ {C : Type 0} (cache : Cache) (restored : List Restored) (len : ℕ) (im
     all-from crew.parties.items (λ k p at.
         let b = come.each k (subst (λ (c : ℕ). k < c) come.parties (within crew.parties.items k p at)) in
         let same : b.party ≡ p = some-injective b.party p (sym b.at.party_at ∙ at) in
-        subst (λ (q : Place (Known C)). AreNoEntries cache.config q.own.mine) same b.come.waits.told.only.entries),
+        subst (λ (q : Place (Known C)). AreNoEntries cache.config q.own.mine) same (comes-alone k (subst (λ (c : ℕ). k < c) come.parties (within crew.parties.items k p at))).entries),
   )
     where
       all-from : (ps : List (Place (Known C))) → ((k : ℕ) (p : Place (Known C)) → get_elem? ps k ≡ some p → AreNoEntries cache.config p.own.mine) → AllByRecursion (λ o. AreNoEntries cache.config o.own.mine) ps
@@ -253,10 +287,10 @@ module _ {C : Type 0} (cache : Cache) (restored : List Restored) (len : ℕ) (im
   may-start named = start-from 0 crew.kept.items crew.parties.items (come.parties ∙ sym come.kepts) named (λ k below.
       let b = come.each k (subst (λ (c : ℕ). k < c) come.kepts below) in
       let z : k ≡ 0 + k = omega arith in
-      (b.reads, b.party, b.at.kept_at, b.at.party_at, subst (λ (x : ℕ). Waits cache x (lines-acts x) b.reads b.party) z b.come.waits))
+      (b.reads, b.party, b.at.kept_at, b.at.party_at, subst (λ (x : ℕ). Waits cache x (lines-acts x) [] b.reads b.party) z b.come.waits))
     where
       start-from : (n : ℕ) (ks : List (List KeptBlock)) (ps : List (Place (Known C))) → length ps ≡ length ks → AreNamedAll blocks ks
-          → ((k : ℕ) → k < length ks → (x : List KeptBlock) × (p : Place (Known C)) × (get_elem? ks k ≡ some x) × (get_elem? ps k ≡ some p) × Waits cache (n + k) (lines-acts (n + k)) x p) → AreAtStart cache blocks n ks ps
+          → ((k : ℕ) → k < length ks → (x : List KeptBlock) × (p : Place (Known C)) × (get_elem? ks k ≡ some x) × (get_elem? ps k ≡ some p) × Waits cache (n + k) (lines-acts (n + k)) [] x p) → AreAtStart cache blocks n ks ps
       start-from n [] [] same all each = tt
       start-from n [] (p ∷ ps) same all each = absurd (omega (arith, same))
       start-from n (k ∷ ks) [] same all each = absurd (omega (arith, same))
@@ -264,9 +298,9 @@ module _ {C : Type 0} (cache : Cache) (restored : List Restored) (len : ℕ) (im
           let h = each 0 (omega arith) in
           let is_reads : h.0 ≡ k = sym (some-injective k h.0 h.2) in
           let is_party : h.1 ≡ p = sym (some-injective p h.1 h.3) in
-          let w : Waits cache (n + 0) (lines-acts (n + 0)) k p = subst (λ (x : List KeptBlock × Place (Known C)). Waits cache (n + 0) (lines-acts (n + 0)) x.0 x.1) (λ i. (is_reads i, is_party i)) h.4 in (
+          let w : Waits cache (n + 0) (lines-acts (n + 0)) [] k p = subst (λ (x : List KeptBlock × Place (Known C)). Waits cache (n + 0) (lines-acts (n + 0)) [] x.0 x.1) (λ i. (is_reads i, is_party i)) h.4 in (
             record { number = w.number ∙ omega arith; alone = w.alone; stands = w.stands; named = all.0 },
-            start-from (suc n) ks ps (omega (arith, same)) all.1 (λ j below. let e = each (suc j) (omega (arith, below)) in let z : n + suc j ≡ suc n + j = omega arith in (e.0, e.1, e.2, e.3, subst (λ (x : ℕ). Waits cache x (lines-acts x) e.0 e.1) z e.4)),
+            start-from (suc n) ks ps (omega (arith, same)) all.1 (λ j below. let e = each (suc j) (omega (arith, below)) in let z : n + suc j ≡ suc n + j = omega arith in (e.0, e.1, e.2, e.3, subst (λ (x : ℕ). Waits cache x (lines-acts x) [] e.0 e.1) z e.4)),
           )
 
   -- each kept read holds the entry of its own block
@@ -287,21 +321,21 @@ module _ {C : Type 0} (cache : Cache) (restored : List Restored) (len : ℕ) (im
       all-named kept (o ∷ l) [] named = named
       all-named kept (o ∷ l) (x ∷ r) named = all-named (kept_after blocks o x kept) l r (named-after blocks o x kept named)
 
-  module _ (all : List (Place (Known C))) (gone : HaveGivenBack cache lines-acts crew.feeder.own.about.openings (events_by_feeder cache.config restored os rs) (λ shard. seen_of cache.config shard crew.feeder) crew.kept.items all) where
+  module _ (all : List (Place (Known C))) (gone : HaveGivenBack cache lines-acts lines-noted crew.feeder.own.about.openings (events_by_feeder cache.config restored os rs) (λ shard. seen_of cache.config shard crew.feeder) crew.kept.items all) where
     callers-long : length gone.callers ≡ cache.config.callers
-    callers-long = gave-length cache lines-acts 0 crew.kept.items gone.callers gone.gave ∙ come.kepts
+    callers-long = gave-length cache lines-acts lines-noted 0 crew.kept.items gone.callers gone.gave ∙ come.kepts
 
     -- each caller, once it has given back
     caller-at : (n : ℕ) (p : Place (Known C)) → get_elem? gone.callers n ≡ some p
-        → (n < cache.config.callers) × Waits cache n (acts_of_caller blocks n (filter (is_of_caller n) os) (replies_of_caller n os rs)) [] p
+        → (n < cache.config.callers) × Waits cache n (acts_of_caller blocks n (filter (is_of_caller n) os) (replies_of_caller n os rs)) [] [] p
     caller-at n p at =
         let inside : n < cache.config.callers = subst (λ (x : ℕ). n < x) callers-long (within gone.callers n p at) in
         let b = come.each n inside in
-        let h = gave-at cache lines-acts 0 crew.kept.items gone.callers n p gone.gave at in
+        let h = gave-at cache lines-acts lines-noted 0 crew.kept.items gone.callers n p gone.gave at in
         let same : h.0 ≡ b.reads = some-injective h.0 b.reads (sym h.1 ∙ b.at.kept_at) in
         let z : 0 + n ≡ n = omega arith in
-        let gave = subst (λ (x : ℕ). Waits cache x (lines-acts x ++ acts_of_drops x (map read_of h.0)) [] p) z h.2 in
-        (inside, subst (λ (x : List KeptRead). Waits cache n (lines-acts n ++ acts_of_drops n x) [] p) (ap (map read_of) same ∙ b.come.keeps) gave)
+        let gave = subst (λ (x : ℕ). Waits cache x (lines-acts x ++ acts_of_drops x (map read_of h.0)) [] [] p) z h.2 in
+        (inside, subst (λ (x : List KeptRead). Waits cache n (lines-acts n ++ acts_of_drops n x) [] [] p) (ap (map read_of) same ∙ b.come.keeps) gave)
 
     -- a fact of each party, where it is so of the callers' and of the feeder's
     each-party : (fact : ℕ → Place (Known C) → Type 0) → ((n : ℕ) (p : Place (Known C)) → get_elem? gone.callers n ≡ some p → fact n p) → fact cache.config.callers gone.feeder
@@ -330,7 +364,7 @@ module _ {C : Type 0} (cache : Cache) (restored : List Restored) (len : ℕ) (im
 
     come-ended : (n : ℕ) (p : Place (Known C)) → get_elem? all n ≡ some p → HasEnded cache.config (acts_of_callers blocks cache.config.callers os rs) (events_by_feeder cache.config restored os rs) n p
     come-ended = each-party (λ n p. HasEnded cache.config (acts_of_callers blocks cache.config.callers os rs) (events_by_feeder cache.config restored os rs) n p)
-        (λ n p at. let w = caller-at n p at in caller-ended cache restored blocks os rs n p w.1.number w.1.stands (replies_of_caller n os rs) w.0 refl w.1.told)
+        (λ n p at. let w = caller-at n p at in caller-ended cache restored blocks os rs n p w.1.number w.1.stands (replies_of_caller n os rs) w.0 refl w.1.told.acts (caller-alone cache blocks os rs n p w.0 w.1).events)
         (feeder-ended cache restored blocks os rs cache.config.callers gone.feeder gone.fed.number gone.fed.stands refl gone.fed.fed gone.fed.only.events)
 
     -- what each caller still kept
@@ -394,8 +428,8 @@ module _ {C : Type 0} (cache : Cache) (restored : List Restored) (len : ℕ) (im
             starts-then l.history (seen_of cache.config i crew.feeder) (restores_in cache.config restored i)
             (starts-then l.history (seen_of cache.config i gone.feeder) (seen_of cache.config i crew.feeder) first (gone.fed.since i)) (come.begun i inside)
 
-        pub come-explains : Explain (record { config = cache.config; blocks = blocks; objects = []; ops = os }) restored rs (ends_in closed) (histories_of closed)
-        come-explains = explains m cache valid restored blocks os rs fin closed ends fin-count fin-ended begins-at ends-at
+        pub come-explains : ((j : ℕ) (c : C) → get_elem? closed.cells j ≡ some c → m.holds c ≡ []) → ExplainReads (record { config = cache.config; blocks = blocks; objects = []; ops = os }) restored rs (ends_in closed) (histories_of closed)
+        come-explains emptied = explains m cache valid restored blocks os rs fin closed ends fin-count fin-ended emptied begins-at ends-at
 
         pub come-others : over_callers cache.config.callers (λ n. reads_of_caller n (histories_of closed)) ≡ sum_by pool_reads (histories_of closed)
         come-others = callers-counted m cache valid restored blocks os rs fin closed ends fin-count fin-ended
@@ -532,7 +566,7 @@ module _ (blocks : List Ptr) (os more : List Op) (rs : List Reply) (same : lengt
 -- so the histories explain the replies to all lines
 explained-more : (config : Config) (restored : List Restored) (blocks : List Ptr) (os more : List Op) (rs : List Reply) (ends : List ShardEnd) (histories : List (List Event)) → length rs ≡ length os
     → ((n : ℕ) → n < config.callers → length (replies_of_caller n os rs) ≡ length (filter (is_of_caller n) os))
-    → Explain (record { config = config; blocks = blocks; objects = []; ops = os }) restored rs ends histories → Explain (record { config = config; blocks = blocks; objects = []; ops = os ++ more }) restored rs ends histories
+    → ExplainReads (record { config = config; blocks = blocks; objects = []; ops = os }) restored rs ends histories → ExplainReads (record { config = config; blocks = blocks; objects = []; ops = os ++ more }) restored rs ends histories
 explained-more config restored blocks os more rs ends histories same long e = record {
   shards = e.shards;
   legal = e.legal;
@@ -551,7 +585,7 @@ end-no-fault o r (inr sync) = ap is_pool_fault sync.5
 -- ---- what the run came to
 
 module _ {P : Type 0} (m : Meanings OnHeap) (cache : Cache) (pools : Ghosts P) (before after : P) (place : ℕ) (trace : Trace) (formed : IsFormed trace) (config : cache.config ≡ trace.config) (valid : IsConfig cache.config)
-    (fork_failed : Bool) (restored : List Restored) (rs : List Reply) (crew : Crew OnHeap) (d : AreDone cache restored pools trace (between_groups before 1 place) after fork_failed rs crew) (closed : Ended OnHeap) (h : HaveClosed m cache crew closed) where
+    (ending : Ending) (restored : List Restored) (rs : List Reply) (crew : Crew OnHeap) (d : AreDone cache restored pools trace (between_groups before 1 place) after ending rs crew) (closed : Ended OnHeap) (h : HaveClosed m cache crew closed) where
   abbrev callers : ℕ
   callers = cache.config.callers
 
@@ -574,8 +608,8 @@ module _ {P : Type 0} (m : Meanings OnHeap) (cache : Cache) (pools : Ghosts P) (
   abbrev closing : List (Place (Known OnHeap))
   closing = h.closing
 
-  pub gave : HaveGivenBack cache (lines-acts cache restored (pools.size before) (pools.told before) trace.blocks os rs crew come) crew.feeder.own.about.openings (events_by_feeder cache.config restored os rs) (λ shard. seen_of cache.config shard crew.feeder) crew.kept.items all-given
-  gave = h.gave (lines-acts cache restored (pools.size before) (pools.told before) trace.blocks os rs crew come) (come-wait cache restored (pools.size before) (pools.told before) trace.blocks os rs crew come)
+  pub gave : HaveGivenBack cache (lines-acts cache restored (pools.size before) (pools.told before) trace.blocks os rs crew come) (λ n. []) crew.feeder.own.about.openings (events_by_feeder cache.config restored os rs) (λ shard. seen_of cache.config shard crew.feeder) crew.kept.items all-given
+  gave = h.gave (lines-acts cache restored (pools.size before) (pools.told before) trace.blocks os rs crew come) (λ n. []) (come-wait cache restored (pools.size before) (pools.told before) trace.blocks os rs crew come)
       crew.feeder.own.about.openings (events_by_feeder cache.config restored os rs) (λ shard. seen_of cache.config shard crew.feeder) come.feeder
 
   pub stopped : HaveStopped cache all-given
@@ -587,7 +621,9 @@ module _ {P : Type 0} (m : Meanings OnHeap) (cache : Cache) (pools : Ghosts P) (
   -- what they made are events of shards, with their own numbers
   pub only-given : (n : ℕ) (p : PartyPlace) → get_elem? all-given n ≡ some p → MadeItsOwn cache.config p
   only-given = each-party cache restored (pools.size before) (pools.told before) trace.blocks os rs crew come all-given gave (λ n p. MadeItsOwn cache.config p)
-      (λ n p at. (caller-at cache restored (pools.size before) (pools.told before) trace.blocks os rs crew come all-given gave n p at).1.told.only) gave.fed.only
+      (λ n p at.
+      let w = caller-at cache restored (pools.size before) (pools.told before) trace.blocks os rs crew come all-given gave n p at in
+      caller-alone cache trace.blocks os rs n p w.0 w.1) gave.fed.only
 
   pub after-ends : AreAfter cache h.ended.last all-given closing
   after-ends = crew-after cache h.parties h.closing h.ended gave.lines gave.level (λ n p at. ((stopped.each n p at).1, only-given n p at))
@@ -602,11 +638,11 @@ module _ {P : Type 0} (m : Meanings OnHeap) (cache : Cache) (pools : Ghosts P) (
   answers : AnswersAll (pools.size before) (pools.told before) trace.blocks os rs
   answers = all-answered (pools.size before) (pools.told before) trace.blocks (λ n. n < callers) os rs come.long below-all come.ended (λ n below. (come.each n below).come.answers)
 
-  explained : Explain trace restored rs (ends_in closed) (histories_of closed)
-  explained =
-      let e = come-explains cache restored (pools.size before) (pools.told before) trace.blocks os rs crew come all-given gave h.ended.last closing closing-long after-ends m valid closed h.ends in
+  explained : ((j : ℕ) (c : OnHeap) → get_elem? closed.cells j ≡ some c → m.holds c ≡ []) → ExplainReads trace restored rs (ends_in closed) (histories_of closed)
+  explained emptied =
+      let e = come-explains cache restored (pools.size before) (pools.told before) trace.blocks os rs crew come all-given gave h.ended.last closing closing-long after-ends m valid closed h.ends emptied in
       explain-mapped trace restored rs (ends_in closed) (histories_of closed)
-      (subst (λ (x : Config × List Op). Explain (record { config = x.0; blocks = trace.blocks; objects = []; ops = x.1 }) restored rs (ends_in closed) (histories_of closed)) (λ i. (config i, whole-ops i))
+      (subst (λ (x : Config × List Op). ExplainReads (record { config = x.0; blocks = trace.blocks; objects = []; ops = x.1 }) restored rs (ends_in closed) (histories_of closed)) (λ i. (config i, whole-ops i))
       (explained-more cache.config restored trace.blocks os more rs (ends_in closed) (histories_of closed) come.long long-each e))
 
   all-reads-are : over_callers callers (λ n. length (calls_of_all (replies_of_caller n os rs))) ≡ sum_by pool_reads (histories_of closed)
@@ -638,26 +674,30 @@ module _ {P : Type 0} (m : Meanings OnHeap) (cache : Cache) (pools : Ghosts P) (
   reached-faults room = omega (arith, d.between.counted.faults room, all-faults-are)
 
   after-reads : pools.reads before < 2 ^ 63 → pools.reads after ≡ pools.reads before + sum_by pool_reads (histories_of closed)
-  after-reads room = go fork_failed refl
+  after-reads room = go ending d.ended
     where
-      go : (b : Bool) → fork_failed ≡ b → pools.reads after ≡ pools.reads before + sum_by pool_reads (histories_of closed)
-      go false is = ap (λ (p : P). pools.reads p) (d.whole is).1 ∙ reached-reads room
-      go true is = (d.failed is).1.reads (omega (arith, room, d.between.counted.reads room, reads-few, few-callers)) ∙ reached-reads room
+      go : (e : Ending) → EndsLines pools trace rs e d.reached.pool after → pools.reads after ≡ pools.reads before + sum_by pool_reads (histories_of closed)
+      go Whole is = ap (λ (p : P). pools.reads p) is.1 ∙ reached-reads room
+      go Sync is = absurd is
+      go (Full need left) is = absurd is
+      go Fork is = is.1.reads (omega (arith, room, d.between.counted.reads room, reads-few, few-callers)) ∙ reached-reads room
 
-  after-faults : pools.faults before < 2 ^ 63 → pools.faults after ≡ pools.faults before + faults_told fork_failed rs
-  after-faults room = go fork_failed refl
+  after-faults : pools.faults before < 2 ^ 63 → pools.faults after ≡ pools.faults before + faults_told ending rs
+  after-faults room = go ending d.ended
     where
-      go : (b : Bool) → fork_failed ≡ b → pools.faults after ≡ pools.faults before + faults_told b rs
-      go false is = ap (λ (p : P). pools.faults p) (d.whole is).1 ∙ reached-faults room
-      go true is = omega (arith, (d.failed is).1.faults (omega (arith, room, reached-faults room, faults-few)), reached-faults room)
+      go : (e : Ending) → EndsLines pools trace rs e d.reached.pool after → pools.faults after ≡ pools.faults before + faults_told e rs
+      go Whole is = ap (λ (p : P). pools.faults p) is.1 ∙ reached-faults room
+      go Sync is = absurd is
+      go (Full need left) is = absurd is
+      go Fork is = omega (arith, is.1.faults (omega (arith, room, reached-faults room, faults-few)), reached-faults room)
 
-  pub group-together : IsFirstPlace (pools.size before) trace.blocks place → AreCellsOf trace closed → RanTogether pools before after trace fork_failed restored rs closed
-  group-together first cells = record {
-    answers = go fork_failed refl;
+  pub group-together : IsFirstPlace (pools.size before) trace.blocks place → AreCellsOf trace (only_ended trace.config) closed → ((j : ℕ) (c : OnHeap) → get_elem? closed.cells j ≡ some c → m.holds c ≡ []) → RanTogether pools before after trace ending restored rs closed
+  group-together first cells emptied = record {
+    answers = answered ending d.ended;
     config = h.ends.config ∙ config;
-    explained = explained;
+    explained = explained emptied;
     reads = after-reads;
-    faults = λ room. subst (λ (b : Bool). pools.faults after ≡ pools.faults before + faults_told b rs) refl (after-faults room);
+    faults = after-faults;
     together = λ rebuilt is. record {
       place = place;
       first = first;
@@ -665,7 +705,7 @@ module _ {P : Type 0} (m : Meanings OnHeap) (cache : Cache) (pools : Ghosts P) (
       groups = in-groups-as pools trace.config (StoodFresh (openings_of trace) trace.config.cells) (StoodThen trace closed.cells) (fresh-then trace closed cells) (groups_of trace.ops rs) (between_groups before 1 place) d.reached
           (subst (λ (x : Config × List GroupLines). WorkInGroups pools x.0 (StoodFresh (openings_of trace) x.0.cells) x.1 (between_groups before 1 place) d.reached)
           (λ i. (config i, (sym (groups-prefix os more rs come.long) ∙ ap (λ (l : List Op). groups_of l rs) whole-ops) i)) d.between.groups);
-      whole = λ is. (d.whole is).1;
+      ended = ends ending d.ended;
       counted = λ n below.
           ap (λ (l : List Op). length (calls_of_all (replies_of_caller n l rs))) (sym whole-ops)
           ∙ (ap (λ (l : List Reply). length (calls_of_all l)) (replies-prefix trace.blocks os more rs come.long n)
@@ -677,24 +717,37 @@ module _ {P : Type 0} (m : Meanings OnHeap) (cache : Cache) (pools : Ghosts P) (
           (cut-prefix cache.config restored trace.blocks shard os more rs l.0.history come.long
           (come-cut cache restored (pools.size before) (pools.told before) trace.blocks os rs crew come all-given gave h.ended.last closing closing-long after-ends m valid closed h.ends shard l.0 l.1));
     };
-    failed = λ is.
-        let f = d.failed is in (
-          rose-then (pools.faults before) (pools.faults d.reached.pool) (pools.faults after) d.between.counted.keeps.faults f.1.rose,
-          record { some = f.0; begins = d.between.begins f.0 },
-        );
+    stopped = stops ending d.ended;
   }
     where
-      go : (b : Bool) → fork_failed ≡ b → AnswersAll (pools.size before) (pools.told before) trace.blocks (answered_ops trace fork_failed rs) rs
-      go false is = subst (λ (l : List Op). AnswersAll (pools.size before) (pools.told before) trace.blocks l rs) (take_all (length rs) trace.ops (omega (arith, (d.whole is).0)) ∙ sym (ap (λ (b : Bool). answered_ops trace b rs) is)) answers
-      go true is = subst (λ (l : List Op). AnswersAll (pools.size before) (pools.told before) trace.blocks l rs) (sym (ap (λ (b : Bool). answered_ops trace b rs) is)) answers
+      rose-then : (start reached later : ℕ) → min start last_count ≤ reached → Rose reached later → Rose start later
+      rose-then start reached later least rose = omega (arith, least, rose)
+
+      ends : (e : Ending) → EndsLines pools trace rs e d.reached.pool after → EndsRun pools trace.config (StoodThen trace closed.cells) trace rs e d.reached after
+      ends Whole is = is.1
+      ends Fork is = (is.1.keeps.size, is.1.keeps.told)
+      ends Sync is = absurd is
+      ends (Full need left) is = absurd is
+
+      stops : (e : Ending) → EndsLines pools trace rs e d.reached.pool after → StopsSo pools before after trace rs e
+      stops Whole is = tt
+      stops Fork is = (
+        rose-then (pools.faults before) (pools.faults d.reached.pool) (pools.faults after) d.between.counted.keeps.faults is.1.rose,
+        record { some = is.0; begins = d.between.begins is.0 },
+      )
+      stops Sync is = absurd is
+      stops (Full need left) is = absurd is
+
+      answered : (e : Ending) → EndsLines pools trace rs e d.reached.pool after → AnswersAll (pools.size before) (pools.told before) trace.blocks (answered_ops trace e rs) rs
+      answered Whole is = subst (λ (l : List Op). AnswersAll (pools.size before) (pools.told before) trace.blocks l rs) (take_all (length rs) trace.ops (omega (arith, is.0))) answers
+      answered Fork is = answers
+      answered Sync is = absurd is
+      answered (Full need left) is = absurd is
 
       index-history : (logs : List ShardLog) (i : ℕ) (l : ShardLog) → get_elem? logs i ≡ some l → slice_index_or (map (λ (log : ShardLog). log.history) logs) i [] ≡ l.history
       index-history [] i l at = absurd (some-ne-none l (sym at))
       index-history (x ∷ xs) zero l at = ap (λ (log : ShardLog). log.history) (some-injective x l at)
       index-history (x ∷ xs) (suc i) l at = index-history xs i l at
-
-      rose-then : (start reached later : ℕ) → min start last_count ≤ reached → Rose reached later → Rose start later
-      rose-then start reached later least rose = omega (arith, least, rose)
 
 -- what follows of two facts of an answer
 pub ok-both : {T E : Type 0} (A B R : T → Type 0) (r : Result T E) → IfOk r A → IfOk r B → ((x : T) → A x → B x → R x) → IfOk r R

@@ -305,7 +305,7 @@ module _ {C : Type 0} (cache : Cache) (whole : List (Place (Known C))) (crew : C
       knows = refl;
       fed = λ shard below. none-own shard;
       since = λ shard. starts_whole (seen_of cache.config shard crew.feeder);
-      only = feeder-new.new.told.only;
+      only = feeder-new.new.only;
     };
     begun = λ shard below. (seen_of cache.config shard crew.feeder, refl);
     cut = λ shard below k op at ends some_k. absurd (omega (arith, some_k));
@@ -363,7 +363,7 @@ module _ {C : Type 0} (cache : Cache) (restored : List Restored) (len : ℕ) (im
         reads = b.reads;
         party = x.0;
         at = record { kept_at = ap (λ (l : List (List KeptBlock)). get_elem? l n) kept ∙ b.at.kept_at; party_at = x.1 };
-        come = record { waits = parted-waits cache made.lines b.party x.0 x.2 n [] b.reads b.come.waits; keeps = b.come.keeps; answers = b.come.answers };
+        come = record { waits = parted-waits cache made.lines b.party x.0 x.2 n [] [] b.reads b.come.waits; keeps = b.come.keeps; answers = b.come.answers };
       }
 
   pub have-restored : HaveCome cache restored len image blocks [] [] new
@@ -392,7 +392,7 @@ module _ {C : Type 0} (cache : Cache) (restored : List Restored) (len : ℕ) (im
 -- ---- the lines of a group
 
 module _ {C P : Type 0} (cache : Cache) (restored : List Restored) (pools : Ghosts P) (len : ℕ) (image : Option (List ℕ)) (blocks : List Ptr) (os qs : List Op) (rs ss : List Reply) (from to : P) (old new : Crew C)
-    (before : HaveCome cache restored len image blocks os rs old) (did : DidLinesAtOnce cache pools blocks qs from to old new ss) (own : AreOfCallers cache.config.callers qs)
+    (before : HaveCome cache restored len image blocks os rs old) (did : DidLinesAtOnce cache pools blocks qs from to old new ss) (same_feeder : new.feeder ≡ old.feeder) (own : AreOfCallers cache.config.callers qs)
     (size : pools.size from ≡ len) (told : pools.told from ≡ image) where
   callers-are : length old.parties.items ≡ cache.config.callers
   callers-are = before.parties
@@ -438,10 +438,10 @@ module _ {C P : Type 0} (cache : Cache) (restored : List Restored) (pools : Ghos
           party = w.to;
           at = w.after;
           come = record {
-            waits = both (λ l r. Waits cache n (acts_of_all blocks [] l r) w.new w.to)
-                (subst (λ (acts : List Act). Waits cache n acts w.new w.to)
+            waits = both (λ l r. Waits cache n (acts_of_all blocks [] l r) [] w.new w.to)
+                (subst (λ (acts : List Act). Waits cache n acts [] w.new w.to)
                 (ap (λ (l : List KeptRead). acts_of_all blocks [] f0 r0 ++ acts_of_all blocks l f1 r1) left ∙ sym (acts-append blocks [] f0 f1 r0 r1 long))
-                (worked.waits (acts_of_lines blocks os n r0) b.come.waits));
+                (worked.waits (acts_of_lines blocks os n r0) [] b.come.waits));
             keeps = both (λ l r. map read_of w.new ≡ kept_after_all blocks [] l r)
                 (worked.keeps ∙ (ap (λ (l : List KeptRead). kept_after_all blocks l f1 r1) left ∙ sym (kept-append blocks [] f0 f1 r0 r1 long)));
             answers = both (λ l r. AreAnswered len image blocks [] l r)
@@ -473,11 +473,11 @@ module _ {C P : Type 0} (cache : Cache) (restored : List Restored) (pools : Ghos
         let below = in-front k op at none in
         let given = before.ended k op (sym (get-left os qs k below) ∙ at) none in
         (given.0, get-left rs ss k (omega (arith, below, before.long)) ∙ given.1, given.2);
-    settled = subst HasSettled (sym did.feeder) before.settled;
-    feeder = subst (λ (p : Place (Known C)). IsFed cache p.own.about.openings (events_by_feeder cache.config restored (os ++ qs) (rs ++ ss)) (λ shard. seen_of cache.config shard p) p) (sym did.feeder)
+    settled = subst HasSettled (sym same_feeder) before.settled;
+    feeder = subst (λ (p : Place (Known C)). IsFed cache p.own.about.openings (events_by_feeder cache.config restored (os ++ qs) (rs ++ ss)) (λ shard. seen_of cache.config shard p) p) (sym same_feeder)
         (subst (λ (fed : ℕ → List Event). IsFed cache old.feeder.own.about.openings fed (λ shard. seen_of cache.config shard old.feeder) old.feeder) (sym feeds-are) before.feeder);
-    begun = λ shard below. subst (λ (p : Place (Known C)). StartsWith (seen_of cache.config shard p) (restores_in cache.config restored shard)) (sym did.feeder) (before.begun shard below);
-    cut = λ shard below. subst (λ (p : Place (Known C)). AreCut cache.config restored blocks shard (os ++ qs) (rs ++ ss) (seen_of cache.config shard p)) (sym did.feeder)
+    begun = λ shard below. subst (λ (p : Place (Known C)). StartsWith (seen_of cache.config shard p) (restores_in cache.config restored shard)) (sym same_feeder) (before.begun shard below);
+    cut = λ shard below. subst (λ (p : Place (Known C)). AreCut cache.config restored blocks shard (os ++ qs) (rs ++ ss) (seen_of cache.config shard p)) (sym same_feeder)
         (λ k op at ends inside. cut-before cache.config restored blocks shard os qs rs ss (seen_of cache.config shard old.feeder) before.long (before.cut shard below) k op at ends (in-front k op at (ends-nobody op ends)));
   }
 
@@ -521,7 +521,7 @@ module _ {C : Type 0} (cache : Cache) (restored : List Restored) (len : ℕ) (im
   replies-same n = where-append n os (op ∷ []) rs (reply ∷ []) before.long ∙ (ap (λ (l : List Reply). replies_of_caller n os rs ++ l) (no-replies n) ∙ append-nil (replies_of_caller n os rs))
 
   abbrev Come : ℕ → List Op → List Reply → List KeptBlock → Place (Known C) → Type 0
-  Come n l r ks p = Waits cache n (acts_of_all blocks [] l r) ks p × (map read_of ks ≡ kept_after_all blocks [] l r) × AreAnswered len image blocks [] l r
+  Come n l r ks p = Waits cache n (acts_of_all blocks [] l r) [] ks p × (map read_of ks ≡ kept_after_all blocks [] l r) × AreAnswered len image blocks [] l r
 
   end-come : (n : ℕ) → n < g.callers → ComesAt cache len image blocks (os ++ op ∷ []) (rs ++ reply ∷ []) n new
   end-come n below =
@@ -533,7 +533,7 @@ module _ {C : Type 0} (cache : Cache) (restored : List Restored) (len : ℕ) (im
         at = record { kept_at = ap (λ (l : List (List KeptBlock)). get_elem? l n) so.kept ∙ b.at.kept_at; party_at = x.1 };
         come =
             let came = subst (λ (y : List Op × List Reply). Come n y.0 y.1 b.reads x.0) (λ i. (sym (lines-same n) i, sym (replies-same n) i))
-            (parted-waits cache so.made.lines b.party x.0 x.2 n (acts_of_lines blocks os n (replies_of_caller n os rs)) b.reads b.come.waits, b.come.keeps, b.come.answers) in
+            (parted-waits cache so.made.lines b.party x.0 x.2 n (acts_of_lines blocks os n (replies_of_caller n os rs)) [] b.reads b.come.waits, b.come.keeps, b.come.answers) in
             record { waits = came.0; keeps = came.1; answers = came.2 };
       }
 

@@ -35,8 +35,11 @@ use Rattle.arc_table.proofs.OwnLemmas.{no-own-moments, own-append, seen-more}
 use Rattle.arc_table.proofs.SeenLemmas.{events-append, get-behind}
 use Rattle.arc_table.specs.declared.about.About.{About}
 use Rattle.trace_run.specs.declared.kept_blocks.KeptBlock.{KeptBlock}
+use Rattle.trace_run.specs.Deeds.{Noted}
 use Rattle.trace_run.specs.Meeting.{AreLast, HasLearned, HasParted, HasSameOwn, IsFed, IsLevel, JoinAll, Joins, MayJoin, PartAll, Waits}
 use Rattle.trace_run.proofs.CellsLeft.{CellsGrow, all-entries-more, entries-more}
+use Rattle.trace_run.proofs.deeds.DeedLemmas.{told-still}
+use Rattle.trace_run.proofs.deeds.MakesLemmas.{grown-same}
 
 -- ---- lists that begin alike
 
@@ -465,19 +468,19 @@ module _ {C : Type 0} (cache : Cache) (q r o : Place (Known C)) (learned : HasLe
     starts = λ shard. starts-events (front_of (turn_of cache.config shard) parting.own.seen) (front_of (turn_of cache.config shard) o.own.seen) (x-starts shard);
     mine = refl;
     only = λ only. record { events = own-seen-more cache.config o.number o.own.mine o.own.seen parting.own.seen x-starts only.events; entries = only.entries };
+    same = λ kept stands. grown-same cache.config o parting refl refl refl x-starts x-cells stands.seen stands.cells;
   }
 
 -- a party that waits still does once it has parted
-pub parted-waits : {C : Type 0} (cache : Cache) (lines : ℕ → List Line) (old new : Place (Known C)) → HasParted cache lines old new → (n : ℕ) (acts : List Act) (kept : List KeptBlock) → Waits cache n acts kept old → Waits cache n acts kept new
-parted-waits cache lines old new parted n acts kept waits = record {
+pub parted-waits : {C : Type 0} (cache : Cache) (lines : ℕ → List Line) (old new : Place (Known C)) → HasParted cache lines old new → (n : ℕ) (acts : List Act) (noted : List Noted) (kept : List KeptBlock) → Waits cache n acts noted kept old → Waits cache n acts noted kept new
+parted-waits cache lines old new parted n acts noted kept waits = record {
   number = parted.number ∙ waits.number;
   alone = parted.alone;
   stands = parted.stands kept waits.stands;
-  told = record {
-    acts = λ shard. subst (λ (k : ℕ). Tell (acts_in (shard_of cache.config.shards) shard k acts) (own_moments k (moments (opening_of cache.config) (seen_of cache.config shard new)))) (sym parted.number)
-        (subst (Tell (acts_in (shard_of cache.config.shards) shard old.number acts)) (sym (parted.own shard)) (waits.told.acts shard));
-    only = parted.only waits.told.only;
-  };
+  told = told-still cache.config acts noted old new
+      (λ shard. subst (λ (k : ℕ). Tell (acts_in (shard_of cache.config.shards) shard k acts) (own_moments k (moments (opening_of cache.config) (seen_of cache.config shard new)))) (sym parted.number)
+      (subst (Tell (acts_in (shard_of cache.config.shards) shard old.number acts)) (sym (parted.own shard)) (waits.told.acts shard)))
+      (parted.same kept waits.stands) waits.told;
 }
 
 -- and the feeder's has made what it had

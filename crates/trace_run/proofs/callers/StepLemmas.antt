@@ -24,13 +24,13 @@ use Rattle.trace_run.specs.Restores.{restores_in}
 use Rattle.trace_text.specs.declared.op.Op.{Op}
 use Rattle.trace_text.specs.declared.op.Op.TheVariants as ops
 use Rattle.trace_text.specs.declared.reply.Reply.{Reply}
-use Rattle.trace_text.specs.declared.reply.Reply.TheVariants.{Capped}
 use Rattle.trace_text.specs.declared.trace.Trace.{Trace}
 use Rattle.trace_text.specs.Grammar.{IsFormed}
 use Rattle.vdev_io.specs.Calls.{MakesCalls}
 use Rattle.vdev_io.specs.Faults.{last_count, sum_of_counts}
 use Rattle.vdev_io.specs.declared.pool.Pool.{Ghosts}
 use Rattle.trace_run.specs.declared.groups.Crew.{Crew}
+use Rattle.trace_run.specs.declared.ran.Ending.TheVariants.{Fork, Whole}
 use Rattle.trace_run.specs.declared.kept_blocks.KeptBlock.{KeptBlock}
 use Rattle.trace_run.specs.Answers.{is_pool_fault}
 use Rattle.trace_run.specs.Effects.{calls_of, calls_of_all, effect_of}
@@ -94,7 +94,7 @@ leaves-same pools a = record { size = refl; told = refl; faults = omega arith }
 
 -- What callers who worked at once did to the pool. It was the same before their forks were made.
 module _ {C P : Type 0} (cache : Cache) (pools : Ghosts P) (blocks : List Ptr) (qs : List Op) (callers : ℕ) (was from to : P) (own : List (List Reply)) (had : List (List KeptBlock)) (ps : List (Place (Known C))) (kept : List (List KeptBlock)) (xs : List (Place (Known C))) (ss : List Reply)
-    (unused : IsUnused pools was from) (w : HaveWorked cache pools blocks qs callers from to own had ps kept xs) (ordered : AreInOrder qs own ss) (some : 0 < callers) where
+    (unused : IsUnused pools was from) (w : HaveWorked cache pools blocks qs callers from to own had ps kept xs) (fed : List Reply) (ordered : AreInOrder qs own fed ss) (some : 0 < callers) where
   calls-are : (n : ℕ) → n < callers → MakesCalls pools (calls_of_all (replies_of_caller n qs ss)) (w.forks n) (w.done n)
   calls-are n below =
       let h = w.each n below in
@@ -207,7 +207,7 @@ between-begun cache restored pools trace start whole old new opened is none many
     (ap (λ (a : About). a.openings) made.about ∙ knows) may
 
 module _ {P : Type 0} (cache : Cache) (restored : List Restored) (pools : Ghosts P) (trace : Trace) (start was : BetweenGroups P) (from to : P) (rs ss : List Reply) (qs : List Op) (old new : Crew OnHeap) (few : length trace.ops ≤ 1000000) (some_callers : (0 < cache.config.callers) × (cache.config.callers ≤ 16))
-    (between : AreBetween cache restored pools trace start was rs old) (more : length rs < length trace.ops) (unused : IsUnused pools was.pool from) (did : DidLinesAtOnce cache pools trace.blocks qs from to old new ss) (leaves : LeavesPool pools from to)
+    (between : AreBetween cache restored pools trace start was rs old) (more : length rs < length trace.ops) (unused : IsUnused pools was.pool from) (did : DidLinesAtOnce cache pools trace.blocks qs from to old new ss) (same_feeder : new.feeder ≡ old.feeder) (leaves : LeavesPool pools from to)
     (own : AreOfCallers cache.config.callers qs) (inside : length rs + length qs ≤ length trace.ops) (here : take (length qs) (drop (length rs) trace.ops) ≡ qs) where
   abbrev callers : ℕ
   callers = cache.config.callers
@@ -240,18 +240,18 @@ module _ {P : Type 0} (cache : Cache) (restored : List Restored) (pools : Ghosts
   few-here = omega (arith, same-length, inside, few)
 
   once : (end : Option EndLine) → WorkAtOnce pools callers (record { ops = qs; replies = ss; end = end }) was.pool to
-  once = at-once cache pools trace.blocks qs callers was.pool from to did.own old.kept.items old.parties.items new.kept.items new.parties.items ss unused worked did.ordered some_callers.0
+  once = at-once cache pools trace.blocks qs callers was.pool from to did.own old.kept.items old.parties.items new.kept.items new.parties.items ss unused worked did.fed did.ordered some_callers.0
 
   now-leaves : LeavesPool pools was.pool to
   now-leaves = unused-leaves pools was.pool from to unused leaves
 
   counted-lines : HaveCounted pools callers (os ++ qs) (rs ++ ss) start.pool to
   counted-lines = counted-more pools callers os qs rs ss long start.pool was.pool to few-so-far some_callers.1 between.counted now-leaves
-      (group-reads cache pools trace.blocks qs callers was.pool from to did.own old.kept.items old.parties.items new.kept.items new.parties.items ss unused worked did.ordered some_callers.0 few-here some_callers.1)
-      (group-faults cache pools trace.blocks qs callers was.pool from to did.own old.kept.items old.parties.items new.kept.items new.parties.items ss unused worked did.ordered some_callers.0 few-here some_callers.1)
+      (group-reads cache pools trace.blocks qs callers was.pool from to did.own old.kept.items old.parties.items new.kept.items new.parties.items ss unused worked did.fed did.ordered some_callers.0 few-here some_callers.1)
+      (group-faults cache pools trace.blocks qs callers was.pool from to did.own old.kept.items old.parties.items new.kept.items new.parties.items ss unused worked did.fed did.ordered some_callers.0 few-here some_callers.1)
 
   come-lines : HaveCome cache restored (pools.size start.pool) (pools.told start.pool) trace.blocks (os ++ qs) (rs ++ ss) new
-  come-lines = have-come-more cache restored pools (pools.size start.pool) (pools.told start.pool) trace.blocks os qs rs ss from to old new between.come did own (unused.size ∙ between.counted.keeps.size) (unused.told ∙ between.counted.keeps.told)
+  come-lines = have-come-more cache restored pools (pools.size start.pool) (pools.told start.pool) trace.blocks os qs rs ss from to old new between.come did same_feeder own (unused.size ∙ between.counted.keeps.size) (unused.told ∙ between.counted.keeps.told)
 
   -- the trace ends with these lines
   pub between-last : length rs + length qs ≡ length trace.ops → AreBetween cache restored pools trace start (between_groups to was.group was.next) (rs ++ ss) new
@@ -259,7 +259,7 @@ module _ {P : Type 0} (cache : Cache) (restored : List Restored) (pools : Ghosts
     few = omega (arith, both-long, all);
     begins = λ less. absurd (omega (arith, both-long, all, less));
     come = subst (λ (l : List Op). HaveCome cache restored (pools.size start.pool) (pools.told start.pool) trace.blocks l (rs ++ ss) new) (sym taken) come-lines;
-    knows = ap (λ (p : PartyPlace). p.own.about.openings) did.feeder ∙ between.knows;
+    knows = ap (λ (p : PartyPlace). p.own.about.openings) same_feeder ∙ between.knows;
     counted = subst (λ (l : List Op). HaveCounted pools callers l (rs ++ ss) start.pool to) (sym taken) counted-lines;
     groups = subst (λ (gs : List GroupLines). WorkInGroups pools cache.config Cells gs start (between_groups to was.group was.next))
         (sym (ap (λ (l : List Op). groups_of l (rs ++ ss)) taken
@@ -293,7 +293,7 @@ module _ {P : Type 0} (cache : Cache) (restored : List Restored) (pools : Ghosts
         ∙ (λ i. (sym (ap (λ (k : ℕ). take k trace.ops) both-long) ∙ taken) i ++ get_or_from_slice_get trace.ops (length rs + length qs) op op at i ∷ []))
 
     knows-new : Knows (openings_of trace) new.feeder
-    knows-new = ap (λ (p : PartyPlace). p.own.about.openings) did.feeder ∙ between.knows
+    knows-new = ap (λ (p : PartyPlace). p.own.about.openings) same_feeder ∙ between.knows
 
     turn : Turned cache pools (openings_of trace) op reply (between_groups to was.group was.next) fin new last
     turn = end-turned cache pools (openings_of trace) op (between_groups to was.group was.next) fin new last reply knows-new (come-unwritten cache restored (pools.size start.pool) (pools.told start.pool) trace.blocks (os ++ qs) (rs ++ ss) new come-lines) ended
@@ -391,7 +391,7 @@ module _ (trace : Trace) (formed : IsFormed trace) (a b : ℕ) where
 module _ {P : Type 0} (cache : Cache) (restored : List Restored) (pools : Ghosts P) (trace : Trace) (formed : IsFormed trace) (config : cache.config ≡ trace.config) (start was : BetweenGroups P) (from to : P) (rs ss : List Reply) (old new : Crew OnHeap)
     (first end : ℕ) (bs : List Ptr) (os : List Op) (is_bs : bs ≡ trace.blocks) (is_os : os ≡ trace.ops) (is_first : first ≡ length rs) (le : first ≤ end) (few : end ≤ length os)
     (inside : (k : ℕ) (op : Op) → first ≤ k → k < end → slice_get os k ≡ Some op → ends_group op ≡ false) (between : AreBetween cache restored pools trace start was rs old) (more : length rs < length trace.ops)
-    (unused : IsUnused pools was.pool from) (did : DidLinesAtOnce cache pools bs (slice_range os first end) from to old new ss) (leaves : LeavesPool pools from to) where
+    (unused : IsUnused pools was.pool from) (did : DidLinesAtOnce cache pools bs (slice_range os first end) from to old new ss) (same_feeder : new.feeder ≡ old.feeder) (leaves : LeavesPool pools from to) where
   abbrev qs : List Op
   qs = slice_range trace.ops (length rs) end
 
@@ -423,7 +423,7 @@ module _ {P : Type 0} (cache : Cache) (restored : List Restored) (pools : Ghosts
       let whole : length rs + length qs ≡ length trace.ops = omega (arith, ends-at, few-lines, last, long) in
       let size = ap length is in (
         subst (λ (l : List Reply). AreBetween cache restored pools trace start (between_groups to was.group was.next) l new) (sym is)
-            (between-last cache restored pools trace start was from to rs ss qs old new formed.few_ops few-callers between more unused did-these leaves own (omega (arith, ends-at, few-lines)) here whole),
+            (between-last cache restored pools trace start was from to rs ss qs old new formed.few_ops few-callers between more unused did-these same_feeder leaves own (omega (arith, ends-at, few-lines)) here whole),
         omega (arith, size, length-append rs ss, did-these.ordered.all, whole, more),
       )
 
@@ -431,13 +431,13 @@ module _ {P : Type 0} (cache : Cache) (restored : List Restored) (pools : Ghosts
   pub next-may : cache.row.parties ≡ parties_of cache.config → MayGoOn cache [] new.feeder new.parties.items
   next-may rows =
       may-resize cache restored (pools.size start.pool) (pools.told start.pool) trace.blocks (take (length rs) trace.ops ++ qs) (rs ++ ss) new
-      (come-lines cache restored pools trace start was from to rs ss qs old new formed.few_ops few-callers between more unused did-these leaves own (omega (arith, ends-at, few-lines)) here) rows
+      (come-lines cache restored pools trace start was from to rs ss qs old new formed.few_ops few-callers between more unused did-these same_feeder leaves own (omega (arith, ends-at, few-lines)) here) rows
 
   -- none of them has changed a cell
   pub next-unwritten : AllByRecursion (λ o. AreNoEntries cache.config o.own.mine) (new.feeder ∷ new.parties.items)
   next-unwritten =
       come-unwritten cache restored (pools.size start.pool) (pools.told start.pool) trace.blocks (take (length rs) trace.ops ++ qs) (rs ++ ss) new
-      (come-lines cache restored pools trace start was from to rs ss qs old new formed.few_ops few-callers between more unused did-these leaves own (omega (arith, ends-at, few-lines)) here)
+      (come-lines cache restored pools trace start was from to rs ss qs old new formed.few_ops few-callers between more unused did-these same_feeder leaves own (omega (arith, ends-at, few-lines)) here)
 
   -- the sync that ends it may be done
   pub next-sync : (lines : ℕ) × (lines < 2 ^ 32) × MaySync pools lines (between_groups to was.group was.next)
@@ -459,7 +459,7 @@ module _ {P : Type 0} (cache : Cache) (restored : List Restored) (pools : Ghosts
       let whole : all ≡ (rs ++ ss) ++ reply ∷ [] = is ∙ ap (λ (l : List Reply). l ++ reply ∷ []) is_far in
       let size = ap length whole in (
         subst (λ (l : List Reply). AreBetween cache restored pools trace start fin l last) (sym whole)
-            (between-ended cache restored pools trace start was from to rs ss qs old new formed.few_ops few-callers between more unused did-these leaves own (omega (arith, ends-at, few-lines)) here op reply last fin there ends ended),
+            (between-ended cache restored pools trace start was from to rs ss qs old new formed.few_ops few-callers between more unused did-these same_feeder leaves own (omega (arith, ends-at, few-lines)) here op reply last fin there ends ended),
         omega (arith, size, length-append (rs ++ ss) (reply ∷ []), length-append rs ss),
       )
 
@@ -469,21 +469,19 @@ pub stepped : {C P : Type 0} (cache : Cache) (restored : List Restored) (pools :
 stepped cache restored pools trace start before after replied replies done old new is step = subst (λ (b : Bool). StepsOn cache restored pools trace start before after replied replies b old new) is step
 
 pub not-stepped : {C P : Type 0} (cache : Cache) (restored : List Restored) (pools : Ghosts P) (trace : Trace) (start before after : BetweenGroups P) (replied replies : List Reply) (done : Bool) (old new : Crew C) → done ≡ false
-    → StepsOn cache restored pools trace start before after replied replies done old new → AreBetween cache restored pools trace start before replied old → length replied < length trace.ops → AreDone cache restored pools trace start after.pool true replies new
+    → StepsOn cache restored pools trace start before after replied replies done old new → AreBetween cache restored pools trace start before replied old → length replied < length trace.ops → AreDone cache restored pools trace start after.pool Fork replies new
 not-stepped {C} cache restored pools trace start before after replied replies done old new is step between more =
     let same = subst (λ (b : Bool). StepsOn cache restored pools trace start before after replied replies b old new) is step in
     record {
       reached = before;
       between = subst (λ (x : List Reply × Crew C). AreBetween cache restored pools trace start before x.0 x.1) (λ i. (sym same.0 i, sym same.1 i)) between;
-      whole = λ no. absurd (false≢true (sym no));
-      failed = λ yes. (omega (arith, ap length same.0, more), same.2);
+      ended = (omega (arith, ap length same.0, more), same.2);
     }
 
 pub all-stepped : {C P : Type 0} (cache : Cache) (restored : List Restored) (pools : Ghosts P) (trace : Trace) (start after : BetweenGroups P) (replies : List Reply) (crew : Crew C) → AreBetween cache restored pools trace start after replies crew → length trace.ops ≤ length replies
-    → AreDone cache restored pools trace start after.pool false replies crew
+    → AreDone cache restored pools trace start after.pool Whole replies crew
 all-stepped cache restored pools trace start after replies crew between all = record {
   reached = after;
   between = between;
-  whole = λ no. (omega (arith, between.few, all), refl);
-  failed = λ yes. absurd (false≢true yes);
+  ended = (omega (arith, between.few, all), refl);
 }

@@ -1,12 +1,11 @@
 -- The syncs of several callers' run, by the cells of the closed cache.
-use Rattle.std.proofs.Common.{◌≡◌, ℕ, ◌+◌, ◌<◌, List, [], ◌∷◌, ◌++◌, length, Option, Some, None, refl, sym, ap, ◌∙◌, subst, arith}
-use Rattle.std.specs.Prelude.{slice_get, slice_index_or}
+use Rattle.std.proofs.Common.{◌≡◌, ℕ, ◌+◌, ◌<◌, List, [], ◌∷◌, ◌++◌, Option, Some, None, sym, ap, ◌∙◌, arith}
+use Rattle.std.specs.Prelude.{slice_get}
 use Rattle.std.proofs.lemmas.Option.{slice_get_within}
 use Rattle.arc_core.specs.declared.config.Config.{Config}
 use Rattle.arc_table.specs.Ended.{Ended}
 use Rattle.dbuf_cells.specs.Turns.{OnHeap}
 use Rattle.dbuf_state.specs.Numbers.{opening_numbers}
-use Rattle.dbuf_state.specs.declared.event.CellEvent.{CellEvent}
 use Rattle.dbuf_state.specs.declared.event.CellEvent.TheVariants.{End}
 use Rattle.txg_sync.specs.Items.{SyncItem}
 use Rattle.txg_sync.specs.Turns.{synced_in}
@@ -16,10 +15,11 @@ use Rattle.trace_text.specs.declared.reply.Reply.{Reply}
 use Rattle.trace_text.specs.declared.trace.Trace.{Trace}
 use Rattle.vdev_io.specs.declared.pool.Pool.{Ghosts}
 use Rattle.trace_run.specs.CellEnds.{AreCellsOf, IsCellOf}
+use Rattle.trace_run.specs.RunWork.{only_ended}
 use Rattle.trace_run.specs.callers.Groups.{StoodFresh}
 use Rattle.trace_run.specs.callers.Together.{EndLine, EndsBy, EndsGroup, HadThen, GroupLines, OfCells, BetweenGroups, StoodThen, SyncsGroup, WorkInGroups}
 use Rattle.trace_run.specs.Openings.{opening_map, openings_of}
-use Rattle.trace_run.proofs.CellLemmas.{opening-at, opening-same}
+use Rattle.trace_run.proofs.CellLemmas.{only-end-left, opening-at, opening-same}
 
 -- ---- what is said of the cells at each sync may be said otherwise
 
@@ -60,13 +60,13 @@ module _ {P : Type 0} (pools : Ghosts P) (config : Config) (Said So : OfCells) (
 -- ---- the cells of the closed cache
 
 -- where nothing was done to them but the end
-pub fresh-then : (trace : Trace) (closed : Ended OnHeap) → AreCellsOf trace closed → (tick : ℕ) (cells : List OnHeap) (xs : List SyncItem) → StoodFresh (openings_of trace) trace.config.cells tick cells xs
+pub fresh-then : (trace : Trace) (closed : Ended OnHeap) → AreCellsOf trace (only_ended trace.config) closed → (tick : ℕ) (cells : List OnHeap) (xs : List SyncItem) → StoodFresh (openings_of trace) trace.config.cells tick cells xs
     → StoodThen trace closed.cells tick cells xs
 fresh-then trace closed are tick cells xs f = record { count = f.many ∙ sym are.count; each = one }
   where
     one : (i : ℕ) (cell end : OnHeap) → slice_get cells i ≡ Some cell → slice_get closed.cells i ≡ Some end → HadThen (synced_in trace.config.callers i xs) cell end
     one i cell end at ended =
-        let e : IsCellOf trace i end = are.each i end ended in
+        let e : IsCellOf trace (only_ended trace.config) i end = are.each i end ended in
         let inside : i < trace.config.cells = let w = slice_get_within closed.cells i end ended in let c = are.count in omega (arith, w, c) in
         let z : 0 + i ≡ i = omega arith in
         let both = opening-same cell.value.limit trace.config.dbuf_bytes cell.value.opening (opening_map trace i)
@@ -78,5 +78,5 @@ fresh-then trace closed are tick cells xs f = record { count = f.many ∙ sym ar
           opening = both.1 ∙ sym e.opening;
           sound = f.sound i cell at;
           rest = End trace.config.callers ∷ [];
-          whole = e.history ∙ sym none;
+          whole = only-end-left trace i inside end e ∙ sym none;
         }

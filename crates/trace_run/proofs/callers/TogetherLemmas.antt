@@ -12,14 +12,14 @@ use Rattle.vdev_io.specs.declared.pool.Pool.{Ghosts}
 use Rattle.trace_text.specs.declared.op.Op.{Op}
 use Rattle.trace_text.specs.declared.op.Op.TheVariants as ops
 use Rattle.trace_text.specs.declared.reply.Reply.{Reply}
-use Rattle.trace_text.specs.declared.reply.Reply.TheVariants.{Capped}
 use Rattle.trace_run.specs.declared.kept_blocks.KeptBlock.{KeptBlock}
 use Rattle.trace_run.specs.KeptReads.{KeptRead}
 use Rattle.trace_run.specs.Answers.{Answers, AnswersAll, drops, drops_one, keeps, keeps_one}
 use Rattle.trace_run.specs.Effects.{Answered, Effect, GivenBack, NoEffect, PoolRefused, effect_of}
 use Rattle.trace_run.specs.callers.Group.{HaveWorked}
 use Rattle.trace_run.specs.callers.Groups.{AreEndLines, IsEndLine}
-use Rattle.trace_run.specs.callers.InOrder.{HaveReplies}
+use Rattle.trace_run.specs.callers.InOrder.{AreInGroup, HaveReplies}
+use Rattle.trace_run.specs.Feeds.{is_feed}
 use Rattle.trace_run.specs.Lines.{caller_of, is_of_caller, replies_where}
 use Rattle.trace_run.specs.KeptBlocks.{read_of}
 use Rattle.trace_run.specs.one_caller.OneCaller.{kept_after}
@@ -161,12 +161,13 @@ module _ (pool_len : ℕ) (image : Option (List ℕ)) (blocks : List Ptr) where
 -- ---- what several callers have done
 
 module _ {C P : Type 0} (cache : Cache) (pools : Ghosts P) (blocks : List Ptr) (os : List Op) (callers : ℕ) (before after : P) (replies : List (List Reply)) (had : List (List KeptBlock)) (ps : List (Place (Known C))) (kept : List (List KeptBlock)) (qs : List (Place (Known C)))
-    (own : (k : ℕ) (op : Op) → slice_get os k ≡ Some op → (n : ℕ) × (caller_of op ≡ Some n) × (n < callers)) (worked : HaveWorked cache pools blocks os callers before after replies had ps kept qs) where
+    (fed : List Reply) (own : AreInGroup callers os) (feeds : length fed ≡ length (filter is_feed os)) (worked : HaveWorked cache pools blocks os callers before after replies had ps kept qs) where
   -- their replies can be put together
-  pub worked-replies : HaveReplies os replies
+  pub worked-replies : HaveReplies os replies fed
   worked-replies = record {
-    own = λ k op at. let h = own k op at in (h.0, h.1, (let l = worked.replied in let lt = h.2 in omega arith));
+    own = subst (λ (n : ℕ). AreInGroup n os) (sym worked.replied) own;
     each = λ n lt.
         let w = worked.each n (let l = worked.replied in omega arith) in
         (w.own, w.own_at, answered-length _ _ blocks (map read_of w.old) (filter (is_of_caller n) os) w.own w.worked.answers);
+    feeds = feeds;
   }

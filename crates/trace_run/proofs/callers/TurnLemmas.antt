@@ -20,7 +20,10 @@ use Rattle.arc_table.specs.Geometry.{parties_of}
 use Rattle.arc_table.specs.Items.{Meanings}
 use Rattle.arc_table.specs.Seen.{HasAll, HasSeenItsEntries, events_in, seen_of, turn_of}
 use Rattle.arc_table.specs.Telling.{opening_of}
-use Rattle.trace_run.specs.Making.{HasTold, MadeItsOwn}
+use Rattle.trace_run.specs.Deeds.{HasToldAll, Noted}
+use Rattle.trace_run.specs.Making.{MadeItsOwn}
+use Rattle.trace_run.proofs.deeds.DeedLemmas.{told-still}
+use Rattle.trace_run.proofs.deeds.MakesLemmas.{grown-same}
 use Rattle.arc_table.proofs.OwnLemmas.{no-own-moments, own-append}
 use Rattle.trace_run.specs.declared.kept_blocks.KeptBlock.{KeptBlock}
 use Rattle.trace_run.specs.Acts.{acts_of_drops}
@@ -201,21 +204,20 @@ module _ {C : Type 0} (m : Meanings C) (cache : Cache) (p : Place (Known C)) (ke
           record { events = then.events; entries = then.entries };
     }
 
-    joined-told : {n : ℕ} {acts : List Act} → Waits cache n acts kept p → HasTold gk acts q
-    joined-told {n} {acts} waits = record {
-      acts = λ s. subst (λ (k : ℕ). Tell (acts_in (shard_of gk.shards) s k acts) (own_moments k (moments (opening_of gk) (seen_of gk s q)))) (sym have.number)
-          (subst (Tell (acts_in (shard_of gk.shards) s p.number acts)) (sym (have.self.own s)) (waits.told.acts s));
-      only = have.only waits.told.only;
-    }
+    joined-told : {n : ℕ} {acts : List Act} {noted : List Noted} → Waits cache n acts noted kept p → HasToldAll gk acts noted q
+    joined-told {n} {acts} {noted} waits = told-still gk acts noted p q
+        (λ s. subst (λ (k : ℕ). Tell (acts_in (shard_of gk.shards) s k acts) (own_moments k (moments (opening_of gk) (seen_of gk s q)))) (sym have.number)
+        (subst (Tell (acts_in (shard_of gk.shards) s p.number acts)) (sym (have.self.own s)) (waits.told.acts s)))
+        (grown-same gk p q have.number have.about have.mine have.self.starts have.self.cells waits.stands.seen waits.stands.cells) waits.told
 
-    last-waits : (n : ℕ) (acts : List Act) → Waits cache n acts kept p → Waits cache n (acts ++ acts_of_drops n reads) [] last
-    last-waits n acts waits = record {
+    last-waits : (n : ℕ) (acts : List Act) (noted : List Noted) → Waits cache n acts noted kept p → Waits cache n (acts ++ acts_of_drops n reads) noted [] last
+    last-waits n acts noted waits = record {
       number = number ∙ waits.number;
       alone = refl;
       stands = last-stands;
       told =
-          let then : HasTold gk (acts ++ acts_of_drops n reads) r = subst (λ (k : ℕ). HasTold gk (acts ++ acts_of_drops k reads) r) (have.number ∙ waits.number) (all-told m cache kept q r q-stands gives acts (joined-told waits)) in
-          record { acts = then.acts; only = record { events = then.only.events; entries = then.only.entries } };
+          let then : HasToldAll gk (acts ++ acts_of_drops n reads) noted r = subst (λ (k : ℕ). HasToldAll gk (acts ++ acts_of_drops k reads) noted r) (have.number ∙ waits.number) (all-told m cache kept q r q-stands gives acts noted (joined-told waits)) in
+          record { acts = then.acts; cells = then.cells; kinds = then.kinds; entries = then.entries };
     }
 
     module _ (numbers : List ℕ) (numbers_are : numbers ≡ map (λ o. o.number) others) (xs : List (Place (Known C))) (z : Place (Known C)) (parts : PartAll numbers r xs z) where
@@ -230,7 +232,7 @@ module _ {C : Type 0} (m : Meanings C) (cache : Cache) (p : Place (Known C)) (ke
         are = refl;
         parted = subst (HaveParted cache lines others) (sym parted.0) (all-parted-from others have.all differ);
         level = subst (IsLevel gk lines) (sym parted.1) (λ shard. refl);
-        gave = λ n acts waits. subst (Waits cache n (acts ++ acts_of_drops n reads) []) (sym parted.1) (last-waits n acts waits);
+        gave = λ n acts noted waits. subst (Waits cache n (acts ++ acts_of_drops n reads) noted []) (sym parted.1) (last-waits n acts noted waits);
         fed = λ openings fed since none is. subst (IsFed cache openings fed since) (sym parted.1) (last-fed openings fed since none is);
         drops = λ before own rest shard. drops shard ∙ ap (λ (l : List Line). events_in l ++ events_of_drops p.number (holds_in gk shard reads)) (have.level before own rest shard);
       }

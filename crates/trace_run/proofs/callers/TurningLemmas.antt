@@ -14,6 +14,7 @@ use Rattle.arc_table.specs.Seen.{events_in}
 use Rattle.trace_run.specs.declared.kept_blocks.KeptBlock.{KeptBlock}
 use Rattle.trace_run.specs.Acts.{acts_of_drops}
 use Rattle.trace_run.specs.KeptBlocks.{holds_in, read_of}
+use Rattle.trace_run.specs.Deeds.{Noted}
 use Rattle.trace_run.specs.Meeting.{AllGave, AreWaiting, FirstGaveBack, FirstMayGoOn, GaveBackJoined, HasParted, HaveGivenBack, HaveParted, IsApart, IsFed, IsLevel, MayGoOn, Waits, drops_from}
 use Rattle.trace_run.specs.one_caller.OneCaller.{events_of_drops}
 use Rattle.trace_run.proofs.callers.AfterEnds.{last-same}
@@ -67,22 +68,22 @@ drops-last g shard n m (j ∷ ks) k is =
 number-there : (all gone : List (List KeptBlock)) (k : List KeptBlock) (ks : List (List KeptBlock)) → all ≡ gone ++ k ∷ ks → length all ≡ length gone + suc (length ks)
 number-there all gone k ks is = ap length is ∙ length-append gone (k ∷ ks)
 
-module _ {C : Type 0} (cache : Cache) (acts : ℕ → List Act) (openings : List (List ℕ)) (feeds since : (shard : ℕ) → List Event) where
+module _ {C : Type 0} (cache : Cache) (acts : ℕ → List Act) (noted : ℕ → List Noted) (openings : List (List ℕ)) (feeds since : (shard : ℕ) → List Event) where
   -- ---- callers that wait, by their numbers
 
-  waiting-apart : (n : ℕ) (ks : List (List KeptBlock)) (ps : List (Place (Known C))) → AreWaiting cache acts n ks ps → AllByRecursion (IsApart cache) ps
+  waiting-apart : (n : ℕ) (ks : List (List KeptBlock)) (ps : List (Place (Known C))) → AreWaiting cache acts noted n ks ps → AllByRecursion (IsApart cache) ps
   waiting-apart n [] [] waits = tt
   waiting-apart n [] (p ∷ ps) waits = absurd waits
   waiting-apart n (k ∷ ks) [] waits = absurd waits
   waiting-apart n (k ∷ ks) (p ∷ ps) waits = ((k, waits.0.stands, waits.0.alone), waiting-apart (suc n) ks ps waits.1)
 
-  waiting-above : (n m : ℕ) (ks : List (List KeptBlock)) (ps : List (Place (Known C))) → m < n → AreWaiting cache acts n ks ps → AllByRecursion (λ o. o.number ≢ m) ps
+  waiting-above : (n m : ℕ) (ks : List (List KeptBlock)) (ps : List (Place (Known C))) → m < n → AreWaiting cache acts noted n ks ps → AllByRecursion (λ o. o.number ≢ m) ps
   waiting-above n m [] [] above waits = tt
   waiting-above n m [] (p ∷ ps) above waits = absurd waits
   waiting-above n m (k ∷ ks) [] above waits = absurd waits
   waiting-above n m (k ∷ ks) (p ∷ ps) above waits = ((λ is. let number = waits.0.number in absurd (omega (arith, is, number, above))), waiting-above (suc n) m ks ps (omega (arith, above)) waits.1)
 
-  waiting-has : (n m : ℕ) (ks : List (List KeptBlock)) (ps : List (Place (Known C))) → n ≤ m → m < n + length ks → AreWaiting cache acts n ks ps → SomeHas m ps
+  waiting-has : (n m : ℕ) (ks : List (List KeptBlock)) (ps : List (Place (Known C))) → n ≤ m → m < n + length ks → AreWaiting cache acts noted n ks ps → SomeHas m ps
   waiting-has n m [] ps low high waits = absurd (omega (arith, low, high))
   waiting-has n m (k ∷ ks) [] low high waits = absurd waits
   waiting-has n m (k ∷ ks) (p ∷ ps) low high waits = elim (cases_lt n m) [
@@ -92,19 +93,19 @@ module _ {C : Type 0} (cache : Cache) (acts : ℕ → List Act) (openings : List
 
   -- ---- callers that have given back
 
-  gave-apart : (n : ℕ) (ks : List (List KeptBlock)) (ps : List (Place (Known C))) → AllGave cache acts n ks ps → AllByRecursion (IsApart cache) ps
+  gave-apart : (n : ℕ) (ks : List (List KeptBlock)) (ps : List (Place (Known C))) → AllGave cache acts noted n ks ps → AllByRecursion (IsApart cache) ps
   gave-apart n [] [] gave = tt
   gave-apart n [] (p ∷ ps) gave = absurd gave
   gave-apart n (k ∷ ks) [] gave = absurd gave
   gave-apart n (k ∷ ks) (p ∷ ps) gave = (([], gave.0.stands, gave.0.alone), gave-apart (suc n) ks ps gave.1)
 
-  gave-below : (n m : ℕ) (ks : List (List KeptBlock)) (ps : List (Place (Known C))) → n + length ks ≤ m → AllGave cache acts n ks ps → AllByRecursion (λ o. o.number ≢ m) ps
+  gave-below : (n m : ℕ) (ks : List (List KeptBlock)) (ps : List (Place (Known C))) → n + length ks ≤ m → AllGave cache acts noted n ks ps → AllByRecursion (λ o. o.number ≢ m) ps
   gave-below n m [] [] below gave = tt
   gave-below n m [] (p ∷ ps) below gave = absurd gave
   gave-below n m (k ∷ ks) [] below gave = absurd gave
   gave-below n m (k ∷ ks) (p ∷ ps) below gave = ((λ is. let number = gave.0.number in absurd (omega (arith, is, number, below))), gave-below (suc n) m ks ps (omega (arith, below)) gave.1)
 
-  gave-has : (n m : ℕ) (ks : List (List KeptBlock)) (ps : List (Place (Known C))) → n ≤ m → m < n + length ks → AllGave cache acts n ks ps → SomeHas m ps
+  gave-has : (n m : ℕ) (ks : List (List KeptBlock)) (ps : List (Place (Known C))) → n ≤ m → m < n + length ks → AllGave cache acts noted n ks ps → SomeHas m ps
   gave-has n m [] ps low high gave = absurd (omega (arith, low, high))
   gave-has n m (k ∷ ks) [] low high gave = absurd gave
   gave-has n m (k ∷ ks) (p ∷ ps) low high gave = elim (cases_lt n m) [
@@ -112,9 +113,9 @@ module _ {C : Type 0} (cache : Cache) (acts : ℕ → List Act) (openings : List
     | inr same ↦ inl (inl (gave.0.number ∙ omega (arith, low, same)))
   ]
 
-  gave-last : (n m : ℕ) (ks : List (List KeptBlock)) (ps : List (Place (Known C))) (k : List KeptBlock) (p : Place (Known C)) → m ≡ n + length ks → AllGave cache acts n ks ps → Waits cache m (acts m ++ acts_of_drops m (map read_of k)) [] p
-      → AllGave cache acts n (ks ++ k ∷ []) (ps ++ p ∷ [])
-  gave-last n m [] [] k p is gave one = (subst (λ (x : ℕ). Waits cache x (acts x ++ acts_of_drops x (map read_of k)) [] p) (is ∙ omega arith) one, tt)
+  gave-last : (n m : ℕ) (ks : List (List KeptBlock)) (ps : List (Place (Known C))) (k : List KeptBlock) (p : Place (Known C)) → m ≡ n + length ks → AllGave cache acts noted n ks ps → Waits cache m (acts m ++ acts_of_drops m (map read_of k)) (noted m) [] p
+      → AllGave cache acts noted n (ks ++ k ∷ []) (ps ++ p ∷ [])
+  gave-last n m [] [] k p is gave one = (subst (λ (x : ℕ). Waits cache x (acts x ++ acts_of_drops x (map read_of k)) (noted x) [] p) (is ∙ omega arith) one, tt)
   gave-last n m [] (q ∷ ps) k p is gave one = absurd gave
   gave-last n m (j ∷ ks) [] k p is gave one = absurd gave
   gave-last n m (j ∷ ks) (q ∷ ps) k p is gave one = (gave.0, gave-last (suc n) m ks ps k p (is ∙ omega arith) gave.1 one)
@@ -127,21 +128,21 @@ module _ {C : Type 0} (cache : Cache) (acts : ℕ → List Act) (openings : List
   parted-level lines (o ∷ os) [] parted = absurd parted
   parted-level lines (o ∷ os) (x ∷ xs) parted = (parted.0.level, parted-level lines os xs parted.1)
 
-  parted-waiting : (lines : ℕ → List Line) (n : ℕ) (ks : List (List KeptBlock)) (os xs : List (Place (Known C))) → HaveParted cache lines os xs → AreWaiting cache acts n ks os → AreWaiting cache acts n ks xs
+  parted-waiting : (lines : ℕ → List Line) (n : ℕ) (ks : List (List KeptBlock)) (os xs : List (Place (Known C))) → HaveParted cache lines os xs → AreWaiting cache acts noted n ks os → AreWaiting cache acts noted n ks xs
   parted-waiting lines n [] [] [] parted waits = tt
   parted-waiting lines n ks [] (x ∷ xs) parted waits = absurd parted
   parted-waiting lines n ks (o ∷ os) [] parted waits = absurd parted
   parted-waiting lines n (k ∷ ks) [] [] parted waits = absurd waits
   parted-waiting lines n [] (o ∷ os) (x ∷ xs) parted waits = absurd waits
-  parted-waiting lines n (k ∷ ks) (o ∷ os) (x ∷ xs) parted waits = (parted-waits cache lines o x parted.0 n (acts n) k waits.0, parted-waiting lines (suc n) ks os xs parted.1 waits.1)
+  parted-waiting lines n (k ∷ ks) (o ∷ os) (x ∷ xs) parted waits = (parted-waits cache lines o x parted.0 n (acts n) (noted n) k waits.0, parted-waiting lines (suc n) ks os xs parted.1 waits.1)
 
-  parted-gave : (lines : ℕ → List Line) (n : ℕ) (ks : List (List KeptBlock)) (os xs : List (Place (Known C))) → HaveParted cache lines os xs → AllGave cache acts n ks os → AllGave cache acts n ks xs
+  parted-gave : (lines : ℕ → List Line) (n : ℕ) (ks : List (List KeptBlock)) (os xs : List (Place (Known C))) → HaveParted cache lines os xs → AllGave cache acts noted n ks os → AllGave cache acts noted n ks xs
   parted-gave lines n [] [] [] parted gave = tt
   parted-gave lines n ks [] (x ∷ xs) parted gave = absurd parted
   parted-gave lines n ks (o ∷ os) [] parted gave = absurd parted
   parted-gave lines n (k ∷ ks) [] [] parted gave = absurd gave
   parted-gave lines n [] (o ∷ os) (x ∷ xs) parted gave = absurd gave
-  parted-gave lines n (k ∷ ks) (o ∷ os) (x ∷ xs) parted gave = (parted-waits cache lines o x parted.0 n (acts n ++ acts_of_drops n (map read_of k)) [] gave.0, parted-gave lines (suc n) ks os xs parted.1 gave.1)
+  parted-gave lines n (k ∷ ks) (o ∷ os) (x ∷ xs) parted gave = (parted-waits cache lines o x parted.0 n (acts n ++ acts_of_drops n (map read_of k)) (noted n) [] gave.0, parted-gave lines (suc n) ks os xs parted.1 gave.1)
 
   parted-split : (lines : ℕ → List Line) (os : List (Place (Known C))) (o : Place (Known C)) (us xs : List (Place (Known C))) → HaveParted cache lines (os ++ o ∷ us) xs
       → (ys : List (Place (Known C))) × (y : Place (Known C)) × (zs : List (Place (Known C))) × (xs ≡ ys ++ y ∷ zs) × HaveParted cache lines os ys × HasParted cache lines o y × HaveParted cache lines us zs
@@ -162,9 +163,9 @@ module _ {C : Type 0} (cache : Cache) (acts : ℕ → List Act) (openings : List
     pub feeder : Place (Known C)
     pub done : List (Place (Known C))
     pub are : ps ≡ waiting ++ feeder ∷ done
-    pub waits : AreWaiting cache acts (length gone) left waiting
+    pub waits : AreWaiting cache acts noted (length gone) left waiting
     pub fed : IsFed cache openings feeds since feeder
-    pub gave : AllGave cache acts 0 gone done
+    pub gave : AllGave cache acts noted 0 gone done
     pub first : ℕ → List Event
     pub lines : ℕ → List Line
     pub level : AllByRecursion (IsLevel cache.config lines) ps
@@ -175,7 +176,7 @@ module _ {C : Type 0} (cache : Cache) (acts : ℕ → List Act) (openings : List
 
   module _ (rows : cache.row.parties ≡ parties_of cache.config) where
     -- the feeder may begin, which keeps nothing
-    pub may-begin : (all : List (List KeptBlock)) (ps : List (Place (Known C))) (feeder : Place (Known C)) → length all ≡ cache.config.callers → AreWaiting cache acts 0 all ps → IsFed cache openings feeds since feeder → MayGoOn cache [] feeder ps
+    pub may-begin : (all : List (List KeptBlock)) (ps : List (Place (Known C))) (feeder : Place (Known C)) → length all ≡ cache.config.callers → AreWaiting cache acts noted 0 all ps → IsFed cache openings feeds since feeder → MayGoOn cache [] feeder ps
     may-begin all ps feeder count waits fed = record {
       stands = fed.stands;
       alone = fed.alone;
@@ -188,14 +189,14 @@ module _ {C : Type 0} (cache : Cache) (acts : ℕ → List Act) (openings : List
       differ = waiting-below 0 feeder.number all ps (omega (arith, count, fed.number)) waits;
     }
       where
-        waiting-below : (n m : ℕ) (ks : List (List KeptBlock)) (ps : List (Place (Known C))) → n + length ks ≤ m → AreWaiting cache acts n ks ps → AllByRecursion (λ o. o.number ≢ m) ps
+        waiting-below : (n m : ℕ) (ks : List (List KeptBlock)) (ps : List (Place (Known C))) → n + length ks ≤ m → AreWaiting cache acts noted n ks ps → AllByRecursion (λ o. o.number ≢ m) ps
         waiting-below n m [] [] below waits = tt
         waiting-below n m [] (p ∷ ps) below waits = absurd waits
         waiting-below n m (k ∷ ks) [] below waits = absurd waits
         waiting-below n m (k ∷ ks) (p ∷ ps) below waits = ((λ is. let number = waits.0.number in absurd (omega (arith, is, number, below))), waiting-below (suc n) m ks ps (omega (arith, below)) waits.1)
 
     -- behind all of it the feeder may go on, with whom all have given back
-    pub may-end : (all : List (List KeptBlock)) (ps rest : List (Place (Known C))) (feeder : Place (Known C)) → length all ≡ cache.config.callers → ps ≡ rest ++ feeder ∷ [] → HaveGivenBack cache acts openings feeds since all ps → MayGoOn cache [] feeder rest
+    pub may-end : (all : List (List KeptBlock)) (ps rest : List (Place (Known C))) (feeder : Place (Known C)) → length all ≡ cache.config.callers → ps ≡ rest ++ feeder ∷ [] → HaveGivenBack cache acts noted openings feeds since all ps → MayGoOn cache [] feeder rest
     may-end all ps rest feeder count are gone = subst (λ (x : List (Place (Known C)) × Place (Known C)). MayGoOn cache [] x.1 x.0) (λ i. (sym same.0 i, sym same.1 i)) record {
       stands = gone.fed.stands;
       alone = gone.fed.alone;
@@ -211,7 +212,7 @@ module _ {C : Type 0} (cache : Cache) (acts : ℕ → List Act) (openings : List
         same : (rest ≡ gone.callers) × (feeder ≡ gone.feeder)
         same = last-same rest gone.callers feeder gone.feeder (sym are ∙ gone.are)
 
-    pub begun : (all : List (List KeptBlock)) (ps : List (Place (Known C))) (feeder : Place (Known C)) (news : List (Place (Known C))) → length all ≡ cache.config.callers → AreWaiting cache acts 0 all ps → IsFed cache openings feeds since feeder
+    pub begun : (all : List (List KeptBlock)) (ps : List (Place (Known C))) (feeder : Place (Known C)) (news : List (Place (Known C))) → length all ≡ cache.config.callers → AreWaiting cache acts noted 0 all ps → IsFed cache openings feeds since feeder
         → GaveBackJoined cache feeder [] ps news → Turning all all news
     begun all ps feeder news count waits fed b = record {
       gone = [];
@@ -231,8 +232,8 @@ module _ {C : Type 0} (cache : Cache) (acts : ℕ → List Act) (openings : List
 
     -- the first that is left may give back
     module _ (all : List (List KeptBlock)) (k : List KeptBlock) (ks : List (List KeptBlock)) (count : length all ≡ cache.config.callers) where
-      next-may : (p : Place (Known C)) (waiting : List (Place (Known C))) (gone : List (List KeptBlock)) (feeder : Place (Known C)) (done : List (Place (Known C))) → all ≡ gone ++ k ∷ ks → Waits cache (length gone) (acts (length gone)) k p
-          → AreWaiting cache acts (suc (length gone)) ks waiting → IsFed cache openings feeds since feeder → AllGave cache acts 0 gone done → MayGoOn cache k p (waiting ++ feeder ∷ done)
+      next-may : (p : Place (Known C)) (waiting : List (Place (Known C))) (gone : List (List KeptBlock)) (feeder : Place (Known C)) (done : List (Place (Known C))) → all ≡ gone ++ k ∷ ks → Waits cache (length gone) (acts (length gone)) (noted (length gone)) k p
+          → AreWaiting cache acts noted (suc (length gone)) ks waiting → IsFed cache openings feeds since feeder → AllGave cache acts noted 0 gone done → MayGoOn cache k p (waiting ++ feeder ∷ done)
       next-may p waiting gone feeder done is one waits fed gave = record {
         stands = one.stands;
         alone = one.alone;
@@ -256,12 +257,12 @@ module _ {C : Type 0} (cache : Cache) (acts : ℕ → List Act) (openings : List
       pub may-turn : (ps : List (Place (Known C))) → Turning all (k ∷ ks) ps → FirstMayGoOn cache k ps
       may-turn ps t = subst (FirstMayGoOn cache k) (sym t.are) (go t.waiting t.waits)
         where
-          go : (waiting : List (Place (Known C))) → AreWaiting cache acts (length t.gone) (k ∷ ks) waiting → FirstMayGoOn cache k (waiting ++ t.feeder ∷ t.done)
+          go : (waiting : List (Place (Known C))) → AreWaiting cache acts noted (length t.gone) (k ∷ ks) waiting → FirstMayGoOn cache k (waiting ++ t.feeder ∷ t.done)
           go [] waits = absurd waits
           go (p ∷ waiting) waits = next-may p waiting t.gone t.feeder t.done t.parts waits.0 waits.1 t.fed t.gave
 
       next-then : (gone : List (List KeptBlock)) (p : Place (Known C)) (waiting : List (Place (Known C))) (feeder : Place (Known C)) (done news : List (Place (Known C))) (first : ℕ → List Event) (lines : ℕ → List Line)
-          → all ≡ gone ++ k ∷ ks → Waits cache (length gone) (acts (length gone)) k p → AreWaiting cache acts (suc (length gone)) ks waiting → IsFed cache openings feeds since feeder → AllGave cache acts 0 gone done
+          → all ≡ gone ++ k ∷ ks → Waits cache (length gone) (acts (length gone)) (noted (length gone)) k p → AreWaiting cache acts noted (suc (length gone)) ks waiting → IsFed cache openings feeds since feeder → AllGave cache acts noted 0 gone done
           → IsLevel cache.config lines p → AllByRecursion (IsLevel cache.config lines) (waiting ++ feeder ∷ done) → ((shard : ℕ) → events_in (lines shard) ≡ first shard ++ drops_from cache.config shard 0 gone)
           → GaveBackJoined cache p k (waiting ++ feeder ∷ done) news → Turning all ks news
       next-then gone p waiting feeder done news first lines is one waits fed gave own_level level drops b =
@@ -274,9 +275,9 @@ module _ {C : Type 0} (cache : Cache) (acts : ℕ → List Act) (openings : List
             feeder = h.1;
             done = h.2 ++ b.last ∷ [];
             are = b.are ∙ (ap (λ (l : List (Place (Known C))). l ++ b.last ∷ []) h.3 ∙ append_assoc h.0 (h.1 ∷ h.2) (b.last ∷ []));
-            waits = subst (λ (n : ℕ). AreWaiting cache acts n ks h.0) (let n : suc number ≡ length (gone ++ k ∷ []) = omega (arith, length-append gone (k ∷ [])) in n) (parted-waiting b.lines (suc number) ks waiting h.0 h.4 waits);
+            waits = subst (λ (n : ℕ). AreWaiting cache acts noted n ks h.0) (let n : suc number ≡ length (gone ++ k ∷ []) = omega (arith, length-append gone (k ∷ [])) in n) (parted-waiting b.lines (suc number) ks waiting h.0 h.4 waits);
             fed = parted-fed cache b.lines feeder h.1 h.5 openings feeds since fed;
-            gave = gave-last 0 number gone h.2 k b.last (omega arith) (parted-gave b.lines 0 gone done h.2 h.6 gave) (b.gave number (acts number) one);
+            gave = gave-last 0 number gone h.2 k b.last (omega arith) (parted-gave b.lines 0 gone done h.2 h.6 gave) (b.gave number (acts number) (noted number) one);
             first = first;
             lines = b.lines;
             level = subst (AllByRecursion (IsLevel cache.config b.lines)) (sym b.are) (all-append (IsLevel cache.config b.lines) b.rest (b.last ∷ []) (parted-level b.lines (waiting ++ feeder ∷ done) b.rest b.parted) (b.level, tt));
@@ -290,18 +291,18 @@ module _ {C : Type 0} (cache : Cache) (acts : ℕ → List Act) (openings : List
       pub turned : (ps news : List (Place (Known C))) → Turning all (k ∷ ks) ps → FirstGaveBack cache k ps news → Turning all ks news
       turned ps news t gave = go t.waiting t.waits (subst (AllByRecursion (IsLevel cache.config t.lines)) t.are t.level) (subst (λ (l : List (Place (Known C))). FirstGaveBack cache k l news) t.are gave)
         where
-          go : (waiting : List (Place (Known C))) → AreWaiting cache acts (length t.gone) (k ∷ ks) waiting → AllByRecursion (IsLevel cache.config t.lines) (waiting ++ t.feeder ∷ t.done) → FirstGaveBack cache k (waiting ++ t.feeder ∷ t.done) news → Turning all ks news
+          go : (waiting : List (Place (Known C))) → AreWaiting cache acts noted (length t.gone) (k ∷ ks) waiting → AllByRecursion (IsLevel cache.config t.lines) (waiting ++ t.feeder ∷ t.done) → FirstGaveBack cache k (waiting ++ t.feeder ∷ t.done) news → Turning all ks news
           go [] waits level gave = absurd waits
           go (p ∷ waiting) waits level gave = next-then t.gone p waiting t.feeder t.done news t.first t.lines t.parts waits.0 waits.1 t.fed t.gave level.0 level.1 t.drops gave
 
   -- the feeder's party goes behind the callers'
-  pub turned-all : (all : List (List KeptBlock)) (ps rest news : List (Place (Known C))) (feeder : Place (Known C)) → Turning all [] ps → feeder ≡ get_or ps 0 feeder → rest ≡ remove ps 0 → news ≡ rest ++ feeder ∷ [] → HaveGivenBack cache acts openings feeds since all news
+  pub turned-all : (all : List (List KeptBlock)) (ps rest news : List (Place (Known C))) (feeder : Place (Known C)) → Turning all [] ps → feeder ≡ get_or ps 0 feeder → rest ≡ remove ps 0 → news ≡ rest ++ feeder ∷ [] → HaveGivenBack cache acts noted openings feeds since all news
   turned-all all ps rest news feeder t first_is rest_are are = go t.waiting t.waits t.are
     where
       whole : t.gone ≡ all
       whole = sym (append-nil t.gone) ∙ sym t.parts
 
-      go : (waiting : List (Place (Known C))) → AreWaiting cache acts (length t.gone) [] waiting → ps ≡ waiting ++ t.feeder ∷ t.done → HaveGivenBack cache acts openings feeds since all news
+      go : (waiting : List (Place (Known C))) → AreWaiting cache acts noted (length t.gone) [] waiting → ps ≡ waiting ++ t.feeder ∷ t.done → HaveGivenBack cache acts noted openings feeds since all news
       go (p ∷ waiting) waits is = absurd waits
       go [] waits is =
           let f : feeder ≡ t.feeder = first_is ∙ ap (λ (l : List (Place (Known C))). get_or l 0 feeder) is in
@@ -312,7 +313,7 @@ module _ {C : Type 0} (cache : Cache) (acts : ℕ → List Act) (openings : List
             callers = t.done;
             feeder = t.feeder;
             are = n;
-            gave = subst (λ (l : List (List KeptBlock)). AllGave cache acts 0 l t.done) whole t.gave;
+            gave = subst (λ (l : List (List KeptBlock)). AllGave cache acts noted 0 l t.done) whole t.gave;
             fed = t.fed;
             first = t.first;
             lines = t.lines;

@@ -45,7 +45,8 @@ use Rattle.trace_run.proofs.MoveLemmas.{Moves}
 use Rattle.trace_run.proofs.ReadLemmas.{AddsFailed, AddsRead, AddsServed, read-adds}
 use Rattle.trace_run.proofs.ReadStands.{ListsAnswer, read-lists}
 use Rattle.trace_run.proofs.deeds.CellFound.{LeavesSeen, seen-done, seen-left, seen-then}
-use Rattle.trace_run.proofs.deeds.DeedLemmas.{acts-append, in-more, same-then}
+use Rattle.trace_run.proofs.deeds.DeedLemmas.{acts-append}
+use Rattle.trace_run.proofs.deeds.MakesLemmas.{in-more, same-then}
 use Rattle.trace_run.proofs.deeds.ReadSame.{OnlyOwn, read-only}
 
 -- what the party makes in the next turn of the cell, so that its own events are those of its acts
@@ -78,9 +79,11 @@ no-moments (m ∷ ms) none = absurd (never none)
 module _ (g : Config) (es : List Event) (p q : PartyPlace) (none : es ≡ []) (d : CellsDone g [] es p q) where
   made-same : SameMade g p q
   made-same = record {
-    cells = λ shard c above. ap (with_number c) (in-more g shard (events_there g shard es) p q (d.made shard)
+    number = d.number;
+    cells = λ shard c other. ap (with_number c) (in-more g shard (events_there g shard es) p q (d.made shard)
         ∙ (ap (λ (l : List Event). made_in g shard p ++ events_there g shard l) none ∙ append-nil (made_in g shard p)));
     entries = λ i in_range. d.entries i in_range ∙ append-nil (made_of i p);
+    keeps = record { about = d.about; fronts = d.cells };
   }
 
   seen-same : HasAll p → (shard : ℕ) → seen_of g shard q ≡ seen_of g shard p

@@ -1,13 +1,9 @@
 -- What a turn of a cell of dbufs, or several, come to for their party: what it made of each history, what it has seen, and what it lists.
-use Rattle.std.proofs.Common.{◌≡◌, ◌≢◌, ◌⊎◌, ℕ, zero, suc, ◌<◌, ◌≤◌, ◌==◌, Bool, true, false, if◌then◌else◌, List, [], ◌∷◌, ◌++◌, length, map, Option, Some, refl, sym, ap, ◌∙◌, subst, inl, inr, arith, append-nil, append_assoc, eq-eqb, ne_eqb}
-use Rattle.std.specs.Prelude.{filter}
-use Rattle.std.specs.List.{AllByRecursion}
+use Rattle.std.proofs.Common.{◌≡◌, ◌≢◌, ◌⊎◌, ℕ, zero, suc, ◌<◌, ◌==◌, true, false, List, [], ◌∷◌, ◌++◌, map, Option, Some, refl, sym, ap, ◌∙◌, subst, inl, inr, arith, append-nil, append_assoc, eq-eqb, ne_eqb}
 use Rattle.std.proofs.lemmas.List.{map-append}
-use Rattle.std.proofs.lemmas.List.Elements.{filter-append}
 use mathlib.Core.Logic.{dite}
 use native.Mathlib.Decide.{ℕ_discrete}
 use Rattle.arc_lists.proofs.Tables.{cases_true}
-use Rattle.blk_ptr.specs.declared.ptr.Ptr.{Ptr}
 use Rattle.arc_core.specs.Config.{IsConfig}
 use Rattle.arc_core.specs.declared.config.Config.{Config}
 use Rattle.arc_core.specs.declared.event.Event.{Event}
@@ -31,28 +27,26 @@ use Rattle.arc_table.specs.Telling.{opening_of}
 use Rattle.arc_table.specs.Views.{after_cell}
 use Rattle.arc_table.proofs.cell_lemmas.EntriesSeen.{given-entries, given-sees, seen-at-take}
 use Rattle.arc_table.proofs.Reached.{Took, loses_same, took_is}
-use Rattle.dbuf_cells.specs.Turns.{CellTurn, FindsBringing, OnHeap, PartyPlace, WaitsForDbuf, dbuf_meanings}
-use Rattle.dbuf_cells.specs.Places.{cell_of}
+use Rattle.dbuf_cells.specs.Turns.{CellTurn, OnHeap, PartyPlace, WaitsForDbuf, dbuf_meanings}
 use Rattle.dbuf_state.specs.Numbers.{event_numbers}
 use Rattle.dbuf_state.specs.declared.event.CellEvent.{CellEvent}
 use Rattle.dbuf_state.specs.declared.oid.Oid.{Oid}
 use Rattle.trace_run.specs.DbufTurns.{CellsDone, held_through}
 use Rattle.trace_run.specs.Deeds.{Noted, events_of_cell, events_there, lines_of_cell, noted_in}
-use Rattle.trace_run.specs.MadeLines.{made_from, made_of}
-use Rattle.trace_run.specs.Making.{HasSeenItsEvents}
-use Rattle.trace_run.proofs.CellsLeft.{CellsGrow, leaves-seen}
+use Rattle.trace_run.specs.MadeLines.{made_of}
+use Rattle.trace_run.proofs.CellsLeft.{leaves-seen}
 use Rattle.trace_run.proofs.deeds.MadeCells.{given-made, given-made-else, took-made, took-made-else}
 use Rattle.trace_run.proofs.deeds.TurnMakes.{AreTurnEvents, TurnMakes, all-made, held-append, own-there, starts-on, there-append}
 
-noted-here : (i : ℕ) (news : List CellEvent) → events_of_cell i (noted_in i news) ≡ news
+pub noted-here : (i : ℕ) (news : List CellEvent) → events_of_cell i (noted_in i news) ≡ news
 noted-here i [] = refl
 noted-here i (e ∷ es) = let here : (i == i) ≡ true = eq-eqb i i refl in rw here (ap (λ l. e ∷ l) (noted-here i es))
 
-noted-else : (i j : ℕ) (news : List CellEvent) → i ≢ j → events_of_cell j (noted_in i news) ≡ []
+pub noted-else : (i j : ℕ) (news : List CellEvent) → i ≢ j → events_of_cell j (noted_in i news) ≡ []
 noted-else i j [] differs = refl
 noted-else i j (e ∷ es) differs = let other : (i == j) ≡ false = ne_eqb i j differs in rw other (noted-else i j es differs)
 
-cell-append : (i : ℕ) (a b : List Noted) → events_of_cell i (a ++ b) ≡ events_of_cell i a ++ events_of_cell i b
+pub cell-append : (i : ℕ) (a b : List Noted) → events_of_cell i (a ++ b) ≡ events_of_cell i a ++ events_of_cell i b
 cell-append i [] b = refl
 cell-append i (n ∷ ns) b = elim (cases_true (n.cell == i)) [
   | inl here ↦ rw here (ap (λ l. n.event ∷ l) (cell-append i ns b))

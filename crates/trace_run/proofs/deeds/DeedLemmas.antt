@@ -1,32 +1,26 @@
 -- How what a party did is told, once it did more.
-use Rattle.std.proofs.Common.{◌≡◌, ◌≢◌, ◌⊎◌, ℕ, ◌<◌, ◌≤◌, ◌==◌, ◌&&◌, Bool, true, false, if◌then◌else◌, List, [], ◌∷◌, ◌++◌, map, Option, Some, refl, sym, ap, ◌∙◌, subst, inl, inr, arith, append-nil, append_assoc, eq-eqb, ne_eqb}
-use Rattle.std.specs.Prelude.{filter}
+use Rattle.std.proofs.Common.{◌≡◌, ◌≢◌, ◌⊎◌, ℕ, ◌==◌, ◌&&◌, true, false, if◌then◌else◌, List, [], ◌∷◌, ◌++◌, map, refl, sym, ap, ◌∙◌, subst, inl, inr, append-nil, append_assoc, ne_eqb}
 use Rattle.std.specs.List.{AllByRecursion}
 use Rattle.std.specs.Option.{option_map_or}
 use Rattle.std.proofs.lemmas.Bool.{eqb-true}
 use Rattle.std.proofs.lemmas.List.Elements.{filter-append}
-use mathlib.Core.Logic.{dite}
-use native.Mathlib.Decide.{ℕ_discrete}
 use Rattle.arc_lists.proofs.Tables.{cases_true}
 use Rattle.blk_ptr.specs.Hash.{shard_of}
 use Rattle.blk_ptr.specs.declared.key.Key.{Key}
 use Rattle.arc_core.specs.declared.config.Config.{Config}
 use Rattle.arc_core.specs.declared.event.Event.{Event}
 use Rattle.arc_core.specs.declared.event.Event.TheVariants.{Drop, Hand, Release}
-use Rattle.arc_core.specs.Operations.{Act, GivesBack, MakesPrivate, Tell, act_key, actor_of, acts_in, event_key, moments, number_of, own_events, own_moments}
+use Rattle.arc_core.specs.Operations.{Act, GivesBack, MakesPrivate, act_key, actor_of, acts_in, event_key, number_of}
 use Rattle.turn_table.specs.Places.{Place}
 use Rattle.arc_table.specs.declared.view.Known.{Known}
-use Rattle.arc_table.specs.declared.view.Line.{Line}
 use Rattle.arc_table.specs.declared.view.Line.TheVariants as line
-use Rattle.arc_table.specs.Geometry.{IsCell, parties_of}
-use Rattle.arc_table.specs.Seen.{events_in, seen_of, turn_of}
-use Rattle.arc_table.specs.Telling.{opening_of}
+use Rattle.arc_table.specs.Geometry.{IsCell}
+use Rattle.arc_table.specs.Seen.{turn_of}
 use Rattle.arc_table.specs.Told.{IsTold}
-use Rattle.arc_table.proofs.SeenLemmas.{events-append, events-map}
 use Rattle.trace_run.specs.Deeds.{HasAct, HasToldAll, Noted, SameMade, act_of_event, acts_of_events, events_there, lines_of_cell, with_number}
 use Rattle.trace_run.specs.MadeLines.{made_in, made_of}
 use Rattle.trace_run.proofs.deeds.CellsDone.{lines-append}
-use Rattle.trace_run.proofs.deeds.MakesLemmas.{MakesMore}
+use Rattle.trace_run.proofs.deeds.MakesLemmas.{in-more}
 use Rattle.trace_run.proofs.deeds.TurnMakes.{AreTurnEvents, IsTurnEvent, there-append}
 
 -- ---- acts
@@ -62,13 +56,13 @@ module _ (g : Config) where
   shard_is = shard_of g.shards
 
   -- one of them
-  event-acts : (n d shard c : ℕ) (e : Event) → IsTurnEvent n d e → n < parties_of g → parties_of g ≤ c → acts_in shard_is shard c (act_of_event e) ≡ acts_of_events (with_number c (events_there g shard (e ∷ [])))
-  event-acts n d shard c e (inl hand) low above = subst (λ (x : Event). acts_in shard_is shard c (act_of_event x) ≡ acts_of_events (with_number c (events_there g shard (x ∷ [])))) (sym hand.1) (go (cases_true (shard_is hand.0 == shard)))
+  event-acts : (n d shard c : ℕ) (e : Event) → IsTurnEvent n d e → c ≢ n → acts_in shard_is shard c (act_of_event e) ≡ acts_of_events (with_number c (events_there g shard (e ∷ [])))
+  event-acts n d shard c e (inl hand) other_number = subst (λ (x : Event). acts_in shard_is shard c (act_of_event x) ≡ acts_of_events (with_number c (events_there g shard (x ∷ [])))) (sym hand.1) (go (cases_true (shard_is hand.0 == shard)))
     where
       go : ((shard_is hand.0 == shard) ≡ true) ⊎ ((shard_is hand.0 == shard) ≡ false) → [] ≡ acts_of_events (with_number c (events_there g shard (Hand n hand.0 d ∷ [])))
-      go (inl here) = let other : (n == c) ≡ false = ne_eqb n c (λ same. absurd (omega (arith, same, low, above))) in rw (here, other) refl
+      go (inl here) = let other : (n == c) ≡ false = ne_eqb n c (λ same. other_number (sym same)) in rw (here, other) refl
       go (inr out) = rw out refl
-  event-acts n d shard c e (inr (inl drop)) low above = subst (λ (x : Event). acts_in shard_is shard c (act_of_event x) ≡ acts_of_events (with_number c (events_there g shard (x ∷ [])))) (sym drop.1)
+  event-acts n d shard c e (inr (inl drop)) other_number = subst (λ (x : Event). acts_in shard_is shard c (act_of_event x) ≡ acts_of_events (with_number c (events_there g shard (x ∷ [])))) (sym drop.1)
       (go (cases_true (d == c)) (cases_true (shard_is drop.0 == shard)))
     where
       go : ((d == c) ≡ true) ⊎ ((d == c) ≡ false) → ((shard_is drop.0 == shard) ≡ true) ⊎ ((shard_is drop.0 == shard) ≡ false)
@@ -77,7 +71,7 @@ module _ (g : Config) where
       go (inl own) (inr out) = rw (own, out) refl
       go (inr other) (inl here) = rw (other, here, other) refl
       go (inr other) (inr out) = rw (other, out) refl
-  event-acts n d shard c e (inr (inr release)) low above = subst (λ (x : Event). acts_in shard_is shard c (act_of_event x) ≡ acts_of_events (with_number c (events_there g shard (x ∷ [])))) (sym release.2)
+  event-acts n d shard c e (inr (inr release)) other_number = subst (λ (x : Event). acts_in shard_is shard c (act_of_event x) ≡ acts_of_events (with_number c (events_there g shard (x ∷ [])))) (sym release.2)
       (go (cases_true (d == c)) (cases_true (shard_is release.0 == shard)))
     where
       go : ((d == c) ≡ true) ⊎ ((d == c) ≡ false) → ((shard_is release.0 == shard) ≡ true) ⊎ ((shard_is release.0 == shard) ≡ false)
@@ -88,24 +82,24 @@ module _ (g : Config) where
       go (inr other) (inr out) = rw (other, out) refl
 
   -- all of them
-  pub turn-acts : (n d shard c : ℕ) (es : List Event) → AreTurnEvents n d es → n < parties_of g → parties_of g ≤ c → acts_in shard_is shard c (acts_of_events es) ≡ acts_of_events (with_number c (events_there g shard es))
-  turn-acts n d shard c [] kinds low above = refl
-  turn-acts n d shard c (e ∷ es) kinds low above =
+  pub turn-acts : (n d shard c : ℕ) (es : List Event) → AreTurnEvents n d es → c ≢ n → acts_in shard_is shard c (acts_of_events es) ≡ acts_of_events (with_number c (events_there g shard es))
+  turn-acts n d shard c [] kinds other_number = refl
+  turn-acts n d shard c (e ∷ es) kinds other_number =
       acts-append shard_is shard c (act_of_event e) (acts_of_events es)
-      ∙ ((λ i. event-acts n d shard c e kinds.0 low above i ++ turn-acts n d shard c es kinds.1 low above i)
+      ∙ ((λ i. event-acts n d shard c e kinds.0 other_number i ++ turn-acts n d shard c es kinds.1 other_number i)
       ∙ (sym (events-acts (with_number c (events_there g shard (e ∷ []))) (with_number c (events_there g shard es)))
       ∙ ap acts_of_events (sym (ap (with_number c) (there-append g shard (e ∷ []) es) ∙ filter-append _ (events_there g shard (e ∷ [])) (events_there g shard es)))))
 
-all-both : {A : Type 0} (P : A → Type 0) (xs ys : List A) → AllByRecursion P xs → AllByRecursion P ys → AllByRecursion P (xs ++ ys)
+pub all-both : {A : Type 0} (P : A → Type 0) (xs ys : List A) → AllByRecursion P xs → AllByRecursion P ys → AllByRecursion P (xs ++ ys)
 all-both P [] ys a b = b
 all-both P (x ∷ xs) ys a b = (a.0, all-both P xs ys a.1 b)
 
 -- each of a turn's events with a cell's number stands for an act
-pub turn-kinds : (g : Config) (n d shard c : ℕ) (es : List Event) → AreTurnEvents n d es → n < parties_of g → parties_of g ≤ c → AllByRecursion HasAct (with_number c (events_there g shard es))
-turn-kinds g n d shard c [] kinds low above = tt
-turn-kinds g n d shard c (e ∷ es) kinds low above =
+pub turn-kinds : (g : Config) (n d shard c : ℕ) (es : List Event) → AreTurnEvents n d es → c ≢ n → AllByRecursion HasAct (with_number c (events_there g shard es))
+turn-kinds g n d shard c [] kinds other_number = tt
+turn-kinds g n d shard c (e ∷ es) kinds other_number =
     subst (AllByRecursion HasAct) (sym (ap (with_number c) (there-append g shard (e ∷ []) es) ∙ filter-append _ (events_there g shard (e ∷ [])) (events_there g shard es)))
-    (all-both HasAct (with_number c (events_there g shard (e ∷ []))) (with_number c (events_there g shard es)) (one kinds.0) (turn-kinds g n d shard c es kinds.1 low above))
+    (all-both HasAct (with_number c (events_there g shard (e ∷ []))) (with_number c (events_there g shard es)) (one kinds.0) (turn-kinds g n d shard c es kinds.1 other_number))
   where
     some : (x : Event) → (number_of x ≡ c → HasAct x) → AllByRecursion HasAct (with_number c (events_there g shard (x ∷ [])))
     some x act = elim (cases_true (option_map_or (λ (k : Key). shard_of g.shards k == shard) (event_key x) false)) [
@@ -117,64 +111,51 @@ turn-kinds g n d shard c (e ∷ es) kinds low above =
     ]
 
     one : IsTurnEvent n d e → AllByRecursion HasAct (with_number c (events_there g shard (e ∷ [])))
-    one (inl hand) = some e (λ is. let same : n ≡ c = sym (ap number_of hand.1) ∙ is in absurd (omega (arith, same, low, above)))
+    one (inl hand) = some e (λ is. absurd (other_number (sym is ∙ ap number_of hand.1)))
     one (inr (inl drop)) = some e (λ is. (GivesBack d drop.0, ap act_of_event drop.1))
     one (inr (inr release)) = some e (λ is. (MakesPrivate d release.0, ap act_of_event release.2))
-
--- events of another number
-none-numbered : (n c : ℕ) (es : List Event) → AllByRecursion (λ e. number_of e ≡ n) es → n ≢ c → with_number c es ≡ []
-none-numbered n c [] all differs = refl
-none-numbered n c (e ∷ es) all differs =
-    let other : (number_of e == c) ≡ false = ne_eqb (number_of e) c (λ same. differs (sym all.0 ∙ same)) in
-    rw other (none-numbered n c es all.1 differs)
 
 -- ---- telling
 
 module _ {C : Type 0} (g : Config) where
-  -- what was made of a shard more
-  pub in-more : (shard : ℕ) (es : List Event) (p q : Place (Known C)) → made_of (turn_of g shard) q ≡ made_of (turn_of g shard) p ++ map line.Event es → made_in g shard q ≡ made_in g shard p ++ es
-  in-more shard es p q more = ap events_in more ∙ (events-append (made_of (turn_of g shard) p) (map line.Event es) ∙ ap (λ (l : List Event). made_in g shard p ++ l) (events-map es))
-
-  -- events of the party's own number alone
-  pub own-same : (shard : ℕ) (es : List Event) (p q : Place (Known C)) → p.number < parties_of g → AllByRecursion (λ e. number_of e ≡ p.number) es → MakesMore g shard es p q → SameMade g p q
-  own-same shard es p q low mine more = record {
-    cells = λ j c above. dite (ℕ_discrete j shard)
-        (λ is. subst (λ (s : ℕ). with_number c (made_in g s q) ≡ with_number c (made_in g s p)) (sym is)
-        (ap (with_number c) (in-more shard es p q more.here)
-        ∙ (filter-append _ (made_in g shard p) es
-        ∙ (ap (λ (l : List Event). with_number c (made_in g shard p) ++ l) (none-numbered p.number c es mine (λ same. omega (arith, same, low, above))) ∙ append-nil (with_number c (made_in g shard p))))))
-        (λ differs. ap (λ (l : List Line). with_number c (events_in l)) (more.others j differs));
-    entries = more.cells;
+  -- acts of the party's own number alone
+  pub told-own : (did acts : List Act) (noted : List Noted) (p q : Place (Known C)) → AreActsBy p.number acts → IsTold g (did ++ acts) q → SameMade g p q → HasToldAll g did noted p → HasToldAll g (did ++ acts) noted q
+  told-own did acts noted p q mine told same before = record {
+    acts = told;
+    cells = λ shard c other.
+        let differs : c ≢ p.number = λ is. other (is ∙ sym same.number) in
+        acts-append (shard_of g.shards) shard c did acts
+        ∙ (ap (λ (l : List Act). acts_in (shard_of g.shards) shard c did ++ l) (acts-of-none (shard_of g.shards) shard p.number c acts mine (λ is. differs (sym is)))
+        ∙ (append-nil (acts_in (shard_of g.shards) shard c did) ∙ (before.cells shard c differs ∙ ap acts_of_events (sym (same.cells shard c differs)))));
+    kinds = λ shard c other. let differs : c ≢ p.number = λ is. other (is ∙ sym same.number) in subst (AllByRecursion HasAct) (sym (same.cells shard c differs)) (before.kinds shard c differs);
+    entries = λ i in_range. same.entries i in_range ∙ before.entries i in_range;
   }
 
-  pub same-then : (p q r : Place (Known C)) → SameMade g p q → SameMade g q r → SameMade g p r
-  same-then p q r a b = record { cells = λ shard c above. b.cells shard c above ∙ a.cells shard c above; entries = λ i in_range. b.entries i in_range ∙ a.entries i in_range }
-
-  -- acts of the party's own number alone
-  pub told-own : (did acts : List Act) (noted : List Noted) (p q : Place (Known C)) → p.number < parties_of g → AreActsBy p.number acts → IsTold g (did ++ acts) q → SameMade g p q → HasToldAll g did noted p → HasToldAll g (did ++ acts) noted q
-  told-own did acts noted p q low mine told same before = record {
+  -- nothing that is told
+  pub told-still : (did : List Act) (noted : List Noted) (p q : Place (Known C)) → IsTold g did q → SameMade g p q → HasToldAll g did noted p → HasToldAll g did noted q
+  told-still did noted p q told same before = record {
     acts = told;
-    cells = λ shard c above.
-        acts-append (shard_of g.shards) shard c did acts
-        ∙ (ap (λ (l : List Act). acts_in (shard_of g.shards) shard c did ++ l) (acts-of-none (shard_of g.shards) shard p.number c acts mine (λ e. omega (arith, e, low, above)))
-        ∙ (append-nil (acts_in (shard_of g.shards) shard c did) ∙ (before.cells shard c above ∙ ap acts_of_events (sym (same.cells shard c above)))));
-    kinds = λ shard c above. subst (AllByRecursion HasAct) (sym (same.cells shard c above)) (before.kinds shard c above);
+    cells = λ shard c other. let differs : c ≢ p.number = λ is. other (is ∙ sym same.number) in before.cells shard c differs ∙ ap acts_of_events (sym (same.cells shard c differs));
+    kinds = λ shard c other. let differs : c ≢ p.number = λ is. other (is ∙ sym same.number) in subst (AllByRecursion HasAct) (sym (same.cells shard c differs)) (before.kinds shard c differs);
     entries = λ i in_range. same.entries i in_range ∙ before.entries i in_range;
   }
 
   -- a turn's events under a cell's number, and what was done to cells
-  pub told-turn : (did : List Act) (had more : List Noted) (es : List Event) (d : ℕ) (p q : Place (Known C)) → p.number < parties_of g → AreTurnEvents p.number d es → IsTold g (did ++ acts_of_events es) q
+  pub told-turn : (did : List Act) (had more : List Noted) (es : List Event) (d : ℕ) (p q : Place (Known C)) → q.number ≡ p.number → AreTurnEvents p.number d es → IsTold g (did ++ acts_of_events es) q
       → ((shard : ℕ) → made_of (turn_of g shard) q ≡ made_of (turn_of g shard) p ++ map line.Event (events_there g shard es)) → ((i : ℕ) → IsCell g i → made_of i q ≡ made_of i p ++ lines_of_cell i more)
       → HasToldAll g did had p → HasToldAll g (did ++ acts_of_events es) (had ++ more) q
-  told-turn did had more es d p q low kinds told made entries before = record {
+  told-turn did had more es d p q number kinds told made entries before = record {
     acts = told;
-    cells = λ shard c above.
+    cells = λ shard c other.
+        let differs : c ≢ p.number = λ is. other (is ∙ sym number) in
         acts-append (shard_of g.shards) shard c did (acts_of_events es)
-        ∙ ((λ i. before.cells shard c above i ++ turn-acts g p.number d shard c es kinds low above i)
+        ∙ ((λ i. before.cells shard c differs i ++ turn-acts g p.number d shard c es kinds differs i)
         ∙ (sym (events-acts (with_number c (made_in g shard p)) (with_number c (events_there g shard es)))
-        ∙ ap acts_of_events (sym (ap (with_number c) (in-more shard (events_there g shard es) p q (made shard)) ∙ filter-append _ (made_in g shard p) (events_there g shard es)))));
-    kinds = λ shard c above. subst (AllByRecursion HasAct)
-        (sym (ap (with_number c) (in-more shard (events_there g shard es) p q (made shard)) ∙ filter-append _ (made_in g shard p) (events_there g shard es)))
-        (all-both HasAct (with_number c (made_in g shard p)) (with_number c (events_there g shard es)) (before.kinds shard c above) (turn-kinds g p.number d shard c es kinds low above));
+        ∙ ap acts_of_events (sym (ap (with_number c) (in-more g shard (events_there g shard es) p q (made shard)) ∙ filter-append _ (made_in g shard p) (events_there g shard es)))));
+    kinds = λ shard c other.
+        let differs : c ≢ p.number = λ is. other (is ∙ sym number) in
+        subst (AllByRecursion HasAct)
+        (sym (ap (with_number c) (in-more g shard (events_there g shard es) p q (made shard)) ∙ filter-append _ (made_in g shard p) (events_there g shard es)))
+        (all-both HasAct (with_number c (made_in g shard p)) (with_number c (events_there g shard es)) (before.kinds shard c differs) (turn-kinds g p.number d shard c es kinds differs));
     entries = λ i in_range. entries i in_range ∙ ((λ k. before.entries i in_range k ++ lines_of_cell i more) ∙ sym (lines-append i had more));
   }

@@ -1,12 +1,12 @@
 -- A line on an object, with what it did beside its reply: by what the contract of its call says it came to.
-use Rattle.std.proofs.Common.{◌≡◌, ℕ, ◌+◌, true, List, [], ◌∷◌, ◌++◌, length, map, refl, sym, subst}
+use Rattle.std.proofs.Common.{◌≡◌, ℕ, ◌+◌, true, List, [], ◌∷◌, ◌++◌, length, map, refl, sym, ap, subst}
 use Rattle.std.specs.Prelude.{IsSome}
 use Rattle.std.proofs.lemmas.Bool.{eqb-true, false≢true}
 use Rattle.std.specs.List.{AllByRecursion}
 use Rattle.blk_ptr.specs.declared.ptr.Ptr.{Ptr}
 use Rattle.vdev_io.specs.declared.device.CacheDev.{Ghosts as DeviceGhosts}
 use Rattle.vdev_io.specs.declared.pool.Pool.{Ghosts as PoolGhosts}
-use Rattle.vdev_io.specs.Calls.{KeepsPool}
+use Rattle.vdev_io.specs.Calls.{KeepsPool, MakesCalls}
 use Rattle.arc_core.specs.declared.config.Config.{Config}
 use Rattle.arc_core.specs.declared.event.Event.{Event}
 use Rattle.arc_core.specs.Operations.{Act, actor_of}
@@ -25,10 +25,13 @@ use Rattle.trace_text.specs.declared.reply.Refusal.{Refusal}
 use Rattle.trace_text.specs.declared.reply.Refusal.TheVariants as refusals
 use Rattle.trace_text.specs.declared.reply.Reply.{Reply}
 use Rattle.trace_text.specs.declared.reply.Reply.TheVariants as replies
-use Rattle.trace_run.specs.callers.WorkLines.{DidWorkLine, IsWorkOf, acts_with_op, is_line_of}
+use Rattle.trace_run.specs.callers.WorkLines.{DidWorkLine, IsWorkOf, acts_with_op, effect_with, size_brought}
 use Rattle.trace_run.specs.Deeds.{HasToldAll, Noted, acts_of_events, noted_in}
+use Rattle.trace_run.specs.DeviceReads.{AsksFor}
+use Rattle.trace_run.specs.Effects.{Effect, NoEffect, calls_of, effect_of}
 use Rattle.trace_run.specs.KeptReads.{KeptRead}
-use Rattle.trace_run.specs.ObjectLines.{Did, DidGet, DidObjectLine, DidPatch, DidPin, DidPut, DidUnpin, DidWork, IsBrought, RefusesBlock, RefusesBytes, RefusesUnpin, ReleasesFor, its_number, on_object}
+use Rattle.trace_run.specs.Lines.{is_of_caller}
+use Rattle.trace_run.specs.ObjectLines.{Did, DidGet, DidObjectLine, DidPatch, DidPin, DidPut, DidUnpin, DidWork, IsBrought, RefusesBlock, RefusesBytes, RefusesUnpin, ReleasesFor, SpentOn, its_number, on_object}
 use Rattle.trace_run.specs.Objects.{Brought, IsAnswered, IsRefusedWith, NotesOwn, Nothing, Loaded, Refused, Work, loads_of}
 use Rattle.trace_run.proofs.deeds.OperatesDone.{AreOfCell, both-of, evictions-of, release-of}
 use Rattle.trace_run.proofs.deeds.WorkDone.{of-acts}
@@ -79,26 +82,42 @@ module _ {P D : Type 0} (pools : PoolGhosts P) (devices : DeviceGhosts D) (g : C
   abbrev pub HasWork : Op → Reply → Type 0
   HasWork op reply = (work : Work) × DidWorkLine pools devices g blocks kept before now p q (record { op = op; reply = reply; work = work })
 
+  -- what was read for what was brought: nothing, where the reply tells of no read
+  record Spent (brought : Brought) (reply : Reply) : Type 0 where
+    pub calls : MakesCalls pools (calls_of (effect_with brought reply)) before.pool now.pool
+    pub asked : AsksFor devices (size_brought brought) (effect_with brought reply) before.device now.device
+
+  none-spent : (reply : Reply) → effect_of reply ≡ NoEffect → now ≡ before → Spent Nothing reply
+  none-spent reply quiet same = record {
+    calls = subst (λ (e : Effect). MakesCalls pools (calls_of e) before.pool now.pool) (sym quiet) (ap (λ (x : Outside P D). x.pool) same);
+    asked = subst (λ (e : Effect). AsksFor devices 0 e before.device now.device) (sym quiet) (ap (λ (x : Outside P D). x.device) same);
+  }
+
+  spent-on : (brought : Brought) (reply : Reply) → effect_of reply ≡ NoEffect → SpentOn pools devices g p before now brought reply → Spent brought reply
+  spent-on Nothing reply quiet s = none-spent reply quiet s
+  spent-on (Loaded ptr from) reply quiet s = record { calls = s.calls; asked = s.asked }
+  spent-on (Refused ptr) reply quiet s = record { calls = s.calls; asked = s.asked }
+
   -- a line that was answered, and one that was refused
-  done-line : (op : Op) (reply : Reply) (at : Oid) (t : ℕ) (own : CellEvent) (brought : Brought) (Fits : OnHeap → Type 0) (d : Did g at t p q own brought Fits) → DidObjectLine pools devices g before now p q op reply
+  done-line : (op : Op) (reply : Reply) (at : Oid) (t : ℕ) (own : CellEvent) (brought : Brought) (Fits : OnHeap → Type 0) (d : Did g at t p q own brought Fits) → DidObjectLine pools devices g before now p q op reply → Spent brought reply
       → IsWorkOf g p.number (record { op = op; reply = reply; work = did-work g at t p q own brought Fits d })
       → ((did : List Act) (had : List Noted) → HasToldAll g did had p
       → HasToldAll g (did ++ acts_with_op g blocks kept op reply (did-work g at t p q own brought Fits d)) (had ++ (did-work g at t p q own brought Fits d).noted) q) → HasWork op reply
-  done-line op reply at t own brought Fits d came fits told =
-      (did-work g at t p q own brought Fits d, record { came = came; fits = fits; number = d.work.number; told = told; joined = d.work.joined; pool = pool; device = device })
+  done-line op reply at t own brought Fits d came spent fits told =
+      (did-work g at t p q own brought Fits d, record { came = came; fits = fits; number = d.work.number; told = told; joined = d.work.joined; keeps = d.work.keeps; calls = spent.calls; asked = spent.asked; pool = pool; device = device })
 
-  not-line : (op : Op) (reply : Reply) (at : Oid) (t : ℕ) (brought : Brought) → DidWork g t (cell_number g (cell_of g.cells at)) brought [] [] p q → DidObjectLine pools devices g before now p q op reply
+  not-line : (op : Op) (reply : Reply) (at : Oid) (t : ℕ) (brought : Brought) → DidWork g t (cell_number g (cell_of g.cells at)) brought [] [] p q → DidObjectLine pools devices g before now p q op reply → Spent brought reply
       → IsWorkOf g p.number (record { op = op; reply = reply; work = tried brought })
       → ((did : List Act) (had : List Noted) → HasToldAll g did had p → HasToldAll g (did ++ acts_with_op g blocks kept op reply (tried brought)) (had ++ []) q) → HasWork op reply
-  not-line op reply at t brought w came fits told = (tried brought, record { came = came; fits = fits; number = w.number; told = told; joined = w.joined; pool = pool; device = device })
+  not-line op reply at t brought w came spent fits told = (tried brought, record { came = came; fits = fits; number = w.number; told = told; joined = w.joined; keeps = w.keeps; calls = spent.calls; asked = spent.asked; pool = pool; device = device })
 
   -- why a line that asks for a block's bytes was refused
-  refused-bytes : (at : Oid) (t last : ℕ) (refusal : Refusal) → RefusesBytes pools devices g at t before now p q last refusal → (brought : Brought) × IsRefusedWith refusal brought × DidWork g t (cell_number g (cell_of g.cells at)) brought [] [] p q
-  refused-bytes at t last (refusals.NoBlock named) r = (Nothing, refl, r.0.work)
-  refused-bytes at t last (refusals.Range end size) r = (Nothing, refl, r.0.work)
-  refused-bytes at t last (refusals.Key why) r = (Nothing, refl, r.0.work)
-  refused-bytes at t last refusals.PoolFault r = (Refused r.0, (r.0, refl), r.1.work)
-  refused-bytes at t last (refusals.Mismatch found) r = (Refused r.0, (r.0, refl), r.1.work)
+  refused-bytes : (at : Oid) (t last : ℕ) (refusal : Refusal) → RefusesBytes pools devices g at t before now p q last refusal → (brought : Brought) × IsRefusedWith refusal brought × DidWork g t (cell_number g (cell_of g.cells at)) brought [] [] p q × Spent brought (replies.Refused refusal)
+  refused-bytes at t last (refusals.NoBlock named) r = (Nothing, refl, r.0.work, none-spent (replies.Refused (refusals.NoBlock named)) refl r.1)
+  refused-bytes at t last (refusals.Range end size) r = (Nothing, refl, r.0.work, none-spent (replies.Refused (refusals.Range end size)) refl r.1)
+  refused-bytes at t last (refusals.Key why) r = (Nothing, refl, r.0.work, none-spent (replies.Refused (refusals.Key why)) refl r.1)
+  refused-bytes at t last refusals.PoolFault r = (Refused r.0, (r.0, refl), r.1.work, record { calls = r.2.calls; asked = r.2.asked })
+  refused-bytes at t last (refusals.Mismatch found) r = (Refused r.0, (r.0, refl), r.1.work, record { calls = r.2.calls; asked = r.2.asked })
   refused-bytes at t last (refusals.NoHold block) r = absurd r
   refused-bytes at t last (refusals.NoPin named) r = absurd r
   refused-bytes at t last refusals.NoMemory r = absurd r
@@ -115,11 +134,11 @@ module _ {P D : Type 0} (pools : PoolGhosts P) (devices : DeviceGhosts D) (g : C
 
   get-work : (t : ℕ) (at : Oid) (w : Window) (reply : Reply) → DidGet pools devices g at t before now p q w reply → HasWork (ops.Get p.number t at w) reply
   get-work t at w (replies.Got size shown) d =
-      done-line (ops.Get p.number t at w) (replies.Got size shown) at t (events.Get p.number at) d.0 _ d.1 d
+      done-line (ops.Get p.number t at w) (replies.Got size shown) at t (events.Get p.number at) d.0 _ d.1 d (spent-on d.0 (replies.Got size shown) refl d.2)
       record { together = did-answered g at t p q (events.Get p.number at) d.0 _ d.1; notes = did-notes g at t p q (events.Get p.number at) d.0 _ d.1 } d.1.work.told
   get-work t at w (replies.Refused refusal) d =
       let r = refused-bytes at t (w.at + w.len) refusal d in
-      not-line (ops.Get p.number t at w) (replies.Refused refusal) at t r.0 r.2 d record { together = r.1; notes = (refl, refl) } r.2.told
+      not-line (ops.Get p.number t at w) (replies.Refused refusal) at t r.0 r.2 d r.3 record { together = r.1; notes = (refl, refl) } r.2.told
   get-work t at w replies.Done d = absurd d
   get-work t at w (replies.Read served digest shown) d = absurd d
   get-work t at w (replies.Kept served) d = absurd d
@@ -131,11 +150,11 @@ module _ {P D : Type 0} (pools : PoolGhosts P) (devices : DeviceGhosts D) (g : C
 
   patch-work : (t : ℕ) (at : Oid) (from : ℕ) (bytes : List ℕ) (reply : Reply) → DidPatch pools devices g at t before now p q from bytes reply → HasWork (ops.Patch p.number t at from bytes) reply
   patch-work t at from bytes replies.Done d =
-      done-line (ops.Patch p.number t at from bytes) replies.Done at t (events.Patch p.number at from bytes) d.0 _ d.1 d
+      done-line (ops.Patch p.number t at from bytes) replies.Done at t (events.Patch p.number at from bytes) d.0 _ d.1 d (spent-on d.0 replies.Done refl d.2)
       record { together = did-answered g at t p q (events.Patch p.number at from bytes) d.0 _ d.1; notes = did-notes g at t p q (events.Patch p.number at from bytes) d.0 _ d.1 } d.1.work.told
   patch-work t at from bytes (replies.Refused refusal) d =
       let r = refused-bytes at t (from + length bytes) refusal d in
-      not-line (ops.Patch p.number t at from bytes) (replies.Refused refusal) at t r.0 r.2 d record { together = r.1; notes = (refl, refl) } r.2.told
+      not-line (ops.Patch p.number t at from bytes) (replies.Refused refusal) at t r.0 r.2 d r.3 record { together = r.1; notes = (refl, refl) } r.2.told
   patch-work t at from bytes (replies.Got size shown) d = absurd d
   patch-work t at from bytes (replies.Read served digest shown) d = absurd d
   patch-work t at from bytes (replies.Kept served) d = absurd d
@@ -147,11 +166,11 @@ module _ {P D : Type 0} (pools : PoolGhosts P) (devices : DeviceGhosts D) (g : C
 
   pin-work : (t : ℕ) (at : Oid) (reply : Reply) → DidPin pools devices g at t before now p q reply → HasWork (ops.Pin p.number t at) reply
   pin-work t at replies.Done d =
-      done-line (ops.Pin p.number t at) replies.Done at t (events.Pin p.number at) d.0 _ d.1 d
+      done-line (ops.Pin p.number t at) replies.Done at t (events.Pin p.number at) d.0 _ d.1 d (spent-on d.0 replies.Done refl d.2)
       record { together = did-answered g at t p q (events.Pin p.number at) d.0 _ d.1; notes = did-notes g at t p q (events.Pin p.number at) d.0 _ d.1 } d.1.work.told
   pin-work t at (replies.Refused refusal) d =
       let r = refused-bytes at t 0 refusal (block-bytes at t refusal d) in
-      not-line (ops.Pin p.number t at) (replies.Refused refusal) at t r.0 r.2 d record { together = r.1; notes = (refl, refl) } r.2.told
+      not-line (ops.Pin p.number t at) (replies.Refused refusal) at t r.0 r.2 d r.3 record { together = r.1; notes = (refl, refl) } r.2.told
   pin-work t at (replies.Got size shown) d = absurd d
   pin-work t at (replies.Read served digest shown) d = absurd d
   pin-work t at (replies.Kept served) d = absurd d
@@ -163,7 +182,7 @@ module _ {P D : Type 0} (pools : PoolGhosts P) (devices : DeviceGhosts D) (g : C
 
   put-work : (t : ℕ) (at : Oid) (size fill : ℕ) (reply : Reply) → DidPut g at p q size fill reply → now ≡ before → HasWork (ops.Put p.number t at size fill) reply
   put-work t at size fill replies.Done d none =
-      done-line (ops.Put p.number t at size fill) replies.Done at 0 (events.Put p.number at size fill) Nothing _ d (d, none)
+      done-line (ops.Put p.number t at size fill) replies.Done at 0 (events.Put p.number at size fill) Nothing _ d (d, none) (none-spent replies.Done refl none)
       record { together = refl; notes = did-notes g at 0 p q (events.Put p.number at size fill) Nothing _ d } d.work.told
   put-work t at size fill (replies.Refused refusal) d none = absurd d
   put-work t at size fill (replies.Got most shown) d none = absurd d
@@ -175,8 +194,8 @@ module _ {P D : Type 0} (pools : PoolGhosts P) (devices : DeviceGhosts D) (g : C
   put-work t at size fill (replies.Synced group blocks_of bytes) d none = absurd d
   put-work t at size fill (replies.Capped c) d none = absurd d
 
-  no-pin : (at : Oid) (refusal : Refusal) → RefusesUnpin g at p q refusal → DidWork g 0 (cell_number g (cell_of g.cells at)) Nothing [] [] p q
-  no-pin at (refusals.NoPin named) r = r.work
+  no-pin : (at : Oid) (refusal : Refusal) → RefusesUnpin g at p q refusal → (effect_of (replies.Refused refusal) ≡ NoEffect) × DidWork g 0 (cell_number g (cell_of g.cells at)) Nothing [] [] p q
+  no-pin at (refusals.NoPin named) r = (refl, r.work)
   no-pin at (refusals.NoBlock named) r = absurd r
   no-pin at (refusals.Range end size) r = absurd r
   no-pin at (refusals.Key why) r = absurd r
@@ -187,10 +206,10 @@ module _ {P D : Type 0} (pools : PoolGhosts P) (devices : DeviceGhosts D) (g : C
 
   unpin-work : (at : Oid) (reply : Reply) → DidUnpin g at p q reply → now ≡ before → HasWork (ops.Unpin p.number at) reply
   unpin-work at replies.Done d none =
-      done-line (ops.Unpin p.number at) replies.Done at 0 (events.Unpin p.number at) Nothing _ d (d, none) record { together = refl; notes = did-notes g at 0 p q (events.Unpin p.number at) Nothing _ d } d.work.told
+      done-line (ops.Unpin p.number at) replies.Done at 0 (events.Unpin p.number at) Nothing _ d (d, none) (none-spent replies.Done refl none) record { together = refl; notes = did-notes g at 0 p q (events.Unpin p.number at) Nothing _ d } d.work.told
   unpin-work at (replies.Refused refusal) d none =
       let w = no-pin at refusal d in
-      not-line (ops.Unpin p.number at) (replies.Refused refusal) at 0 Nothing w (d, none) record { together = refl; notes = (refl, refl) } w.told
+      not-line (ops.Unpin p.number at) (replies.Refused refusal) at 0 Nothing w.1 (d, none) (none-spent (replies.Refused refusal) w.0 none) record { together = refl; notes = (refl, refl) } w.1.told
   unpin-work at (replies.Got size shown) d none = absurd d
   unpin-work at (replies.Read served digest shown) d none = absurd d
   unpin-work at (replies.Kept served) d none = absurd d
@@ -201,7 +220,7 @@ module _ {P D : Type 0} (pools : PoolGhosts P) (devices : DeviceGhosts D) (g : C
   unpin-work at (replies.Capped c) d none = absurd d
 
   -- each line on an object has such a work
-  pub object-work : (op : Op) (reply : Reply) → is_line_of p.number op ≡ true → DidObjectLine pools devices g before now p q op reply → IsSome (on_object op) → HasWork op reply
+  pub object-work : (op : Op) (reply : Reply) → is_of_caller p.number op ≡ true → DidObjectLine pools devices g before now p q op reply → IsSome (on_object op) → HasWork op reply
   object-work (ops.Get n t at w) reply his d some = subst (λ (m : ℕ). HasWork (ops.Get m t at w) reply) (sym (eqb-true n p.number his)) (get-work t at w reply d)
   object-work (ops.Patch n t at from bytes) reply his d some = subst (λ (m : ℕ). HasWork (ops.Patch m t at from bytes) reply) (sym (eqb-true n p.number his)) (patch-work t at from bytes reply d)
   object-work (ops.Pin n t at) reply his d some = subst (λ (m : ℕ). HasWork (ops.Pin m t at) reply) (sym (eqb-true n p.number his)) (pin-work t at reply d)

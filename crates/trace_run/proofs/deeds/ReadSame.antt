@@ -1,7 +1,5 @@
 -- A read of a party makes nothing with a cell's number, and nothing of a cell.
-use Rattle.std.proofs.Common.{◌≡◌, ◌≢◌, ℕ, zero, suc, ◌<◌, false, IsTrue, List, [], ◌∷◌, ◌++◌, Option, Result, Ok, Err, refl, sym, ap, ◌∙◌, subst, inl, eq-eqb}
-use Rattle.std.specs.List.{AllByRecursion}
-use mathlib.Core.Option.{some-ne-none}
+use Rattle.std.proofs.Common.{◌≡◌, ℕ, zero, suc, ◌<◌, false, IsTrue, List, [], ◌∷◌, ◌++◌, Option, Result, Ok, Err, refl, sym, subst, eq-eqb}
 use Rattle.blk_ptr.specs.Hash.{shard_of}
 use Rattle.blk_ptr.specs.declared.key.Key.{Key}
 use Rattle.blk_ptr.specs.declared.ptr.Ptr.{Ptr}
@@ -10,7 +8,7 @@ use Rattle.vdev_io.specs.declared.pool.Pool.{Ghosts as PoolGhosts}
 use Rattle.arc_core.specs.Config.{IsConfig}
 use Rattle.arc_core.specs.declared.config.Config.{Config}
 use Rattle.arc_core.specs.declared.event.Event.{Event}
-use Rattle.arc_core.specs.declared.event.Event.TheVariants.{Arrive, Drop, Fail, Hit, Miss, Past}
+use Rattle.arc_core.specs.declared.event.Event.TheVariants.{Miss}
 use Rattle.arc_core.specs.declared.served.ReadFault.{ReadFault}
 use Rattle.arc_core.specs.declared.served.ReadFault.TheVariants as fault
 use Rattle.arc_core.specs.declared.served.Served.TheVariants as served
@@ -32,8 +30,7 @@ use Rattle.arc_table.proofs.reads.ReadMoments.{own-none, own-single}
 use Rattle.trace_run.specs.Deeds.{SameMade}
 use Rattle.trace_run.specs.Making.{HasSeenItsEvents}
 use Rattle.trace_run.proofs.CellsLeft.{LeavesCells, does-leaves, leaves-same, leaves-then, roomy-leaves}
-use Rattle.trace_run.proofs.deeds.DeedLemmas.{own-same, same-then}
-use Rattle.trace_run.proofs.deeds.MakesLemmas.{does-long, makes-more, roomy-long}
+use Rattle.trace_run.proofs.deeds.MakesLemmas.{does-long, makes-more, numbers-of, own-same, roomy-long, same-none, same-then}
 use Rattle.trace_run.proofs.MoveLemmas.{does-made-own, roomy-made-own, roomy-mine}
 
 -- The party has seen of cells what it had, and made nothing of them and nothing with their numbers; and it has seen all events that it made.
@@ -42,17 +39,9 @@ pub record OnlyOwn {C : Type 0} (g : Config) (p q : Place (Known C)) : Type 0 wh
   pub sees : HasSeenItsEvents g q
   pub same : SameMade g p q
 
--- whose events these are
-numbers-of : (b n : ℕ) (es : List Event) → AreOwn b n es → AllByRecursion (λ e. number_of e ≡ n) es
-numbers-of b n [] own = tt
-numbers-of b n (e ∷ es) own = ((own 0 e refl).0, numbers-of b n es (λ z x at. later z x at))
-  where
-    later : AreOwn b n es
-    later z x at = own (suc z) x at
-
 module _ {C : Type 0} (m : Meanings C) (g : Config) (valid : IsConfig g) where
   same-party : (p q : Place (Known C)) → HasSeenItsEvents g p → q ≡ p → OnlyOwn g p q
-  same-party p q sees is = subst (OnlyOwn g p) (sym is) record { left = leaves-same g p p refl; sees = sees; same = record { cells = λ shard c above. refl; entries = λ i in_range. refl } }
+  same-party p q sees is = subst (OnlyOwn g p) (sym is) record { left = leaves-same g p p refl; sees = sees; same = same-none g p }
 
   only-then : (p q r : Place (Known C)) → OnlyOwn g p q → OnlyOwn g q r → OnlyOwn g p r
   only-then p q r a b = record { left = leaves-then g p q r a.left b.left; sees = b.sees; same = same-then g p q r a.same b.same }
@@ -64,8 +53,8 @@ module _ {C : Type 0} (m : Meanings C) (g : Config) (valid : IsConfig g) where
       record {
         left = left;
         sees = made-sees g (shard_of g.shards k) d.before es p q made sees;
-        same = own-same g (shard_of g.shards k) es p q low (numbers-of (parties_of g) p.number es mine)
-            (makes-more g (shard_of g.shards k) d.before es p q made (does-long m g valid k p q config es d made) sees.own left.fronts);
+        same = own-same g (shard_of g.shards k) es p q made.same.number (numbers-of (parties_of g) p.number es mine)
+            (makes-more g (shard_of g.shards k) d.before es p q made (does-long m g valid k p q config es d made) sees.own left.fronts) left;
       }
 
   one-only : (k : Key) (e : Event) (p q : Place (Known C)) → p.number < parties_of g → p.own.about.config ≡ g → HasSeenItsEvents g p → number_of e ≡ p.number → is_pass e ≡ false → Does m g k (e ∷ []) p q → OnlyOwn g p q
@@ -81,8 +70,8 @@ module _ {C : Type 0} (m : Meanings C) (g : Config) (valid : IsConfig g) where
       record {
         left = left;
         sees = made-sees g (shard_of g.shards k) d.before (d.makes.passes ++ e ∷ []) p q made sees;
-        same = own-same g (shard_of g.shards k) (d.makes.passes ++ e ∷ []) p q low (numbers-of (parties_of g) p.number (d.makes.passes ++ e ∷ []) (roomy-mine m g valid k p q config sees e fits d))
-            (makes-more g (shard_of g.shards k) d.before (d.makes.passes ++ e ∷ []) p q made (roomy-long m g valid k p q config e d made) sees.own left.fronts);
+        same = own-same g (shard_of g.shards k) (d.makes.passes ++ e ∷ []) p q made.same.number (numbers-of (parties_of g) p.number (d.makes.passes ++ e ∷ []) (roomy-mine m g valid k p q config sees e fits d))
+            (makes-more g (shard_of g.shards k) d.before (d.makes.passes ++ e ∷ []) p q made (roomy-long m g valid k p q config e d made) sees.own left.fronts) left;
       }
 
   still-low : (p q : Place (Known C)) → OnlyOwn g p q → p.number < parties_of g → q.number < parties_of g

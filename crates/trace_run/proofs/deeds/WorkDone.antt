@@ -23,7 +23,8 @@ use Rattle.trace_run.specs.Objects.{Brought, Nothing, Loaded, Refused, acts_of_b
 use Rattle.trace_run.specs.Reads.{now_of}
 use Rattle.trace_run.proofs.deeds.BringDone.{BringDone, MakesOwn}
 use Rattle.trace_run.proofs.deeds.CellsDone.{lines-append}
-use Rattle.trace_run.proofs.deeds.DeedLemmas.{AreActsBy, acts-append, acts-of-none, events-acts, in-more, turn-acts, turn-kinds}
+use Rattle.trace_run.proofs.deeds.DeedLemmas.{AreActsBy, acts-append, acts-of-none, events-acts, turn-acts, turn-kinds}
+use Rattle.trace_run.proofs.deeds.MakesLemmas.{in-more}
 use Rattle.trace_run.proofs.deeds.OperatesDone.{AreOfCell, all-both, held-same}
 use Rattle.trace_run.proofs.deeds.TurnMakes.{AreTurnEvents, IsTurnEvent, held-append, own-there, starts-on, there-append}
 
@@ -134,25 +135,28 @@ module _ (g : Config) (t c : ℕ) (above : parties_of g ≤ c) (brought : Brough
     made-there : (shard : ℕ) → made_in g shard q ≡ made_in g shard m ++ events_there g shard (hands ++ es)
     made-there shard = in-more g shard (events_there g shard (hands ++ es)) m q (d.made shard)
 
-    numbered : (shard n : ℕ) → parties_of g ≤ n → with_number n (made_in g shard q) ≡ with_number n (made_in g shard p) ++ with_number n (events_there g shard (hands ++ es))
-    numbered shard n high = ap (with_number n) (made-there shard) ∙ (filter-append _ (made_in g shard m) (events_there g shard (hands ++ es))
-        ∙ ap (λ (l : List Event). l ++ with_number n (events_there g shard (hands ++ es))) (b.same.cells shard n high))
+    numbered : (shard n : ℕ) → n ≢ p.number → with_number n (made_in g shard q) ≡ with_number n (made_in g shard p) ++ with_number n (events_there g shard (hands ++ es))
+    numbered shard n other = ap (with_number n) (made-there shard) ∙ (filter-append _ (made_in g shard m) (events_there g shard (hands ++ es))
+        ∙ ap (λ (l : List Event). l ++ with_number n (events_there g shard (hands ++ es))) (b.same.cells shard n other))
 
-    cell-acts : (shard n : ℕ) → parties_of g ≤ n → acts_in f shard n (own_acts ++ cell_acts) ≡ acts_of_events (with_number n (events_there g shard (hands ++ es)))
-    cell-acts shard n high =
+    cell-acts : (shard n : ℕ) → n ≢ p.number → acts_in f shard n (own_acts ++ cell_acts) ≡ acts_of_events (with_number n (events_there g shard (hands ++ es)))
+    cell-acts shard n other =
         acts-append f shard n own_acts cell_acts
-        ∙ (ap (λ (l : List Act). l ++ acts_in f shard n cell_acts) (acts-of-none f shard p.number n own_acts (bringing-own p.number t c brought) (λ is. omega (arith, is, low, high)))
-        ∙ (ap (acts_in f shard n) (sym all-acts) ∙ turn-acts g p.number c shard n (hands ++ es) kinds low high))
+        ∙ (ap (λ (l : List Act). l ++ acts_in f shard n cell_acts) (acts-of-none f shard p.number n own_acts (bringing-own p.number t c brought) (λ is. other (sym is)))
+        ∙ (ap (acts_in f shard n) (sym all-acts) ∙ turn-acts g p.number c shard n (hands ++ es) kinds other))
 
     pub told-work : HasToldAll g (did ++ (own_acts ++ cell_acts)) (had ++ noted) q
     told-work = record {
       acts = told-acts;
       cells = λ shard n high.
+          let other : n ≢ p.number = λ is. high (is ∙ sym number) in
           acts-append f shard n did (own_acts ++ cell_acts)
-          ∙ ((λ i. before.cells shard n high i ++ cell-acts shard n high i)
-          ∙ (sym (events-acts (with_number n (made_in g shard p)) (with_number n (events_there g shard (hands ++ es)))) ∙ ap acts_of_events (sym (numbered shard n high))));
-      kinds = λ shard n high. subst (AllByRecursion HasAct) (sym (numbered shard n high))
-          (all-both HasAct (with_number n (made_in g shard p)) (with_number n (events_there g shard (hands ++ es))) (before.kinds shard n high) (turn-kinds g p.number c shard n (hands ++ es) kinds low high));
+          ∙ ((λ i. before.cells shard n other i ++ cell-acts shard n other i)
+          ∙ (sym (events-acts (with_number n (made_in g shard p)) (with_number n (events_there g shard (hands ++ es)))) ∙ ap acts_of_events (sym (numbered shard n other))));
+      kinds = λ shard n high.
+          let other : n ≢ p.number = λ is. high (is ∙ sym number) in
+          subst (AllByRecursion HasAct) (sym (numbered shard n other))
+          (all-both HasAct (with_number n (made_in g shard p)) (with_number n (events_there g shard (hands ++ es))) (before.kinds shard n other) (turn-kinds g p.number c shard n (hands ++ es) kinds other));
       entries = λ i in_range. d.entries i in_range ∙ ((λ k. (b.same.entries i in_range ∙ before.entries i in_range) k ++ lines_of_cell i noted) ∙ sym (lines-append i had noted));
     }
 
@@ -169,7 +173,7 @@ module _ (g : Config) (t c : ℕ) (above : parties_of g ≤ c) (brought : Brough
     source = b.source;
     all = λ all. d.all (b.seen.all all);
     joined = d.joined ∙ b.seen.joined;
-    cells = λ i in_range. starts-on g _ _ _ (d.cells i in_range) (b.seen.cells i in_range);
+    keeps = record { about = d.about ∙ b.seen.about; fronts = λ i in_range. starts-on g _ _ _ (d.cells i in_range) (b.seen.cells i in_range) };
     cells_alone = λ all i in_range. d.cells_alone (b.seen.all all) i in_range ∙ ap (λ (l : List Line). l ++ lines_of_cell i noted) (b.seen.alone all i in_range);
   }
 

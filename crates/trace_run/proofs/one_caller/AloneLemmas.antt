@@ -16,7 +16,7 @@ use Rattle.vdev_io.specs.declared.pool.Pool.{Ghosts}
 use Rattle.arc_core.specs.declared.config.Config.{Config}
 use Rattle.arc_core.specs.declared.event.Event.{Event}
 use Rattle.arc_core.specs.declared.served.Restored.{Restored}
-use Rattle.arc_core.specs.Operations.{Act, HoldEveryCallOnce, IsAtRest, Moment, Tell, acts_in, are_passes_placed, has_its_number, is_pool_read, moments, number_of, own_events, own_moments, pool_reads}
+use Rattle.arc_core.specs.Operations.{Act, HoldEveryCallOnce, IsAtRest, Moment, Tell, actor_of, acts_in, are_passes_placed, has_its_number, is_pool_read, moments, number_of, own_events, own_moments, pool_reads}
 use Rattle.arc_core.specs.PlainShard.{PlainShard}
 use Rattle.arc_core.specs.Replay.{is_legal_history, replay}
 use Rattle.arc_core.specs.ShardLog.{ShardLog}
@@ -41,7 +41,7 @@ use Rattle.trace_run.specs.callers.CallerLines.{At, DidLines, HasFed, at}
 use Rattle.trace_run.specs.Effects.{calls_of_all}
 use Rattle.trace_run.specs.Ends.{ends_of}
 use Rattle.arc_table.specs.Telling.{opening_of}
-use Rattle.trace_run.specs.Explaining.{BeginsWith, EndsWith, Explain, drops_at_end}
+use Rattle.trace_run.specs.Explaining.{BeginsWith, EndsWith, ExplainReads, drops_at_end}
 use Rattle.trace_run.specs.KeptBlocks.{DroppedAlone, GivesAll, Stands, holds_in, read_of}
 use Rattle.trace_run.specs.Lines.{caller_of, is_in_shard, is_of_caller, replies_where, shard_of_block, shard_of_line}
 use Rattle.trace_run.specs.one_caller.OneCaller.{AreFoundAs, IsFoundAs, events_of_drops, kept_after, kept_after_all, one_caller_history, only_feeder}
@@ -52,9 +52,11 @@ use Rattle.trace_run.specs.Restores.{events_by_feeder, restored_shard, restores_
 use Rattle.arc_table.specs.Seen.{HasAll, seen_of}
 use Rattle.trace_run.specs.Tally.{AreAnswered, IsOfCaller}
 use Rattle.arc_table.specs.Told.{IsTold}
-use Rattle.trace_run.specs.Making.{AreNoEntries, HasTold}
+use Rattle.trace_run.specs.Deeds.{HasToldAll}
+use Rattle.trace_run.specs.Making.{AreNoEntries, MadeItsOwn}
 use Rattle.trace_run.proofs.MappedLemmas.{ran-mapped}
-use Rattle.trace_run.proofs.callers.CallerActLemmas.{callers-none}
+use Rattle.trace_run.proofs.callers.CallerActLemmas.{callers-none, own-lines}
+use Rattle.trace_run.proofs.deeds.OwnAlone.{own-alone}
 use Rattle.trace_run.proofs.FeederLemmas.{given-unread, own-restores, restores-given}
 use Rattle.trace_run.proofs.GiveLemmas.{all-alone, all-keep, all-number, all-told}
 use Rattle.trace_run.proofs.callers.GroupCounts.{caller-reads, reads_by}
@@ -68,7 +70,7 @@ use Rattle.arc_table.proofs.OwnLemmas.{no-own-moments}
 use Rattle.trace_run.proofs.theorem.ReportLemmas.{all-own, one-caller, possible-at}
 use Rattle.trace_run.proofs.one_caller.RestAlone.{all-there, alone-history, alone-legal, alone-now, alone-rests, alone-told}
 use Rattle.trace_run.proofs.one_caller.SoleLemmas.{own-two, sole-acts, sole-answers, sole-fed, sole-kept}
-use Rattle.trace_run.proofs.one_caller.TellLemmas.{IsAloneEvent, IsAloneOp, all-append, all-map, alone-events, is_given, no-passes}
+use Rattle.trace_run.proofs.one_caller.TellLemmas.{IsAloneEvent, IsAloneOp, act-caller, all-append, all-map, alone-events, is_given, no-passes}
 
 -- ---- lists by their places
 
@@ -279,8 +281,16 @@ module _ {C P : Type 0} (m : Meanings C) (cache : Cache) (pools : Ghosts P) (blo
       dropped.seen shard ∙ ((λ h. from h ++ drops h) ∙ (append_assoc (begun shard) over end ∙ ap (λ (es : List Event). begun shard ++ es) (history-over g.shards blocks 0 shard start os replies)))
 
   -- what it did is told
-  pub told-r : HasTold g (acts_of_all blocks [] os replies ++ acts_of_drops q.number (map read_of kept)) r
-  told-r = all-told m cache kept q r between gives (acts_of_all blocks [] os replies) (lines-told g pools blocks os replies a b did [] (fed.told [] first.new.told))
+  told-r : HasToldAll g (acts_of_all blocks [] os replies ++ acts_of_drops q.number (map read_of kept)) [] r
+  told-r = all-told m cache kept q r between gives (acts_of_all blocks [] os replies) [] (lines-told g pools blocks os replies a b did [] [] (fed.told [] [] first.new.told))
+
+  told-his : HasToldAll g (acts_of_caller blocks 0 his to-him) [] r
+  told-his = subst (λ (l : List Act). HasToldAll g l [] r) (λ h. sole-acts blocks [] os replies same-count all-his h ++ acts_of_drops (number-q h) ((kept-is ∙ sole-kept blocks [] os replies same-count all-his) h)) told-r
+
+  -- what it made are events of shards, with its own number
+  pub made-his : MadeItsOwn g r
+  made-his = own-alone g (acts_of_caller blocks 0 his to-him) r (let is = number-r in omega (arith, is))
+      (subst (λ (n : ℕ). AllByRecursion (λ act. actor_of act ≡ n) (acts_of_caller blocks 0 his to-him)) (sym number-r) (act-caller blocks 0 his to-him (own-lines 0 os))) told-his last.seen last.cells
 
   -- the party that closes the cache is as it was, as far as shards go
   module _ (z : Place (Known C)) (same-number : z.number ≡ r.number) (same-parties : z.parties ≡ r.parties) (stands-z : Stands cache z []) (all-z : HasAll z)
@@ -334,13 +344,8 @@ module _ {C P : Type 0} (m : Meanings C) (cache : Cache) (pools : Ghosts P) (blo
     abbrev acts : List Act
     acts = acts_of_callers blocks g.callers os replies
 
-    told-all : IsTold g (acts_of_caller blocks 0 his to-him) r
-    told-all =
-        let then = told-r.acts in
-        subst (λ (l : List Act). IsTold g l r) (λ h. sole-acts blocks [] os replies same-count all-his h ++ acts_of_drops (number-q h) ((kept-is ∙ sole-kept blocks [] os replies same-count all-his) h)) then
-
     told-z : IsTold g (acts_of_caller blocks 0 his to-him) z
-    told-z shard = subst (λ (x : ℕ × List Event). Tell (acts_in (shard_of g.shards) shard x.0 (acts_of_caller blocks 0 his to-him)) (own_moments x.0 (moments opening x.1))) (λ i. (sym same-number i, sym (seen-z shard) i)) (told-all shard)
+    told-z shard = subst (λ (x : ℕ × List Event). Tell (acts_in (shard_of g.shards) shard x.0 (acts_of_caller blocks 0 his to-him)) (own_moments x.0 (moments opening x.1))) (λ i. (sym same-number i, sym (seen-z shard) i)) (told-his.acts shard)
 
     all-acts : acts_of_callers blocks g.callers os replies ≡ acts_of_caller blocks 0 his to-him
     all-acts = ap (λ (n : ℕ). acts_of_callers blocks n os replies) one
@@ -411,7 +416,7 @@ module _ {C P : Type 0} (m : Meanings C) (cache : Cache) (pools : Ghosts P) (blo
     begins-at : (i : ℕ) (l : ShardLog) → get_elem? closed.shards i ≡ some l → BeginsWith l.history (begun i)
     begins-at i l at_i = (_, the-history i l at_i)
 
-    explained : Explain trace restored replies (ends_in closed) (histories_of closed)
+    explained : ExplainReads trace restored replies (ends_in closed) (histories_of closed)
     explained = record {
       shards = length-map closed.shards (λ (log : ShardLog). log.history) ∙ ends.shards;
       legal = all-mapped (λ (log : ShardLog). log.history) (λ history. IsTrue (is_legal_history opening history)) closed.shards (alone-legal m cache z closed ends parties-z stands-z all-z);
@@ -466,7 +471,7 @@ module _ {C P : Type 0} (m : Meanings C) (cache : Cache) (pools : Ghosts P) (tra
 
   -- it made nothing of a cell
   pub still-only : AreNoEntries cache.config r.own.mine
-  still-only = (told-r m cache pools trace.blocks trace.ops replies before after p q r kept callers own restored new first fed did between gives last).only.entries
+  still-only = (made-his m cache pools trace.blocks trace.ops replies before after p q r kept callers own restored new first fed did between gives last).entries
 
   -- the feeder's party has still joined it
   pub still-joined : r.joined ≡ q.joined

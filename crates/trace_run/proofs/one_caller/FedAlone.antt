@@ -17,16 +17,21 @@ use Rattle.arc_table.specs.Cache.{Cache, IsPartyOf}
 use Rattle.arc_table.specs.Geometry.{parties_of}
 use Rattle.arc_table.specs.Items.{Meanings}
 use Rattle.arc_table.specs.Seen.{AllEntriesSeen, AreEntriesSeen, IsEntrySeen, IsNumberOrCell, IsSeenBy, events_in, seen_of, turn_of}
+use Rattle.arc_table.specs.TableLaws.{starts_whole}
+use Rattle.arc_table.specs.Fronts.{front_of}
 use Rattle.trace_run.specs.Making.{AllEventsSeen, AreEventsSeen}
 use Rattle.arc_table.specs.Telling.{opening_of}
 use Rattle.arc_table.specs.Views.{after_learned}
 use Rattle.trace_run.specs.declared.kept_blocks.KeptBlock.{KeptBlock}
 use Rattle.trace_run.specs.callers.CallerLines.{HasFed}
+use Rattle.trace_run.specs.Deeds.{SameMade}
 use Rattle.trace_run.specs.KeptBlocks.{Stands}
 use Rattle.trace_run.specs.Meeting.{HasFeeder, HasParted, IsApart, IsJoinedBy, IsLevel, JoinAll, Joins, MadeJoined, MayGoOn}
 use Rattle.trace_run.proofs.callers.GroupsLemmas.{parted-length}
 use Rattle.trace_run.proofs.callers.MeetLemmas.{HaveJoined, left_alone, parted_from}
 use Rattle.trace_run.proofs.callers.TurnLemmas.{joined, joined-all, joined-stands}
+use Rattle.trace_run.proofs.deeds.DeedLemmas.{told-still}
+use Rattle.trace_run.proofs.deeds.MakesLemmas.{grown-same, same-then}
 
 module _ {C : Type 0} (cache : Cache) (more : (shard : ℕ) → List Event) (p : Place (Known C)) (one : cache.config.callers ≡ 1) (number : p.number ≡ 0) (rows : cache.row.parties ≡ parties_of cache.config) (openings : List (List ℕ)) (feeder : HasFeeder cache openings p) where
   abbrev g : Config
@@ -201,15 +206,21 @@ module _ {C : Type 0} (cache : Cache) (more : (shard : ℕ) → List Event) (p :
           subst (λ (n : ℕ). own_moments n (moments (opening_of g) (seen_of g shard q)) ≡ own_moments n (moments (opening_of g) (seen_of g shard p2))) p2-parted.number (have2.self.own shard)
           ∙ p2-parted.own shard
 
+      -- and it made nothing more
+      same-made : SameMade g p q
+      same-made =
+          let first : SameMade g p p1 = record { number = refl; cells = λ shard c other. refl; entries = λ i in_range. refl; keeps = record { about = refl; fronts = λ i in_range. starts_whole (front_of i p.own.seen) } } in
+          same-then g p p1 q first
+          (same-then g p1 p2 q (p2-parted.same had p1-stands) (grown-same g p2 q have2.number have2.about have2.mine have2.self.starts have2.self.cells p2-stands.seen p2-stands.cells))
+
       pub alone-fed : HasFed g more p q
       alone-fed = record {
         number = have2.number ∙ p2-parted.number;
-        told = λ before told. record {
-          acts = λ shard.
-              subst (λ (n : ℕ). Tell (acts_in (shard_of g.shards) shard n before) (own_moments n (moments (opening_of g) (seen_of g shard q)))) (sym (have2.number ∙ p2-parted.number))
-              (subst (Tell (acts_in (shard_of g.shards) shard p.number before)) (sym (same-own shard)) (told.acts shard));
-          only = have2.only (p2-parted.only record { events = told.only.events; entries = told.only.entries });
-        };
+        told = λ before noted told. told-still g before noted p q
+            (λ shard.
+            subst (λ (n : ℕ). Tell (acts_in (shard_of g.shards) shard n before) (own_moments n (moments (opening_of g) (seen_of g shard q)))) (sym (have2.number ∙ p2-parted.number))
+            (subst (Tell (acts_in (shard_of g.shards) shard p.number before)) (sym (same-own shard)) (told.acts shard)))
+            same-made told;
         seen = λ shard. q-sees shard ∙ (r.seen shard ∙ ap (λ (es : List Event). es ++ more shard) (front-is shard));
         all = λ all. joined-all m cache p2 had (f2 ∷ []) p2-stands p2-parted.alone apart2 (both-have p2 f2 p2-number f2-number) count2 differ2 q all-joins;
       }

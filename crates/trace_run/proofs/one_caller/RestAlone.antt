@@ -27,7 +27,7 @@ use Rattle.arc_table.specs.Told.{IsTold}
 use Rattle.trace_run.proofs.theorem.CloseLemmas.{closed-alone, closed-legal, closed-now, closed-sound, closed-told, last}
 use Rattle.trace_run.proofs.theorem.HistoryLemmas.{IsReadEvent}
 use Rattle.trace_run.proofs.KeptBlockLemmas.{is_ptr-same, times-cons}
-use Rattle.trace_run.proofs.theorem.RestLemmas.{closed-rests}
+use Rattle.trace_run.proofs.theorem.RestLemmas.{reads-rest}
 
 -- where no pointer is listed, none is held
 pub none-listed : (hs : List Ptr) → ((x : Ptr) → times x hs ≡ 0) → hs ≡ []
@@ -75,5 +75,5 @@ module _ {C : Type 0} (m : Meanings C) (cache : Cache) (p : Place (Known C)) (cl
     -- where all callers' numbers are its own
     pub alone-rests : ((n : ℕ) → n < cache.config.callers → p.number ≡ n) → AllByRecursion (IsReadEvent cache.config.callers) l.history → IsAtRest (replay (opening_of g) l.history)
     alone-rests own reads = subst IsAtRest (sym alone-now)
-        (closed-rests m cache (p ∷ []) closed ends i l at (config_then m p (turn_of g i) l was-free ∙ stands.of.config)
-        (λ n below. (p.own, subst (λ (x : ℕ). get_elem? ends.views x ≡ some p.own) (own n below) ends.shown.0.0, idle)) stands.valid alone-sound reads)
+        (reads-rest m cache (p ∷ []) closed ends i l at (config_then m p (turn_of g i) l was-free ∙ stands.of.config) alone-sound stands.valid
+        (λ n below. (p.own, subst (λ (x : ℕ). get_elem? ends.views x ≡ some p.own) (own n below) ends.shown.0.0, idle)) reads)

@@ -1,5 +1,5 @@
 -- A party that has every number syncs, whatever is dirty: what it has seen then of shards and of cells.
-use Rattle.std.proofs.Common.{◌≡◌, ℕ, zero, suc, ◌+◌, ◌<◌, ◌≤◌, List, [], ◌∷◌, ◌++◌, length, map, refl, sym, ap, ◌∙◌, subst, inl, inr, arith}
+use Rattle.std.proofs.Common.{◌≡◌, ℕ, zero, suc, ◌+◌, ◌<◌, List, [], ◌∷◌, ◌++◌, length, map, sym, ap, ◌∙◌, subst, inl, arith}
 use Rattle.std.specs.Prelude.{slice_index_or}
 use Rattle.std.specs.List.{AllByRecursion}
 use Rattle.std.proofs.lemmas.List.{map-append}
@@ -20,7 +20,7 @@ use Rattle.dbuf_state.specs.declared.event.CellEvent.{CellEvent}
 use Rattle.txg_sync.specs.Items.{SyncItem}
 use Rattle.txg_sync.specs.Syncing.{Same}
 use Rattle.txg_sync.specs.Turns.{GivesFrom, SyncsCells, synced_in}
-use Rattle.trace_run.specs.CellEnds.{events_there}
+use Rattle.trace_run.specs.Deeds.{events_there}
 use Rattle.trace_run.specs.Making.{HasSeenItsEvents}
 use Rattle.trace_run.specs.Syncing.{lines_of}
 use Rattle.trace_run.proofs.CellEnds.{HasDropped, HasEndedSome, cell-drops-there, drops-unmade}

@@ -40,7 +40,7 @@ use Rattle.arc_check.specs.Judging.{end_of}
 use Rattle.trace_run.specs.Acts.{acts_of_caller, acts_of_callers, events_of_feeder, events_of_feeds}
 use Rattle.trace_run.specs.Ends.{ends_of}
 use Rattle.arc_table.specs.Telling.{opening_of}
-use Rattle.trace_run.specs.Explaining.{BeginsWith, EndsWith, Explain, drops_at_end}
+use Rattle.trace_run.specs.Explaining.{BeginsWith, EndsWith, ExplainReads, drops_at_end}
 use Rattle.trace_run.specs.KeptBlocks.{IsIdle, Stands, is_ptr, times}
 use Rattle.trace_run.specs.Lines.{is_of_caller, replies_where}
 use Rattle.arc_table.specs.Seen.{AreSeen, HasSeenItsOwn, seen_of}
@@ -49,16 +49,15 @@ use Rattle.arc_table.proofs.SeenLemmas.{get-behind}
 use Rattle.trace_run.specs.Restores.{events_by_feeder, restores_in}
 use Rattle.trace_run.specs.callers.Together.{over_callers, reads_of_caller}
 use Rattle.arc_table.specs.Told.{IsTold}
-use Rattle.trace_run.specs.Making.{HasTold}
 use Rattle.trace_run.proofs.callers.CallerActLemmas.{callers-none, callers-own, own-lines}
 use Rattle.trace_run.proofs.theorem.CloseLemmas.{closed-finds, closed-legal, closed-now, closed-sound, closed-told}
 use Rattle.trace_run.proofs.theorem.EachLemmas.{AreLast, IsLast, closed-others, closed-placed, each-own}
 use Rattle.trace_run.proofs.FeederLemmas.{restores-given}
 use Rattle.trace_run.proofs.callers.GroupCounts.{IsReadOfCaller, all-reads, read-no-pass}
-use Rattle.trace_run.proofs.theorem.HistoryLemmas.{IsReadEvent, all-events, own-events, read-number, told-reads}
+use Rattle.trace_run.proofs.theorem.HistoryLemmas.{all-unfed, IsReadEvent, all-events, own-events, read-number, told-reads}
 use Rattle.trace_run.proofs.KeptBlockLemmas.{is_ptr-same, times-cons}
 use Rattle.trace_run.proofs.theorem.PlacedLemmas.{all-by-place}
-use Rattle.trace_run.proofs.theorem.RestLemmas.{AreIdle, closed-rests, party-idle}
+use Rattle.trace_run.proofs.theorem.RestLemmas.{AreIdle, closed-rests, party-idle, unfed-picked}
 use Rattle.trace_run.proofs.one_caller.TellLemmas.{IsActOf, IsReadAct, acts-caller, all-append, all-map, is_given, is_of_reads}
 
 -- what is so of a party at the end of a run: it has this number and has given all back; what a caller did is told, and the feeder made these events
@@ -165,18 +164,18 @@ no-own n s es none = no-own-events n s es (no-own-moments n s es none)
 
 -- ---- lists of histories
 
-all-logs : (P : List Event → Type 0) (logs : List ShardLog) → ((i : ℕ) (l : ShardLog) → get_elem? logs i ≡ some l → P l.history) → AllByRecursion P (map (λ log. log.history) logs)
+pub all-logs : (P : List Event → Type 0) (logs : List ShardLog) → ((i : ℕ) (l : ShardLog) → get_elem? logs i ≡ some l → P l.history) → AllByRecursion P (map (λ log. log.history) logs)
 all-logs P [] each = tt
 all-logs P (x ∷ xs) each = (each 0 x refl, all-logs P xs (λ i l at. each (suc i) l at))
 
-ends-of-logs : (g : Config) (logs : List ShardLog) → ((i : ℕ) (l : ShardLog) → get_elem? logs i ≡ some l → replay (opening_of g) l.history ≡ l.now)
+pub ends-of-logs : (g : Config) (logs : List ShardLog) → ((i : ℕ) (l : ShardLog) → get_elem? logs i ≡ some l → replay (opening_of g) l.history ≡ l.now)
     → map (λ log. end_of log.now) logs ≡ ends_of g (map (λ log. log.history) logs)
 ends-of-logs g [] each = refl
 ends-of-logs g (x ∷ xs) each =
     ap (λ (s : ShardEnd). s ∷ map (λ log. end_of log.now) xs) (ap end_of (sym (each 0 x refl)))
     ∙ ap (λ (l : List ShardEnd). end_of (replay (opening_of g) x.history) ∷ l) (ends-of-logs g xs (λ i l at. each (suc i) l at))
 
-log-at : (logs : List ShardLog) (i : ℕ) → i < length (map (λ (log : ShardLog). log.history) logs)
+pub log-at : (logs : List ShardLog) (i : ℕ) → i < length (map (λ (log : ShardLog). log.history) logs)
     → (l : ShardLog) × (get_elem? logs i ≡ some l) × (slice_index_or (map (λ (log : ShardLog). log.history) logs) i [] ≡ l.history)
 log-at [] i inside = absurd (omega arith)
 log-at (x ∷ xs) zero inside = (x, refl, refl)
@@ -309,8 +308,9 @@ module _ {C : Type 0} (m : Meanings C) (cache : Cache) (valid : IsConfig cache.c
     only-reads : AllByRecursion (IsReadEvent settled.callers) l.history
     only-reads = all-by-place (IsReadEvent settled.callers) l.history event-is
 
-    rests : IsAtRest l.now
-    rests = closed-rests m cache (bares settled ps) e bare-ends i l at config (λ n below. party-idle ends.views n (bares settled ps) (all-have n (omega (arith, below))) bare-ends.shown are-idle) valid sound only-reads
+    rests : ((j : ℕ) (c : C) → get_elem? e.cells j ≡ some c → m.holds c ≡ []) → IsAtRest l.now
+    rests emptied = closed-rests m cache (bares settled ps) e bare-ends i l at config sound (λ n below. party-idle ends.views n (bares settled ps) (all-have n below) bare-ends.shown are-idle) emptied
+        (unfed-picked m cache (bares settled ps) e bare-ends i l at config sound (all-unfed settled.callers l.history only-reads))
 
     placed : IsTrue (are_passes_placed l.history)
     placed = closed-placed m cache e i l at (bares settled ps) bare-ends config all-have are-last
@@ -372,13 +372,13 @@ module _ {C : Type 0} (m : Meanings C) (cache : Cache) (valid : IsConfig cache.c
   abbrev at-end : ℕ → List Event
   at-end i = drops_at_end settled blocks i settled.callers ops replies
 
-  pub explains : ((i : ℕ) (l : ShardLog) → get_elem? e.shards i ≡ some l → StartsWith l.history (restores_in settled restored i)) → ((i : ℕ) (l : ShardLog) → get_elem? e.shards i ≡ some l → EndsWith l.history (at-end i))
-      → Explain (record { config = settled; blocks = blocks; objects = []; ops = ops }) restored replies (map (λ log. end_of log.now) e.shards) (map (λ log. log.history) e.shards)
-  explains begun_so ends_so = record {
+  pub explains : ((j : ℕ) (c : C) → get_elem? e.cells j ≡ some c → m.holds c ≡ []) → ((i : ℕ) (l : ShardLog) → get_elem? e.shards i ≡ some l → StartsWith l.history (restores_in settled restored i)) → ((i : ℕ) (l : ShardLog) → get_elem? e.shards i ≡ some l → EndsWith l.history (at-end i))
+      → ExplainReads (record { config = settled; blocks = blocks; objects = []; ops = ops }) restored replies (map (λ log. end_of log.now) e.shards) (map (λ log. log.history) e.shards)
+  explains emptied begun_so ends_so = record {
     shards = length-map e.shards (λ (log : ShardLog). log.history) ∙ ends.shards;
     legal = all-logs (λ h. IsTrue (is_legal_history (opening_of settled) h)) e.shards (λ i l at. legal i l at);
     ends = ends-of-logs settled e.shards (λ i l at. now i l at);
-    at_rest = all-logs (λ h. IsAtRest (replay (opening_of settled) h)) e.shards (λ i l at. subst IsAtRest (sym (now i l at)) (rests i l at));
+    at_rest = all-logs (λ h. IsAtRest (replay (opening_of settled) h)) e.shards (λ i l at. subst IsAtRest (sym (now i l at)) (rests i l at emptied));
     begins = λ i inside. let h = log-at e.shards i inside in subst (λ (es : List Event). BeginsWith es (restores_in settled restored i)) (sym h.2) (begun_so i h.0 h.1);
     every_call = every-call;
     ending = λ i inside. let h = log-at e.shards i inside in subst (λ (es : List Event). EndsWith es (at-end i)) (sym h.2) (ends_so i h.0 h.1);
@@ -424,11 +424,11 @@ module _ {C : Type 0} (cache : Cache) (restored : List Restored) (blocks : List 
 
   -- a caller, by what its own lines and the end of the run do
   pub caller-ended : (own : List Reply) → n < cache.config.callers → replies_where (is_of_caller n) ops replies ≡ own
-      → HasTold cache.config (acts_of_caller blocks n (filter (is_of_caller n) ops) own) p → HasEnded cache.config all-acts all-feeds n p
-  caller-ended own below is told = record {
+      → IsTold cache.config (acts_of_caller blocks n (filter (is_of_caller n) ops) own) p → AreSeen cache.config p.number p.own.mine p.own.seen → HasEnded cache.config all-acts all-feeds n p
+  caller-ended own below is told seen = record {
     number = number;
     config = stands.of.config;
-    seen = told.only.events;
+    seen = seen;
     idle = stands-idle cache p stands;
     told = λ _ shard.
         let f : Key → ℕ = shard_of cache.config.shards in
@@ -438,7 +438,7 @@ module _ {C : Type 0} (cache : Cache) (restored : List Restored) (blocks : List 
         ∙ (callers-own f shard blocks ops replies cache.config.callers n below
         ∙ (ap (λ (r : List Reply). acts_in f shard n (mine r)) is
         ∙ ap (λ (x : ℕ). acts_in f shard x (mine own)) (sym number))) in
-        subst (λ (acts : List Act). Tell acts (own_moments p.number (moments (opening_of cache.config) (seen_of cache.config shard p)))) (sym same) (told.acts shard);
+        subst (λ (acts : List Act). Tell acts (own_moments p.number (moments (opening_of cache.config) (seen_of cache.config shard p)))) (sym same) (told shard);
     fed = λ is_feeder. absurd (omega (arith, below, is_feeder));
   }
 

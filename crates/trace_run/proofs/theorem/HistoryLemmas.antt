@@ -14,7 +14,7 @@ use Rattle.arc_core.specs.declared.event.Event.TheVariants.{Pass, Hit, Miss, Arr
 use Rattle.arc_core.specs.declared.served.Served.{Served}
 use Rattle.arc_core.specs.declared.served.Served.TheVariants as served
 use Rattle.arc_core.specs.Changing.{gained, hold_for}
-use Rattle.arc_core.specs.Operations.{Act, AreEvents, Fails, GivesBack, IsServed, Keeps, Loads, MakesPrivate, Moment, Reads, RunsOut, RunsOutAtDbuf, Tell, Writes, has_its_number, is_pass, moments, number_of, own_moments}
+use Rattle.arc_core.specs.Operations.{Act, AreEvents, Fails, GivesBack, IsServed, Keeps, Loads, MakesPrivate, Moment, Reads, RunsOut, RunsOutAtDbuf, Tell, Writes, has_its_number, is_of_feed, is_pass, moments, number_of, own_moments}
 use Rattle.arc_core.specs.PlainShard.{PlainShard, count_of, numbers}
 use Rattle.arc_core.specs.Replay.{is_legal_history, replay}
 use Rattle.arc_core.specs.Sound.{IsSound}
@@ -78,40 +78,85 @@ none-counted callers m j s (e ∷ es) above below sound lawful reads none =
 
 -- ---- what is picked
 
-none-picked-by : (callers : ℕ) (s : PlainShard) (e : Event) → IsReadEvent callers e → s.picked ≡ [] → (after s e).picked ≡ []
-none-picked-by callers s (Pick n k) (inl of) none = absurd (false≢true of.2)
-none-picked-by callers s (Pick n k) (inr (inl pass)) none = absurd (false≢true pass.0)
-none-picked-by callers s (Pick n k) (inr (inr cap)) none = absurd (false≢true cap.1)
-none-picked-by callers s (FeedEnd n) (inl of) none = absurd (false≢true of.2)
-none-picked-by callers s (FeedEnd n) (inr (inl pass)) none = absurd (false≢true pass.0)
-none-picked-by callers s (FeedEnd n) (inr (inr cap)) none = absurd (false≢true cap.1)
-none-picked-by callers s (Set n k place) (inl of) none = absurd (false≢true of.2)
-none-picked-by callers s (Set n k place) (inr (inl pass)) none = absurd (false≢true pass.0)
-none-picked-by callers s (Set n k place) (inr (inr cap)) none = absurd (false≢true cap.1)
-none-picked-by callers s (Leave n k why) (inl of) none = absurd (false≢true of.2)
-none-picked-by callers s (Leave n k why) (inr (inl pass)) none = absurd (false≢true pass.0)
-none-picked-by callers s (Leave n k why) (inr (inr cap)) none = absurd (false≢true cap.1)
-none-picked-by callers s (Clear n k) (inl of) none = absurd (false≢true of.2)
-none-picked-by callers s (Clear n k) (inr (inl pass)) none = absurd (false≢true pass.0)
-none-picked-by callers s (Clear n k) (inr (inr cap)) none = absurd (false≢true cap.1)
-none-picked-by callers s (Restore n k place d) (inl of) none = absurd (false≢true of.2)
-none-picked-by callers s (Restore n k place d) (inr (inl pass)) none = absurd (false≢true pass.0)
-none-picked-by callers s (Restore n k place d) (inr (inr cap)) none = none
-none-picked-by callers s (Resize n c) is none = (frame-fitted (resized c s)).picked ∙ none
-none-picked-by callers s (Pass n k owner) is none = (frame-kept s (Pass n k owner)).picked refl ∙ none
-none-picked-by callers s (Hit n k t) is none = (frame-kept s (Hit n k t)).picked refl ∙ none
-none-picked-by callers s (Miss n k t) is none = (frame-kept s (Miss n k t)).picked refl ∙ none
-none-picked-by callers s (Arrive n k d from) is none = (frame-kept s (Arrive n k d from)).picked refl ∙ none
-none-picked-by callers s (Fail n k at) is none = (frame-kept s (Fail n k at)).picked refl ∙ none
-none-picked-by callers s (Drop n k) is none = (frame-kept s (Drop n k)).picked refl ∙ none
-none-picked-by callers s (Past n k kept) is none = (frame-kept s (Past n k kept)).picked refl ∙ none
-none-picked-by callers s (Hand n k to) is none = (frame-kept s (Hand n k to)).picked refl ∙ none
-none-picked-by callers s (Insert n k d t) is none = (frame-kept s (Insert n k d t)).picked refl ∙ none
-none-picked-by callers s (Release n k sole) is none = (frame-kept s (Release n k sole)).picked refl ∙ none
+-- It is none of a feed's, or a capacity that is given, or a key that is restored.
+abbrev pub IsUnfed : Event → Type 0
+IsUnfed e = (is_of_feed e ≡ false) ⊎ (is_given e ≡ true)
 
-pub none-picked : (callers : ℕ) (s : PlainShard) (es : List Event) → AllByRecursion (IsReadEvent callers) es → s.picked ≡ [] → (replay s es).picked ≡ []
-none-picked callers s [] reads none = none
-none-picked callers s (e ∷ es) reads none = none-picked callers (after s e) es reads.1 (none-picked-by callers s e reads.0 none)
+none-picked-by : (s : PlainShard) (e : Event) → IsUnfed e → s.picked ≡ [] → (after s e).picked ≡ []
+none-picked-by s (Pick n k) (inl other) none = absurd (false≢true (sym other))
+none-picked-by s (Pick n k) (inr given) none = absurd (false≢true given)
+none-picked-by s (FeedEnd n) (inl other) none = absurd (false≢true (sym other))
+none-picked-by s (FeedEnd n) (inr given) none = absurd (false≢true given)
+none-picked-by s (Set n k place) (inl other) none = absurd (false≢true (sym other))
+none-picked-by s (Set n k place) (inr given) none = absurd (false≢true given)
+none-picked-by s (Leave n k why) (inl other) none = absurd (false≢true (sym other))
+none-picked-by s (Leave n k why) (inr given) none = absurd (false≢true given)
+none-picked-by s (Clear n k) (inl other) none = absurd (false≢true (sym other))
+none-picked-by s (Clear n k) (inr given) none = absurd (false≢true given)
+none-picked-by s (Restore n k place d) is none = none
+none-picked-by s (Resize n c) is none = (frame-fitted (resized c s)).picked ∙ none
+none-picked-by s (Pass n k owner) is none = (frame-kept s (Pass n k owner)).picked refl ∙ none
+none-picked-by s (Hit n k t) is none = (frame-kept s (Hit n k t)).picked refl ∙ none
+none-picked-by s (Miss n k t) is none = (frame-kept s (Miss n k t)).picked refl ∙ none
+none-picked-by s (Arrive n k d from) is none = (frame-kept s (Arrive n k d from)).picked refl ∙ none
+none-picked-by s (Fail n k at) is none = (frame-kept s (Fail n k at)).picked refl ∙ none
+none-picked-by s (Drop n k) is none = (frame-kept s (Drop n k)).picked refl ∙ none
+none-picked-by s (Past n k kept) is none = (frame-kept s (Past n k kept)).picked refl ∙ none
+none-picked-by s (Hand n k to) is none = (frame-kept s (Hand n k to)).picked refl ∙ none
+none-picked-by s (Insert n k d t) is none = (frame-kept s (Insert n k d t)).picked refl ∙ none
+none-picked-by s (Release n k sole) is none = (frame-kept s (Release n k sole)).picked refl ∙ none
+
+pub none-picked : (s : PlainShard) (es : List Event) → AllByRecursion IsUnfed es → s.picked ≡ [] → (replay s es).picked ≡ []
+none-picked s [] all none = none
+none-picked s (e ∷ es) all none = none-picked (after s e) es all.1 (none-picked-by s e all.0 none)
+
+-- no event of reads is one of a feed, and neither is a pass
+reads-unfed : (e : Event) → is_of_reads e ≡ true → is_of_feed e ≡ false
+reads-unfed (Pass n k owner) is = absurd (false≢true is)
+reads-unfed (Hit n k t) is = refl
+reads-unfed (Miss n k t) is = refl
+reads-unfed (Arrive n k d from) is = refl
+reads-unfed (Fail n k at) is = refl
+reads-unfed (Drop n k) is = refl
+reads-unfed (Past n k kept) is = refl
+reads-unfed (Hand n k to) is = absurd (false≢true is)
+reads-unfed (Insert n k d t) is = absurd (false≢true is)
+reads-unfed (Release n k sole) is = absurd (false≢true is)
+reads-unfed (Pick n k) is = absurd (false≢true is)
+reads-unfed (FeedEnd n) is = absurd (false≢true is)
+reads-unfed (Set n k place) is = absurd (false≢true is)
+reads-unfed (Leave n k why) is = absurd (false≢true is)
+reads-unfed (Clear n k) is = absurd (false≢true is)
+reads-unfed (Restore n k place d) is = absurd (false≢true is)
+reads-unfed (Resize n c) is = absurd (false≢true is)
+
+pub pass-unfed : (e : Event) → is_pass e ≡ true → is_of_feed e ≡ false
+pass-unfed (Pass n k owner) is = refl
+pass-unfed (Hit n k t) is = absurd (false≢true is)
+pass-unfed (Miss n k t) is = absurd (false≢true is)
+pass-unfed (Arrive n k d from) is = absurd (false≢true is)
+pass-unfed (Fail n k at) is = absurd (false≢true is)
+pass-unfed (Drop n k) is = absurd (false≢true is)
+pass-unfed (Past n k kept) is = absurd (false≢true is)
+pass-unfed (Hand n k to) is = absurd (false≢true is)
+pass-unfed (Insert n k d t) is = absurd (false≢true is)
+pass-unfed (Release n k sole) is = absurd (false≢true is)
+pass-unfed (Pick n k) is = absurd (false≢true is)
+pass-unfed (FeedEnd n) is = absurd (false≢true is)
+pass-unfed (Set n k place) is = absurd (false≢true is)
+pass-unfed (Leave n k why) is = absurd (false≢true is)
+pass-unfed (Clear n k) is = absurd (false≢true is)
+pass-unfed (Restore n k place d) is = absurd (false≢true is)
+pass-unfed (Resize n c) is = absurd (false≢true is)
+
+pub all-unfed : (callers : ℕ) (es : List Event) → AllByRecursion (IsReadEvent callers) es → AllByRecursion IsUnfed es
+all-unfed callers [] all = tt
+all-unfed callers (e ∷ es) all = (one all.0, all-unfed callers es all.1)
+  where
+    one : IsReadEvent callers e → IsUnfed e
+    one (inl of) = inl (reads-unfed e of.2)
+    one (inr (inl pass)) = inl (pass-unfed e pass.0)
+    one (inr (inr given)) = inr given.1
 
 -- ---- the number of an event
 

@@ -24,6 +24,7 @@ words_accepted words did statuses.SourceFault which command is done = (command, 
 words_accepted words did statuses.SinkFault which command is done = (command, is, done)
 words_accepted words did statuses.PoolFault which command is done = (command, is, done)
 words_accepted words did statuses.NoMemory which command is done = (command, is, done)
+words_accepted words did (statuses.PoolFull need left) which command is done = (command, is, done)
 words_accepted words did (statuses.Illegal shard index) which command is done = (command, is, done)
 
 zero-one : (n : ℕ) → n ≡ 0 → n ≡ 1 → ⊥
@@ -31,6 +32,9 @@ zero-one n z o = absurd (omega arith)
 
 zero-six : (n : ℕ) → n ≡ 0 → n ≡ 6 → ⊥
 zero-six n z o = absurd (omega arith)
+
+zero-eight : (n : ℕ) → n ≡ 0 → n ≡ 8 → ⊥
+zero-eight n z o = absurd (omega arith)
 
 -- a report whose status is 0 is delivered with the status of a made trace
 pub gen-status : (before after : StreamState) (status : Status) (report : Option Report) → IsDelivered status → is_some report ≡ has_report status
@@ -42,15 +46,17 @@ gen-status before after statuses.ReadsFailed None which present zero_is sink = f
 gen-status before after statuses.ReadsFailed (Some report) which present zero_is sink = zero-one report.status zero_is sink.1
 gen-status before after statuses.PoolFault None which present zero_is sink = false≢true present
 gen-status before after statuses.PoolFault (Some report) which present zero_is sink = zero-six report.status zero_is sink.1
+gen-status before after (statuses.PoolFull need left) None which present zero_is sink = false≢true present
+gen-status before after (statuses.PoolFull need left) (Some report) which present zero_is sink = zero-eight report.status zero_is sink.1
 gen-status before after (statuses.Usage index) report which present zero_is sink = which
 gen-status before after (statuses.BadTrace line kind) report which present zero_is sink = which
 gen-status before after statuses.SourceFault report which present zero_is sink = which
 gen-status before after (statuses.Illegal shard index) report which present zero_is sink = which
 
 -- the report of a run is there as it was made, or there is none
-pub reported-so : {P D : Type 0} (pool : Ghosts P) (device : Devices D) (before after : Handed P D) (made : Report) (end : Ended OnHeap) (report : Option Report) (closed : Option (Ended OnHeap))
-    → IfReported report closed (λ c t. (t ≡ made) × (c ≡ end)) → IsReport pool device before after end made → IfReported report closed (IsReport pool device before after)
-reported-so pool device before after made end None None same is = tt
-reported-so pool device before after made end None (Some c) same is = absurd same
-reported-so pool device before after made end (Some r) None same is = absurd same
-reported-so pool device before after made end (Some r) (Some c) same is = subst (λ (x : Ended OnHeap × Report). IsReport pool device before after x.0 x.1) (λ i. (sym same.1 i, sym same.0 i)) is
+pub reported-so : {P D : Type 0} (pool : Ghosts P) (device : Devices D) (before after : Handed P D) (status : Status) (made : Report) (end : Ended OnHeap) (report : Option Report) (closed : Option (Ended OnHeap))
+    → IfReported report closed (λ c t. (t ≡ made) × (c ≡ end)) → IsReport pool device before after status end made → IfReported report closed (IsReport pool device before after status)
+reported-so pool device before after status made end None None same is = tt
+reported-so pool device before after status made end None (Some c) same is = absurd same
+reported-so pool device before after status made end (Some r) None same is = absurd same
+reported-so pool device before after status made end (Some r) (Some c) same is = subst (λ (x : Ended OnHeap × Report). IsReport pool device before after status x.0 x.1) (λ i. (sym same.1 i, sym same.0 i)) is

@@ -1,9 +1,11 @@
 -- What a run over the shared cache came to is what its report has to say.
-use Rattle.std.proofs.Common.{◌≡◌, ℕ, ◌+◌, ◌<◌, ◌≤◌, ◌^◌, Bool, true, false, List, [], ◌∷◌, length, Option, Some, None, IfSome, refl, sym, ap, subst, ◌∙◌, arith}
+use Rattle.std.proofs.lemmas.Option.{slice_get_within}
+use Rattle.std.proofs.Common.{◌≡◌, ℕ, ◌+◌, ◌<◌, ◌≤◌, ◌^◌, List, [], ◌∷◌, length, Option, Some, None, IfSome, refl, sym, ap, subst, ◌∙◌, arith}
 use Rattle.arc_core.specs.declared.event.Event.{Event}
 use Rattle.arc_table.specs.Ended.{Ended}
 use Rattle.trace_text.specs.Grammar.{IsFormed}
 use Rattle.trace_text.specs.declared.op.Op.{Op}
+use Rattle.trace_text.specs.declared.op.Op.TheVariants as ops
 use Rattle.trace_text.specs.declared.rebuilt.Rebuilt.{Rebuilt}
 use Rattle.trace_text.specs.declared.reply.Reply.{Reply}
 use Rattle.trace_text.specs.declared.report.Report.{Report}
@@ -11,16 +13,20 @@ use Rattle.trace_text.specs.declared.trace.Trace.{Trace}
 use Rattle.vdev_io.specs.Calls.{Call, MakesCalls}
 use Rattle.vdev_io.specs.declared.device.CacheDev.{Ghosts as DeviceGhosts}
 use Rattle.vdev_io.specs.declared.pool.Pool.{Ghosts}
-use Rattle.trace_run.specs.one_caller.Alone.{RanAlone, ends_in}
+use Rattle.trace_run.specs.declared.ran.Ending.{Ending}
+use Rattle.trace_run.specs.declared.ran.Ending.TheVariants.{Fork, Full, Sync, Whole}
+use Rattle.trace_run.specs.one_caller.Alone.{RanAlone, ends_in, histories_of}
 use Rattle.trace_run.specs.Effects.{calls_of_all}
 use Rattle.trace_run.specs.Ends.{ends_of}
 use Rattle.dbuf_cells.specs.Turns.{OnHeap}
 use Rattle.trace_run.specs.callers.GroupRun.{RanTogether}
+use Rattle.trace_run.specs.RunWork.{plain_work}
+use Rattle.trace_run.proofs.theorem.WorkLemmas.{explain-plain}
 use Rattle.trace_run.specs.Outcome.{IsRun}
 use Rattle.trace_run.specs.one_caller.Lent.{ReadsAlone, told_lent}
 use Rattle.trace_run.specs.one_caller.PlainRun.{images, no_contents, replies_to, report_with}
 use Rattle.trace_run.specs.Restores.{found_keys, restored_shard}
-use Rattle.trace_run.specs.callers.Together.{RunsTogether, BetweenGroups, StoodThen, WorkInGroups, groups_of, report_of_closed, between_groups}
+use Rattle.trace_run.specs.callers.Together.{BetweenGroups, EndsRun, RunsTogether, StoodThen, StopsAtSync, StopsSo, WorkInGroups, groups_of, report_of_closed, between_groups}
 use Rattle.trace_run.proofs.one_caller.PlainReportLemmas.{plain-but}
 use Rattle.trace_run.proofs.theorem.ReportLemmas.{report-is}
 use Rattle.trace_run.proofs.RunLemmas.{calls-faults, calls-few, calls-reads, failed-all}
@@ -39,15 +45,15 @@ both-told (Some x) (Some y) each is = each x y is
 module _ {P D : Type 0} (pools : Ghosts P) (devices : DeviceGhosts D) (before after : P) (lent back : Option D) (trace : Trace) (rebuilt : Option Rebuilt) (replies : List Reply) (closed : Ended OnHeap) where
   -- one caller's run
   pub alone-run : IsFormed trace → trace.config.callers ≡ 1 → RanAlone pools before after trace (found_keys rebuilt) replies closed
-      → ReadsAlone pools devices before trace (found_keys rebuilt) replies lent back → IsRun pools devices before after lent back trace false closed (report_of_closed false rebuilt replies closed)
+      → ReadsAlone pools devices before trace (found_keys rebuilt) replies lent back → IsRun pools devices before after lent back trace Whole (plain_work trace.ops replies) closed (report_of_closed Whole rebuilt replies closed)
   alone-run formed one ran read =
-      let report : Report = report_of_closed false rebuilt replies closed in
+      let report : Report = report_of_closed Whole rebuilt replies closed in
       let few : length (calls_of_all replies) < 2 ^ 32 = omega (arith, calls-few replies, ran.answers.all, formed.few_ops) in
       let ends : ends_in closed ≡ ends_of trace.config _ = ran.explained.ends ∙ ap (λ (hs : List (List Event)). ends_of trace.config hs) ran.histories in
       let plain : report ≡ report_with trace rebuilt replies = report-is trace report ran.histories ends refl refl refl in
       record {
         answers = ran.answers;
-        explained = ran.explained;
+        explained = explain-plain trace (found_keys rebuilt) replies (ends_in closed) (histories_of closed) ran.explained;
         tells = record { histories = refl; ends = refl };
         config = ran.config;
         no_workers = refl;
@@ -70,20 +76,20 @@ module _ {P D : Type 0} (pools : Ghosts P) (devices : DeviceGhosts D) (before af
         );
         together = λ two. absurd (omega (arith, two, one));
         idle = λ none. (refl, subst (λ (cs : List Call). MakesCalls pools cs before after) (no-calls replies (ran.answers.all ∙ ap length none)) ran.made);
-        failed = λ is. cc;
+        stopped = tt;
       }
 
-  pub alone-told : (fork_failed : Bool) → fork_failed ≡ false → IsFormed trace → trace.config.callers ≡ 1 → RanAlone pools before after trace (found_keys rebuilt) replies closed
-      → ReadsAlone pools devices before trace (found_keys rebuilt) replies lent back → IsRun pools devices before after lent back trace fork_failed closed (report_of_closed fork_failed rebuilt replies closed)
-  alone-told fork_failed whole formed one ran read =
-      subst (λ (b : Bool). IsRun pools devices before after lent back trace b closed (report_of_closed b rebuilt replies closed)) (sym whole) (alone-run formed one ran read)
+  pub alone-told : (ending : Ending) → ending ≡ Whole → IsFormed trace → trace.config.callers ≡ 1 → RanAlone pools before after trace (found_keys rebuilt) replies closed
+      → ReadsAlone pools devices before trace (found_keys rebuilt) replies lent back → IsRun pools devices before after lent back trace ending (plain_work trace.ops replies) closed (report_of_closed ending rebuilt replies closed)
+  alone-told ending whole formed one ran read =
+      subst (λ (e : Ending). IsRun pools devices before after lent back trace e (plain_work trace.ops replies) closed (report_of_closed e rebuilt replies closed)) (sym whole) (alone-run formed one ran read)
 
   -- several callers' run
-  pub together-run : (fork_failed : Bool) → 2 ≤ trace.config.callers → RanTogether pools before after trace fork_failed (found_keys rebuilt) replies closed
-      → IsRun pools devices before after lent back trace fork_failed closed (report_of_closed fork_failed rebuilt replies closed)
-  together-run fork_failed two ran = record {
+  pub together-run : (ending : Ending) → 2 ≤ trace.config.callers → RanTogether pools before after trace ending (found_keys rebuilt) replies closed
+      → IsRun pools devices before after lent back trace ending (plain_work trace.ops replies) closed (report_of_closed ending rebuilt replies closed)
+  together-run ending two ran = record {
     answers = ran.answers;
-    explained = ran.explained;
+    explained = explain-plain trace (found_keys rebuilt) replies (ends_in closed) (histories_of closed) ran.explained;
     tells = record { histories = refl; ends = refl };
     config = ran.config;
     no_workers = refl;
@@ -91,17 +97,25 @@ module _ {P D : Type 0} (pools : Ghosts P) (devices : DeviceGhosts D) (before af
     faults = ran.faults;
     alone = λ one. absurd (omega (arith, two, one));
     together = λ _. told;
-    idle = λ none. let whole = no-fork none fork_failed refl in (
+    idle = λ none. let whole = all-done none ending refl ran.stopped in (
       whole,
-      told.whole whole ∙ ap (λ (s : BetweenGroups P). s.pool) (subst (λ (os : List Op). WorkInGroups pools trace.config (StoodThen trace closed.cells) (groups_of os replies) (between_groups before 1 told.place) told.reached) none told.groups),
+      ended ending whole told.ended ∙ ap (λ (s : BetweenGroups P). s.pool) (subst (λ (os : List Op). WorkInGroups pools trace.config (StoodThen trace closed.cells) (groups_of os replies) (between_groups before 1 told.place) told.reached) none told.groups),
     );
-    failed = ran.failed;
+    stopped = ran.stopped;
   }
     where
-      told : RunsTogether pools before after trace fork_failed closed.cells (report_of_closed fork_failed rebuilt replies closed)
+      told : RunsTogether pools before after trace ending closed.cells (report_of_closed ending rebuilt replies closed)
       told = ran.together rebuilt refl
 
-      -- no line, no group
-      no-fork : trace.ops ≡ [] → (b : Bool) → fork_failed ≡ b → fork_failed ≡ false
-      no-fork none false is = is
-      no-fork none true is = let some_of = (ran.failed is).1.some in absurd (omega (arith, some_of, ap length none))
+      ended : (e : Ending) → e ≡ Whole → EndsRun pools trace.config (StoodThen trace closed.cells) trace replies e told.reached after → after ≡ told.reached.pool
+      ended e whole is = subst (λ (x : Ending). EndsRun pools trace.config (StoodThen trace closed.cells) trace replies x told.reached after) whole is
+
+      -- without a line nothing stops
+      no-sync : trace.ops ≡ [] → StopsAtSync trace replies → ⊥
+      no-sync none stops = let inside = slice_get_within trace.ops (length replies) (ops.Txg stops.tick) stops.at in absurd (omega (arith, inside, ap length none))
+
+      all-done : trace.ops ≡ [] → (e : Ending) → ending ≡ e → StopsSo pools before after trace replies e → ending ≡ Whole
+      all-done none Whole is stops = is
+      all-done none Fork is stops = let some_of = stops.1.some in absurd (omega (arith, some_of, ap length none))
+      all-done none Sync is stops = absurd (no-sync none stops.1)
+      all-done none (Full need left) is stops = absurd (no-sync none stops)

@@ -1,5 +1,5 @@
 -- A closed cache whose parties have given all back is at rest.
-use Rattle.std.proofs.Common.{◌≡◌, ℕ, suc, ◌+◌, ◌<◌, ◌≤◌, ◌==◌, true, IsTrue, List, [], ◌∷◌, Option, Some, refl, sym, ap, ◌∙◌, subst, inl, inr, arith}
+use Rattle.std.proofs.Common.{◌≡◌, ℕ, suc, ◌+◌, ◌-◌, ◌<◌, ◌≤◌, ◌==◌, true, IsTrue, List, [], ◌∷◌, ◌++◌, map, Option, Some, refl, sym, ap, ◌∙◌, subst, inl, inr, arith}
 use Rattle.std.specs.Prelude.{slice_index, sum}
 use Rattle.std.specs.List.{AllByRecursion, list_all}
 use Rattle.std.specs.Option.{option_map_or}
@@ -33,7 +33,7 @@ use Rattle.arc_table.specs.declared.view.Known.{Known}
 use Rattle.arc_table.specs.Cache.{Cache}
 use Rattle.arc_table.specs.pact.Counted.{readings_of, shard_at}
 use Rattle.arc_table.specs.Ended.{Ended, Ends}
-use Rattle.arc_table.specs.Geometry.{numbers_of, parties_of, shard_turn}
+use Rattle.arc_table.specs.Geometry.{IsCell, cell_number, numbers_of, parties_of, shard_turn}
 use Rattle.arc_table.specs.Items.{Meanings, shard_in}
 use Rattle.arc_table.specs.pact.Logged.{IsSoundLog}
 use Rattle.arc_table.specs.pact.Scene.{Scene}
@@ -41,9 +41,11 @@ use Rattle.arc_table.proofs.OpeningLaws.{opening_sound}
 use Rattle.arc_table.specs.Telling.{opening_of}
 use Rattle.trace_run.specs.KeptBlocks.{IsIdle}
 use Rattle.arc_table.specs.Seen.{turn_of}
+use Rattle.arc_table.specs.TableLaws.{get_front}
+use Rattle.arc_table.proofs.TableLaws.{there}
 use Rattle.trace_run.proofs.theorem.CloseLemmas.{get-map, value-at}
 use Rattle.trace_run.proofs.DropLemmas.{all-items}
-use Rattle.trace_run.proofs.theorem.HistoryLemmas.{IsReadEvent, none-counted, none-picked}
+use Rattle.trace_run.proofs.theorem.HistoryLemmas.{IsReadEvent, IsUnfed, all-unfed, none-counted, none-picked}
 
 -- ---- a shard of which no number holds anything
 
@@ -105,11 +107,9 @@ module _ {C : Type 0} where
   party-idle views n (p ∷ ps) (inl (inr among)) shown idle = kept-idle views n p.joined among shown.0.1 idle.1
   party-idle views n (p ∷ ps) (inr among) shown idle = party-idle views n ps among shown.1 idle.2
 
--- the history is one of reads and passes, and each caller has given all back
+-- a shard of a closed cache
 module _ {C : Type 0} (m : Meanings C) (cache : Cache) (ps : List (Place (Known C))) (e : Ended C) (ends : Ends m cache ps e) (i : ℕ) (l : ShardLog) (at : get_elem? e.shards i ≡ some l)
-    (config : ends.pact.scene.about.config ≡ cache.config)
-    (idle : (n : ℕ) → n < cache.config.callers → (w : Known C) × (get_elem? ends.views n ≡ some w) × IsIdle w.ledger)
-    (valid : IsConfig cache.config) (sound : IsSoundLog cache.config l) (reads : AllByRecursion (IsReadEvent cache.config.callers) l.history) where
+    (config : ends.pact.scene.about.config ≡ cache.config) (sound : IsSoundLog cache.config l) where
   abbrev g : Config
   g = cache.config
 
@@ -119,11 +119,6 @@ module _ {C : Type 0} (m : Meanings C) (cache : Cache) (ps : List (Place (Known 
   shard-now : scene.now (turn_of g i) ≡ item.Shard l
   shard-now = (ends.pact.attached.free (turn_of g i) (item.Shard l) (get-map free _ (turn_of g i) (item.Shard l) (value-at m cache ps e ends i l at))).0
 
-  ledger-idle : (n : ℕ) → n < g.callers → IsIdle (scene.ledger n)
-  ledger-idle n below =
-      let h = idle n below in
-      subst IsIdle (ends.pact.attached.views n h.0 h.1).ledger h.2
-
   -- the shard has entries of its own keys alone
   own-key : (k : Key) (x : Entry) → entry_of k l.now ≡ Some x → turn_of g i ≡ shard_turn g k
   own-key k x is = subst (λ (c : Config). turn_of g i ≡ shard_turn c k) config
@@ -132,37 +127,71 @@ module _ {C : Type 0} (m : Meanings C) (cache : Cache) (ps : List (Place (Known 
   shard-of-key : (k : Key) → turn_of g i ≡ shard_turn g k → shard_at scene k ≡ l.now
   shard-of-key k own = ap (λ (c : Config). shard_in c (scene.now (shard_turn c k))) config ∙ (ap (λ (x : ℕ). shard_in g (scene.now x)) (sym own) ∙ ap (shard_in g) shard-now)
 
+  -- a party that has given all back holds nothing there
+  party-none : (n : ℕ) (k : Key) → turn_of g i ≡ shard_turn g k → n < parties_of g → (w : Known C) × (get_elem? ends.views n ≡ some w) × IsIdle w.ledger → count_of n k l.now ≡ 0
+  party-none n k own few h =
+      let idle : IsIdle (scene.ledger n) = subst IsIdle (ends.pact.attached.views n h.0 h.1).ledger h.2 in
+      let below : n < parties_of scene.about.config = subst (λ (c : Config). n < parties_of c) (sym config) few in
+      ap (count_of n k) (sym (shard-of-key k own)) ∙ (ends.pact.counted.parties n k below
+      ∙ subst (λ (x : List Ptr × List Key). holds_on k x.0 + readings_of k x.1 ≡ 0) (λ q. (sym idle.holds q, sym idle.readings q)) refl)
+
+  -- nor does a cell that keeps nothing
+  cell-none : (j : ℕ) (k : Key) → turn_of g i ≡ shard_turn g k → IsCell g j → ((c : C) → get_elem? e.cells j ≡ some c → m.holds c ≡ []) → count_of (cell_number g j) k l.now ≡ 0
+  cell-none j k own below emptied =
+      let c = there e.cells j (subst (λ (x : ℕ). j < x) (sym ends.cells) below) in
+      let values : List (Item C) = map item.Cell e.cells ++ (map item.Bucket ends.buckets ++ map item.Shard e.shards) in
+      let here : get_elem? values j ≡ some (item.Cell c.0) = get_front (map item.Cell e.cells) (map item.Bucket ends.buckets ++ map item.Shard e.shards) j (item.Cell c.0) (get-map item.Cell e.cells j c.0 c.1) in
+      let kept : scene.kept j ≡ [] = (ends.pact.attached.free j (item.Cell c.0) (get-map free values j (item.Cell c.0) here)).1 ∙ emptied c.0 c.1 in
+      ap (count_of (cell_number g j) k) (sym (shard-of-key k own))
+      ∙ (ap (λ (x : Config). count_of (cell_number x j) k (shard_at scene k)) (sym config)
+      ∙ (ends.pact.counted.cells j k (subst (λ (x : Config). IsCell x j) (sym config) below) ∙ ap (holds_on k) kept))
+
+  -- where no number of the cache holds anything, and nothing is picked
+  rests-by-counts : ((n : ℕ) (k : Key) → turn_of g i ≡ shard_turn g k → n < numbers_of g → count_of n k l.now ≡ 0) → l.now.picked ≡ [] → IsAtRest l.now
+  rests-by-counts counts picked = rests-where-none l.now sound.replayed.sound picked
+      (λ n k x is. ap (λ (o : Option Entry). option_map_or (held_by n) o 0) (sym is) ∙ no-count n k (own-key k x is))
+    where
+      no-count : (n : ℕ) (k : Key) → turn_of g i ≡ shard_turn g k → count_of n k l.now ≡ 0
+      no-count n k own = elim (cases_lt n (numbers_of g)) [
+        | inl below ↦ counts n k own below
+        | inr none ↦
+            let beyond : numbers_of scene.about.config ≤ n = subst (λ (c : Config). numbers_of c ≤ n) (sym config) none in
+            ap (count_of n k) (sym (shard-of-key k own)) ∙ ends.pact.counted.others n k beyond
+      ]
+
+  -- Each party has given all back, each cell keeps nothing, and nothing is picked.
+  pub closed-rests : ((n : ℕ) → n < parties_of g → (w : Known C) × (get_elem? ends.views n ≡ some w) × IsIdle w.ledger) → ((j : ℕ) (c : C) → get_elem? e.cells j ≡ some c → m.holds c ≡ [])
+      → l.now.picked ≡ [] → IsAtRest l.now
+  closed-rests idle emptied picked = rests-by-counts counts picked
+    where
+      counts : (n : ℕ) (k : Key) → turn_of g i ≡ shard_turn g k → n < numbers_of g → count_of n k l.now ≡ 0
+      counts n k own below = elim (cases_lt n (parties_of g)) [
+        | inl party ↦ party-none n k own party (idle n party)
+        | inr above ↦
+            let j : ℕ = n - parties_of g in
+            let is : cell_number g j ≡ n = omega (arith, above) in
+            let inside : IsCell g j = omega (arith, above, below) in
+            subst (λ (x : ℕ). count_of x k l.now ≡ 0) is (cell-none j k own inside (emptied j))
+      ]
+
   replay-is : replay (opening_of g) l.history ≡ l.now
   replay-is = ap (λ (s : PlainShard). replay s l.history) (sym sound.opening) ∙ sound.replayed.replayed
 
-  lawful : IsTrue (is_legal_history (opening_of g) l.history)
-  lawful = subst (λ (s : PlainShard). IsTrue (is_legal_history s l.history)) sound.opening sound.replayed.legal
+  -- the feeder made no pick
+  pub unfed-picked : AllByRecursion IsUnfed l.history → l.now.picked ≡ []
+  unfed-picked unfed = ap (λ (s : PlainShard). s.picked) (sym replay-is) ∙ none-picked (opening_of g) l.history unfed refl
 
-  -- a number that is no caller's holds nothing
-  other-none : (n : ℕ) (k : Key) → g.callers ≤ n → n < numbers_of g → count_of n k l.now ≡ 0
-  other-none n k above below =
-      let few : n < 33 = let a = valid.counts.callers.1 in let b = valid.counts.cells.1 in omega arith in
-      subst (λ (s : PlainShard). count_of n k s ≡ 0) replay-is (none-counted g.callers n k (opening_of g) l.history above few (opening-sound g valid) lawful reads refl)
+  -- Each caller has given all back, and the history is one of reads and passes, so no other number held anything.
+  pub reads-rest : IsConfig g → ((n : ℕ) → n < g.callers → (w : Known C) × (get_elem? ends.views n ≡ some w) × IsIdle w.ledger) → AllByRecursion (IsReadEvent g.callers) l.history → IsAtRest l.now
+  reads-rest valid idle reads = rests-by-counts counts (unfed-picked (all-unfed g.callers l.history reads))
+    where
+      lawful : IsTrue (is_legal_history (opening_of g) l.history)
+      lawful = subst (λ (s : PlainShard). IsTrue (is_legal_history s l.history)) sound.opening sound.replayed.legal
 
-  no-count : (n : ℕ) (k : Key) → turn_of g i ≡ shard_turn g k → count_of n k l.now ≡ 0
-  no-count n k own = elim (cases_lt n g.callers) [
-    | inl caller ↦
-        let h = ledger-idle n caller in
-        let below : n < parties_of scene.about.config = subst (λ (c : Config). n < parties_of c) (sym config) (omega (arith, caller)) in
-        ap (count_of n k) (sym (shard-of-key k own)) ∙ (ends.pact.counted.parties n k below
-        ∙ subst (λ (x : List Ptr × List Key). holds_on k x.0 + readings_of k x.1 ≡ 0) (λ q. (sym h.holds q, sym h.readings q)) refl)
-    | inr above ↦ elim (cases_lt n (numbers_of g)) [
-      | inl other ↦ other-none n k above other
-      | inr none ↦
-          let beyond : numbers_of scene.about.config ≤ n = subst (λ (c : Config). numbers_of c ≤ n) (sym config) none in
-          ap (count_of n k) (sym (shard-of-key k own)) ∙ ends.pact.counted.others n k beyond
-    ]
-  ]
-
-  -- nothing is picked
-  nothing-picked : l.now.picked ≡ []
-  nothing-picked = ap (λ (s : PlainShard). s.picked) (sym replay-is) ∙ none-picked g.callers (opening_of g) l.history reads refl
-
-  pub closed-rests : IsAtRest l.now
-  closed-rests = rests-where-none l.now sound.replayed.sound nothing-picked
-      (λ n k x is. ap (λ (o : Option Entry). option_map_or (held_by n) o 0) (sym is) ∙ no-count n k (own-key k x is))
+      counts : (n : ℕ) (k : Key) → turn_of g i ≡ shard_turn g k → n < numbers_of g → count_of n k l.now ≡ 0
+      counts n k own below = elim (cases_lt n g.callers) [
+        | inl caller ↦ party-none n k own (omega (arith, caller)) (idle n caller)
+        | inr above ↦
+            let few : n < 33 = let a = valid.counts.callers.1 in let b = valid.counts.cells.1 in omega arith in
+            subst (λ (s : PlainShard). count_of n k s ≡ 0) replay-is (none-counted g.callers n k (opening_of g) l.history above few (opening-sound g valid) lawful reads refl)
+      ]

@@ -20,7 +20,7 @@ use Rattle.trace_run.specs.Lines.{is_of_caller}
 use Rattle.trace_run.specs.one_caller.OneCaller.{kept_after_all}
 use Rattle.trace_run.specs.one_caller.OverShards.{AreNamed}
 use Rattle.trace_run.specs.Tally.{AreAnswered}
-use Rattle.trace_run.specs.Making.{HasTold}
+use Rattle.trace_run.specs.Deeds.{HasToldAll, Noted}
 
 -- ---- forks that are taken back
 
@@ -80,7 +80,8 @@ module _ {C P D : Type 0} where
     pub alone : new.party.joined ≡ []
     pub stands : Stands cache new.party new.kept
     pub kept : map read_of new.kept ≡ kept_after_all blocks (map read_of old.kept) (filter (is_of_caller n) ops) replies
-    pub told : (before : List Act) → HasTold cache.config before old.party → HasTold cache.config (before ++ acts_of_all blocks (map read_of old.kept) (filter (is_of_caller n) ops) replies) new.party
+    pub told : (before : List Act) (noted : List Noted) → HasToldAll cache.config before noted old.party
+        → HasToldAll cache.config (before ++ acts_of_all blocks (map read_of old.kept) (filter (is_of_caller n) ops) replies) noted new.party
     pub answers : AreAnswered (pools.size old.pool) (pools.told old.pool) blocks (map read_of old.kept) (filter (is_of_caller n) ops) replies
     pub calls : MakesCalls pools (calls_of_all replies) old.pool new.pool
 

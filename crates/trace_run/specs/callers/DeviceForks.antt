@@ -70,16 +70,15 @@ module _ {D : Type 0} (devices : Ghosts D) where
   AllAsk blocks ops n (fork ∷ forks) (done ∷ dones) (replies ∷ rest) = AsksGiven devices blocks (filter (is_of_caller n) ops) replies fork done × AllAsk blocks ops (suc n) forks dones rest
   AllAsk blocks ops n _ _ _ = ⊥
 
-  -- Each caller was given a fork of the device as a group began, or none where it was refused; its lines asked it for their reads, and the device took
-  -- each back.
-  pub record HaveRead (blocks : List Ptr) (ops : List Op) (callers : ℕ) (replies : List (List Reply)) (old new : Option D) : Type 0 where
+  -- Each caller was given a fork of the device as a group began, or none where it was refused: then the device was as lent. Its lines asked its fork for their
+  -- reads, and the device, as it was later, took each back.
+  pub record HaveRead (blocks : List Ptr) (ops : List Op) (callers : ℕ) (replies : List (List Reply)) (old lent later new : Option D) : Type 0 where
     pub forks : List (Option D)
     pub count : length forks ≡ callers
-    pub lent : Option D
     pub given : GivesForks forks old lent
     pub done : List (Option D)
     pub asked : AllAsk blocks ops 0 forks done replies
-    pub back : TakesForksBack done lent new
+    pub back : TakesForksBack done later new
 
   -- the same of all callers from this one on, by the replies to all lines of a group in their order
   abbrev pub AllAskIn : List Ptr → GroupLines → (n : ℕ) → (given left : List (Option D)) → Type 0

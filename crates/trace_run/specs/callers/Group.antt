@@ -1,5 +1,5 @@
 -- The work of several callers at once, each by its own lines, with its own party and its own fork of the pool.
-use Rattle.std.specs.Prelude.{◌≡◌, ◌<◌, ◌≤◌, ◌+◌, ℕ, List, filter, length, map, min, ◌++◌}
+use Rattle.std.specs.Prelude.{◌≡◌, ◌<◌, ◌≤◌, ℕ, List, filter, length, map, min, ◌++◌}
 use mathlib.Core.Option.{some}
 use lib.ListN.{get_elem?}
 use Rattle.blk_ptr.specs.declared.ptr.Ptr.{Ptr}
@@ -13,6 +13,7 @@ use Rattle.trace_text.specs.declared.reply.Reply.{Reply}
 use Rattle.vdev_io.specs.declared.pool.Pool.{Ghosts}
 use Rattle.vdev_io.specs.Faults.{last_count, sum_of_counts}
 use Rattle.trace_run.specs.Acts.{acts_of_all}
+use Rattle.trace_run.specs.Deeds.{Noted}
 use Rattle.trace_run.specs.Effects.{calls_of_all}
 use Rattle.trace_run.specs.KeptBlocks.{read_of}
 use Rattle.trace_run.specs.Lines.{is_of_caller}
@@ -25,7 +26,7 @@ use Rattle.trace_run.specs.callers.Together.{over_callers}
 -- A caller has done its work, where it kept these reads at first: its lines were answered, one after another, its fork of the pool was read as they
 -- say and in no other way, what it did is told, and it stands by itself with what they say that it keeps.
 pub record HasWorked {C P : Type 0} (cache : Cache) (pools : Ghosts P) (blocks : List Ptr) (ops : List Op) (n : ℕ) (fork done : P) (replies : List Reply) (had : List KeptBlock) (p : Place (Known C)) (kept : List KeptBlock) (q : Place (Known C)) : Type 0 where
-  pub waits : (acts : List Act) → Waits cache n acts had p → Waits cache n (acts ++ acts_of_all blocks (map read_of had) (filter (is_of_caller n) ops) replies) kept q
+  pub waits : (acts : List Act) (noted : List Noted) → Waits cache n acts noted had p → Waits cache n (acts ++ acts_of_all blocks (map read_of had) (filter (is_of_caller n) ops) replies) noted kept q
   pub keeps : map read_of kept ≡ kept_after_all blocks (map read_of had) (filter (is_of_caller n) ops) replies
   pub answers : AreAnswered (pools.size fork) (pools.told fork) blocks (map read_of had) (filter (is_of_caller n) ops) replies
   pub calls : MakesCalls pools (calls_of_all replies) fork done

@@ -22,6 +22,8 @@ use Rattle.trace_text.specs.declared.trace.Trace.{Trace}
 use Rattle.vdev_io.specs.declared.pool.Pool.{Ghosts}
 use Rattle.vdev_io.specs.Faults.{Rose, last_count}
 use Rattle.trace_run.specs.declared.groups.Crew.{Crew}
+use Rattle.trace_run.specs.declared.ran.Ending.{Ending}
+use Rattle.trace_run.specs.declared.ran.Ending.TheVariants.{Whole, Fork, Sync, Full}
 use Rattle.trace_run.specs.declared.kept_blocks.KeptBlock.{KeptBlock}
 use Rattle.trace_run.specs.Acts.{acts_of_lines}
 use Rattle.trace_run.specs.Answers.{is_pool_fault}
@@ -59,7 +61,7 @@ module _ {C : Type 0} where
   -- What a caller has come to by its own lines among these: they are answered, what it did is told, and it stands by itself with what they say that
   -- it keeps.
   pub record HasCome (cache : Cache) (pool_len : ℕ) (image : Option (List ℕ)) (blocks : List Ptr) (ops : List Op) (n : ℕ) (replies : List Reply) (kept : List KeptBlock) (p : Place (Known C)) : Type 0 where
-    pub waits : Waits cache n (acts_of_lines blocks ops n (replies_of_caller n ops replies)) kept p
+    pub waits : Waits cache n (acts_of_lines blocks ops n (replies_of_caller n ops replies)) [] kept p
     pub keeps : map read_of kept ≡ kept_after_all blocks [] (filter (is_of_caller n) ops) (replies_of_caller n ops replies)
     pub answers : AreAnswered pool_len image blocks [] (filter (is_of_caller n) ops) (replies_of_caller n ops replies)
 
@@ -116,12 +118,12 @@ pub record AreBetween {C P : Type 0} (cache : Cache) (restored : List Restored) 
   pub groups : WorkInGroups pools cache.config (StoodFresh (openings_of trace) cache.config.cells) (groups_of (take (length replies) trace.ops) replies) before now
   pub may_sync : MaySync pools (length replies) now
 
--- the lines of a group were done at once, and these are the replies to them in their order
+-- the lines of a group were done at once, and these are the replies to them in their order; those to the lines `feed` among them are the feeder's
 pub record DidLinesAtOnce {C P : Type 0} (cache : Cache) (pools : Ghosts P) (blocks : List Ptr) (ops : List Op) (before after : P) (old new : Crew C) (replies : List Reply) : Type 0 where
   pub own : List (List Reply)
+  pub fed : List Reply
   pub worked : HaveWorked cache pools blocks ops (length old.parties.items) before after own old.kept.items old.parties.items new.kept.items new.parties.items
-  pub ordered : AreInOrder ops own replies
-  pub feeder : new.feeder ≡ old.feeder
+  pub ordered : AreInOrder ops own fed replies
 
 -- every shard was given a capacity
 pub record DidCap {C P : Type 0} (cache : Cache) (c : ℕ) (from to : BetweenGroups P) (old new : Crew C) (reply : Reply) : Type 0 where
@@ -149,12 +151,19 @@ pub record ForkFailed {P : Type 0} (pools : Ghosts P) (before after : P) : Type 
   pub faults : pools.faults before < last_count → pools.faults after ≡ pools.faults before + 1
   pub rose : Rose (pools.faults before) (pools.faults after)
 
--- All lines of the trace were done; or a fork of the pool failed before the group of the first line that isn't answered.
-pub record AreDone {C P : Type 0} (cache : Cache) (restored : List Restored) (pools : Ghosts P) (trace : Trace) (before : BetweenGroups P) (after : P) (fork_failed : Bool) (replies : List Reply) (crew : Crew C) : Type 0 where
+-- how the lines ended, with the pool that was reached
+abbrev pub EndsLines : {P : Type 0} → Ghosts P → Trace → List Reply → Ending → (reached after : P) → Type 0
+EndsLines pools trace replies Whole reached after = (length replies ≡ length trace.ops) × (after ≡ reached)
+EndsLines pools trace replies Fork reached after = (length replies < length trace.ops) × ForkFailed pools reached after
+EndsLines pools trace replies Sync reached after = ⊥
+EndsLines pools trace replies (Full need left) reached after = ⊥
+
+-- All lines of the trace were done; or a fork of the pool failed before the group of the first line that isn't answered. No sync stops, since no line makes
+-- a block dirty yet.
+pub record AreDone {C P : Type 0} (cache : Cache) (restored : List Restored) (pools : Ghosts P) (trace : Trace) (before : BetweenGroups P) (after : P) (ending : Ending) (replies : List Reply) (crew : Crew C) : Type 0 where
   pub reached : BetweenGroups P
   pub between : AreBetween cache restored pools trace before reached replies crew
-  pub whole : fork_failed ≡ false → (length replies ≡ length trace.ops) × (after ≡ reached.pool)
-  pub failed : fork_failed ≡ true → (length replies < length trace.ops) × ForkFailed pools reached.pool after
+  pub ended : EndsLines pools trace replies ending reached.pool after
 
 -- each of these lines is one of so many callers
 abbrev pub AreOfCallers : (callers : ℕ) → List Op → Type 0

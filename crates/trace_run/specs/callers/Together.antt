@@ -1,6 +1,6 @@
 -- A run of several callers, group by group: which operations were answered, what each caller's work did to its forks of the pool, and what the closed
 -- cache tells.
-use Rattle.std.specs.Prelude.{◌≡◌, ◌⊎◌, Ok, ℕ, zero, suc, ◌+◌, ◌<◌, ◌≤◌, ◌==◌, ◌&&◌, Bool, true, false, if◌then◌else◌, List, [], ◌∷◌, ◌++◌, Option, None, Some, count_by, length, map, slice_get, slice_index_or, sum_by, take}
+use Rattle.std.specs.Prelude.{◌≡◌, ◌⊎◌, Ok, Err, ℕ, zero, suc, ◌+◌, ◌<◌, ◌≤◌, ◌==◌, ◌&&◌, Bool, true, false, if◌then◌else◌, List, [], ◌∷◌, ◌++◌, Option, None, Some, count_by, length, map, slice_get, slice_index_or, sum_by, take}
 use Rattle.blk_ptr.specs.declared.ptr.Ptr.{Ptr}
 use Rattle.blk_ptr.specs.Hash.{shard_of}
 use Rattle.blk_ptr.specs.Key.{IsValid, key_end}
@@ -16,6 +16,8 @@ use Rattle.dbuf_state.specs.declared.event.CellEvent.{CellEvent}
 use Rattle.txg_sync.specs.Items.{SyncItem}
 use Rattle.txg_sync.specs.Syncing.{AnswersWith}
 use Rattle.txg_sync.specs.Turns.{synced_in}
+use Rattle.txg_sync.specs.declared.syncing.SyncFault.{SyncFault}
+use Rattle.txg_sync.specs.declared.syncing.SyncFault.TheVariants as sync_fault
 use Rattle.txg_sync.specs.declared.syncing.Synced.{Synced as SyncAnswer}
 use Rattle.trace_text.specs.declared.op.Op.{Op}
 use Rattle.trace_text.specs.declared.op.Op.TheVariants.{Read, Hold, Drop, Get, Put, Patch, Pin, Unpin, Feed, Cap, Txg}
@@ -25,8 +27,10 @@ use Rattle.trace_text.specs.declared.rebuilt.Rebuilt.{Rebuilt}
 use Rattle.trace_text.specs.declared.report.Report.{Report}
 use Rattle.trace_text.specs.declared.trace.Trace.{Trace}
 use Rattle.vdev_io.specs.declared.pool.Pool.{Ghosts}
-use Rattle.vdev_io.specs.Faults.{sum_of_counts}
+use Rattle.vdev_io.specs.Faults.{Rose, sum_of_counts}
 use Rattle.arc_check.specs.Judging.{end_of}
+use Rattle.trace_run.specs.declared.ran.Ending.{Ending}
+use Rattle.trace_run.specs.declared.ran.Ending.TheVariants.{Whole, Fork, Sync, Full}
 use Rattle.trace_run.specs.Acts.{acts_of_lines, events_of_feeder}
 use Rattle.trace_run.specs.Answers.{is_pool_fault}
 use Rattle.trace_run.specs.Effects.{calls_of_all}
@@ -40,30 +44,36 @@ pub record TellsClosed {C : Type 0} (closed : Ended C) (report : Report) : Type 
   pub histories : report.histories ≡ map (λ log. log.history) closed.shards
   pub ends : report.ends ≡ map (λ log. end_of log.now) closed.shards
 
--- The operations that were answered: all of the trace; or, where a fork of the pool failed, those before that fork's group.
-abbrev pub answered_ops : Trace → (fork_failed : Bool) → List Reply → List Op
-answered_ops trace false replies = trace.ops
-answered_ops trace true replies = take (length replies) trace.ops
+-- The operations that were answered: all of the trace; or those before the group for which a fork of the pool failed, or before the sync that stopped.
+abbrev pub answered_ops : Trace → Ending → List Reply → List Op
+answered_ops trace Whole replies = trace.ops
+answered_ops trace Fork replies = take (length replies) trace.ops
+answered_ops trace Sync replies = take (length replies) trace.ops
+answered_ops trace (Full need left) replies = take (length replies) trace.ops
 
--- the status of a report: 6 where a fork of the pool failed, and else 1 where some reply is a refusal, and 0
-abbrev pub report_status : (fork_failed : Bool) → List Reply → ℕ
-report_status true replies = 6
-report_status false replies = status_of replies
+-- the status of a report: 6 where the pool failed in a fork or a sync, 8 where it had no room for a sync, and else 1 where some reply is a refusal, and 0
+abbrev pub report_status : Ending → List Reply → ℕ
+report_status Whole replies = status_of replies
+report_status Fork replies = 6
+report_status Sync replies = 6
+report_status (Full need left) replies = 8
 
--- how many faults of the pool are told: one for each reply that says so, and one more where a fork failed
-abbrev pub faults_told : (fork_failed : Bool) → List Reply → ℕ
-faults_told true replies = count_by is_pool_fault replies + 1
-faults_told false replies = count_by is_pool_fault replies
+-- how many faults of the pool are told: one for each reply that says so, and one more where a fork or a sync failed
+abbrev pub faults_told : Ending → List Reply → ℕ
+faults_told Whole replies = count_by is_pool_fault replies
+faults_told Fork replies = count_by is_pool_fault replies + 1
+faults_told Sync replies = count_by is_pool_fault replies + 1
+faults_told (Full need left) replies = count_by is_pool_fault replies
 
 -- the report of a run with these replies, over a shared cache that closed so, where this was found on the cache device; no workers read for callers
-abbrev pub report_of_closed : {C : Type 0} → (fork_failed : Bool) → Option Rebuilt → List Reply → Ended C → Report
-report_of_closed fork_failed rebuilt replies closed = record {
+abbrev pub report_of_closed : {C : Type 0} → Ending → Option Rebuilt → List Reply → Ended C → Report
+report_of_closed ending rebuilt replies closed = record {
   replies = replies;
   histories = map (λ log. log.history) closed.shards;
   ends = map (λ log. end_of log.now) closed.shards;
   io = None;
   rebuilt = rebuilt;
-  status = report_status fork_failed replies;
+  status = report_status ending replies;
   short = false;
 }
 
@@ -110,6 +120,19 @@ BeginsGroup ops (suc k) = (op : Op) × (slice_get ops k ≡ Some op) × (ends_gr
 pub record StopsAtGroup (trace : Trace) (replies : List Reply) : Type 0 where
   pub some : length replies < length trace.ops
   pub begins : BeginsGroup trace.ops (length replies)
+
+-- the replies end before a sync: the line behind the last one that was answered is it
+pub record StopsAtSync (trace : Trace) (replies : List Reply) : Type 0 where
+  pub tick : ℕ
+  pub at : slice_get trace.ops (length replies) ≡ Some (Txg tick)
+
+-- Where a run stopped: before a group for which a fork failed, or before a sync that failed or for which there was no room. The pool's faults rose where it
+-- failed.
+abbrev pub StopsSo : {P : Type 0} → Ghosts P → (before after : P) → Trace → List Reply → Ending → Type 0
+StopsSo pool before after trace replies Whole = Unit {0}
+StopsSo pool before after trace replies Fork = Rose (pool.faults before) (pool.faults after) × StopsAtGroup trace replies
+StopsSo pool before after trace replies Sync = Rose (pool.faults before) (pool.faults after) × StopsAtSync trace replies
+StopsSo pool before after trace replies (Full need left) = StopsAtSync trace replies
 
 -- a line that ends a group, with its reply
 pub record EndLine : Type 0 where
@@ -187,6 +210,18 @@ module _ {P : Type 0} (pool : Ghosts P) (config : Config) (Cells : OfCells) wher
   EndsGroup None from to = to ≡ from
   EndsGroup (Some line) from to = EndsBy line.op line.reply from to
 
+  -- A sync stopped at the line behind the last one that was answered, for this reason. The blocks before the one in hand were written.
+  pub record StopsSync (trace : Trace) (replies : List Reply) (why : SyncFault) (from : BetweenGroups P) (after : P) : Type 0 where
+    pub behind : StopsAtSync trace replies
+    pub answer : AnswersWith pool from.group from.next from.pool after config (λ cells xs Besides. Cells behind.tick cells xs) (Err why)
+
+  -- What the end of the lines did with the pool, behind the groups that were answered: nothing; but a fork may have failed, or a sync stopped.
+  abbrev pub EndsRun : Trace → List Reply → Ending → (from : BetweenGroups P) → (after : P) → Type 0
+  EndsRun trace replies Whole from after = after ≡ from.pool
+  EndsRun trace replies Fork from after = (pool.size after ≡ pool.size from.pool) × (pool.told after ≡ pool.told from.pool)
+  EndsRun trace replies Sync from after = StopsSync trace replies sync_fault.PoolFault from after
+  EndsRun trace replies (Full need left) from after = StopsSync trace replies (sync_fault.PoolFull need left) from after
+
   -- The callers did these groups, one after another: each at once, on forks of the pool as it was then, and then the line that ends it.
   abbrev pub WorkInGroups : List GroupLines → (from to : BetweenGroups P) → Type 0
   WorkInGroups [] from to = to ≡ from
@@ -227,14 +262,14 @@ pub record StoodThen (trace : Trace) (closed : List OnHeap) (tick : ℕ) (cells 
   pub each : (i : ℕ) (cell end : OnHeap) → slice_get cells i ≡ Some cell → slice_get closed i ≡ Some end → HadThen (synced_in trace.config.callers i xs) cell end
 
 -- With two callers or more, each has a fork of the pool in each group, made as the group begins. Where one fails, that group isn't begun, and the
--- pool has only counted that.
-pub record RunsTogether {P : Type 0} (pool : Ghosts P) (before after : P) (trace : Trace) (fork_failed : Bool) (closed : List OnHeap) (report : Report) : Type 0 where
+-- pool has only counted that. Where a sync stops, the lines of its group are done, and none behind it is begun.
+pub record RunsTogether {P : Type 0} (pool : Ghosts P) (before after : P) (trace : Trace) (ending : Ending) (closed : List OnHeap) (report : Report) : Type 0 where
   -- the place of the first sync
   pub place : ℕ
   pub first : IsFirstPlace (pool.size before) trace.blocks place
   pub reached : BetweenGroups P
   pub groups : WorkInGroups pool trace.config (StoodThen trace closed) (groups_of trace.ops report.replies) (between_groups before 1 place) reached
-  pub whole : fork_failed ≡ false → after ≡ reached.pool
+  pub ended : EndsRun pool trace.config (StoodThen trace closed) trace report.replies ending reached after
   -- each caller's reads of its forks are those that its events stand for
   pub counted : (n : ℕ) → n < trace.config.callers → length (calls_of_all (replies_of_caller n trace.ops report.replies)) ≡ reads_of_caller n report.histories
   -- a capacity is given to each shard, and a sync done, once all lines before it are done, and before any line behind it is begun

@@ -1,12 +1,12 @@
 -- A caller's lines, those on objects among them, each with what it did beside its reply; and what such lines come to, one after another.
-use Rattle.std.specs.Prelude.{◌≡◌, ℕ, ◌==◌, Bool, false, List, [], ◌∷◌, ◌++◌, Option, Some, None}
-use Rattle.std.specs.Option.{option_map_or}
+use Rattle.std.specs.Prelude.{◌≡◌, ℕ, List, [], ◌∷◌, ◌++◌, Option, Some, None}
 use Rattle.blk_ptr.specs.declared.ptr.Ptr.{Ptr}
 use Rattle.vdev_io.specs.declared.device.CacheDev.{Ghosts as DeviceGhosts}
 use Rattle.vdev_io.specs.declared.pool.Pool.{Ghosts as PoolGhosts}
-use Rattle.vdev_io.specs.Calls.{Call, KeepsPool}
+use Rattle.vdev_io.specs.Calls.{Call, KeepsPool, MakesCalls}
 use Rattle.arc_core.specs.declared.config.Config.{Config}
 use Rattle.arc_core.specs.Operations.{Act}
+use Rattle.arc_table.specs.declared.view.Line.{Line as Seen}
 use Rattle.arc_table.specs.Geometry.{cell_number}
 use Rattle.arc_table.specs.Reading.{KeepsDevice, Outside}
 use Rattle.dbuf_cells.specs.Places.{cell_of}
@@ -18,30 +18,15 @@ use Rattle.trace_text.specs.declared.reply.Reply.{Reply}
 use Rattle.trace_text.specs.declared.reply.Reply.TheVariants as replies
 use Rattle.trace_run.specs.Acts.{acts_of}
 use Rattle.trace_run.specs.callers.CallerLines.{DidLine, at}
-use Rattle.trace_run.specs.Deeds.{HasToldAll, Noted}
+use Rattle.trace_run.specs.Deeds.{HasToldAll, KeepsCells, Noted}
 use Rattle.trace_run.specs.Effects.{Effect, Answered, calls_of, effect_of}
 use Rattle.trace_run.specs.KeptReads.{KeptRead}
-use Rattle.trace_run.specs.DeviceReads.{LineAsks}
+use Rattle.trace_run.specs.DeviceReads.{AsksFor, LineAsks}
 use Rattle.trace_run.specs.ObjectLines.{DidObjectLine, OnObject, on_object}
+use Rattle.trace_run.specs.ObjectReplies.{AnswersFrom}
 use Rattle.trace_run.specs.Objects.{Brought, GoesTogether, Line, Loaded, NotesNothing, NotesOwn, Nothing, OwnEvent, Refused, Work, acts_of_bringing, no_work, own_event}
 use Rattle.trace_run.specs.one_caller.OneCaller.{kept_after}
-
--- the caller of a line, where it is a caller's
-abbrev pub caller_of_line : Op → Option ℕ
-caller_of_line (ops.Read n t x window) = Some n
-caller_of_line (ops.Hold n t x) = Some n
-caller_of_line (ops.Drop n x) = Some n
-caller_of_line (ops.Get n t at w) = Some n
-caller_of_line (ops.Put n t at size fill) = Some n
-caller_of_line (ops.Patch n t at from bytes) = Some n
-caller_of_line (ops.Pin n t at) = Some n
-caller_of_line (ops.Unpin n at) = Some n
-caller_of_line ops.Feed = None
-caller_of_line (ops.Txg t) = None
-caller_of_line (ops.Cap c) = None
-
-abbrev pub is_line_of : ℕ → Op → Bool
-is_line_of n op = option_map_or (λ (m : ℕ). m == n) (caller_of_line op) false
+use Rattle.trace_run.specs.Tally.{AnswersNow}
 
 -- what a reply says was done, where this was brought for its line: a block that was brought was read, whatever the line did with it then
 abbrev pub effect_with : Brought → Reply → Effect
@@ -113,13 +98,23 @@ pub record IsWorkOf (g : Config) (n : ℕ) (l : Line) : Type 0 where
 
 -- ---- a line on an object, with its work
 
--- The line came to this, by what the contract of its call says; its work fits it; and its acts and its entries of cells are told.
+-- how many bytes are asked for at once, for what was brought
+abbrev pub size_brought : Brought → ℕ
+size_brought Nothing = 0
+size_brought (Loaded ptr from) = ptr.key.size
+size_brought (Refused ptr) = ptr.key.size
+
+-- The line came to this, by what the contract of its call says; its work fits it; its acts and its entries of cells are told; and the pool and the cache device were
+-- read for what was brought, and for nothing else.
 pub record DidWorkLine {P D : Type 0} (pools : PoolGhosts P) (devices : DeviceGhosts D) (g : Config) (blocks : List Ptr) (kept : List KeptRead) (before now : Outside P D) (p q : PartyPlace) (l : Line) : Type 0 where
   pub came : DidObjectLine pools devices g before now p q l.op l.reply
   pub fits : IsWorkOf g p.number l
   pub number : q.number ≡ p.number
   pub told : (did : List Act) (had : List Noted) → HasToldAll g did had p → HasToldAll g (did ++ acts_with g blocks kept l) (had ++ l.work.noted) q
   pub joined : q.joined ≡ p.joined
+  pub keeps : KeepsCells g p q
+  pub calls : MakesCalls pools (calls_of (effect_with l.work.brought l.reply)) before.pool now.pool
+  pub asked : AsksFor devices (size_brought l.work.brought) (effect_with l.work.brought l.reply) before.device now.device
   pub pool : KeepsPool pools before.pool now.pool
   pub device : KeepsDevice devices before.device now.device
 
@@ -139,10 +134,29 @@ module _ {P D : Type 0} (pools : PoolGhosts P) (devices : DeviceGhosts D) (g : C
       × LineAsks devices blocks l.op l.reply old.outside.device new.outside.device
   DidLineBy (Some on) l old new = (new.kept ≡ old.kept) × DidWorkLine pools devices g blocks old.kept old.outside new.outside old.party new.party l
 
+  -- the operation was answered so, with some work beside its reply
+  abbrev pub DidWith : Op → Reply → (old new : AtWork P D) → Type 0
+  DidWith op reply old new = (work : Work) × DidLineBy (on_object op) (record { op = op; reply = reply; work = work }) old new
+
   -- the lines were answered, each with this work
   abbrev pub DidAll : List Line → (old new : AtWork P D) → Type 0
   DidAll [] old new = new ≡ old
   DidAll (l ∷ ls) old new = (next : AtWork P D) × DidLineBy (on_object l.op) l old next × DidAll ls next new
+
+-- a caller between its lines
+abbrev pub at_work : {P D : Type 0} → PartyPlace → List KeptRead → Outside P D → AtWork P D
+at_work party kept outside = record { party = party; kept = kept; outside = outside }
+
+-- A line has its answer, where its caller keeps these reads: one on an object by how its cell was found, from which what is seen now goes on.
+abbrev pub AnswersLine : Config → (pool_len : ℕ) → Option (List ℕ) → List Ptr → (openings : List (List ℕ)) → (seen : List (List Seen)) → List KeptRead → Option OnObject → Line → Type 0
+AnswersLine g pool_len image blocks openings seen kept None l = AnswersNow pool_len image blocks kept l.op l.reply
+AnswersLine g pool_len image blocks openings seen kept (Some on) l = AnswersFrom g pool_len image openings seen on.at l.op l.reply
+
+-- each has, one after another
+abbrev pub AnswersLines : Config → (pool_len : ℕ) → Option (List ℕ) → List Ptr → (openings : List (List ℕ)) → (seen : List (List Seen)) → List KeptRead → List Line → Type 0
+AnswersLines g pool_len image blocks openings seen kept [] = Unit {0}
+AnswersLines g pool_len image blocks openings seen kept (l ∷ ls) =
+    AnswersLine g pool_len image blocks openings seen kept (on_object l.op) l × AnswersLines g pool_len image blocks openings seen (kept_after blocks l.op l.reply kept) ls
 
 -- the lines of these operations with these replies, each with some work
 abbrev pub AreLinesOf : List Op → List Reply → List Line → Type 0
@@ -152,3 +166,9 @@ AreLinesOf [] (r ∷ rs) ls = ⊥
 AreLinesOf (op ∷ ops_left) [] ls = ⊥
 AreLinesOf (op ∷ ops_left) (r ∷ rs) [] = ⊥
 AreLinesOf (op ∷ ops_left) (r ∷ rs) (l ∷ ls) = (l.op ≡ op) × (l.reply ≡ r) × AreLinesOf ops_left rs ls
+
+-- the operations were answered so, one after another, each with some work beside its reply
+pub record DidOps {P D : Type 0} (pools : PoolGhosts P) (devices : DeviceGhosts D) (g : Config) (blocks : List Ptr) (ops_done : List Op) (replied : List Reply) (old new : AtWork P D) : Type 0 where
+  pub lines : List Line
+  pub are : AreLinesOf ops_done replied lines
+  pub did : DidAll pools devices g blocks lines old new

@@ -16,7 +16,7 @@ use Rattle.trace_run.specs.Answers.{AnswersAll}
 use Rattle.trace_run.specs.callers.CallerLines.{At, DidLines}
 use Rattle.trace_run.specs.Effects.{calls_of_all}
 use Rattle.arc_table.specs.Telling.{opening_of}
-use Rattle.trace_run.specs.Explaining.{Explain}
+use Rattle.trace_run.specs.Explaining.{ExplainReads}
 use Rattle.trace_run.specs.Lines.{is_in_shard, replies_where}
 use Rattle.trace_run.specs.one_caller.OneCaller.{AreFoundAs, one_caller_histories}
 use Rattle.trace_run.specs.Reads.{now_of}
@@ -52,7 +52,7 @@ pub record RanAlone {C P : Type 0} (pools : Ghosts P) (before after : P) (trace 
       (replies_where (is_in_shard trace.config.shards trace.blocks shard) trace.ops replies)) (range_with_len 0 trace.config.shards)
   -- each event that stands for a read of the pool is one that a reply says
   pub counted : length (calls_of_all replies) ≡ sum_by pool_reads (histories_of closed)
-  pub explained : Explain trace restored replies (ends_in closed) (histories_of closed)
+  pub explained : ExplainReads trace restored replies (ends_in closed) (histories_of closed)
   -- the cache was made with the trace's numbers
   pub config : closed.config ≡ trace.config
   pub lines : LinesAlone C pools before after trace restored replies

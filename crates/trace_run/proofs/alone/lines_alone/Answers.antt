@@ -1,4 +1,4 @@
-use Rattle.std.proofs.Common.{◌≡◌, ℕ, true, List, [], Some, map, take, refl, sym, ap, ◌∙◌, subst, arith}
+use Rattle.std.proofs.Common.{◌≡◌, ℕ, true, List, [], None, Some, map, take, refl, sym, ap, ◌∙◌, subst, arith}
 use Rattle.std.specs.Prelude.{slice_get}
 use Rattle.std.proofs.lemmas.Option.{slice_get_read}
 use Rattle.blk_ptr.specs.declared.ptr.Ptr.{Ptr}
@@ -17,6 +17,11 @@ use Rattle.trace_run.specs.one_caller.Asking.{AsksLine, AsksLines}
 use Rattle.trace_run.proofs.one_caller.AskingLemmas.{device-same, device-then}
 use Rattle.trace_run.proofs.one_caller.AskingLines.{asks-line, capped-asks}
 use Rattle.trace_run.proofs.RunLemmas.{keeps-then}
+use Rattle.trace_run.proofs.WorkLemmas.{none-is, with-plain}
+use Rattle.trace_run.proofs.callers.GroupRunLemmas.{all-declared}
+use Rattle.trace_run.specs.ObjectLines.{on_object}
+use Rattle.trace_run.specs.callers.WorkLines.{at_work}
+use Rattle.arc_table.specs.Reading.{outside}
 use Rattle.trace_run.proofs.alone.lines_alone.Goals as goal
 
 -- nothing is done yet
@@ -84,10 +89,13 @@ loop-number-preserved g c =
     let here : slice_get ops c.loop-number.number ≡ Some op =
     ap (λ (l : List Op). slice_get l c.loop-number.number) (sym c.as_slice-ops.ensures) ∙ slice_get_read _ _ _ _ refl c.loop-number-test.true c.index-ops-number.is in
     let his : is_of_caller 0 op ≡ true = ap (λ (k : ℕ). is_of_caller k op) (sym (c.number-caller.ensures ∙ c.requires.number)) ∙ (sym c.is_of_caller.ensures ∙ c.if-not-is_of_caller.false) in
+    let plain : on_object op ≡ None = none-is (on_object op) (sym c.is_on_object.ensures ∙ c.if-is_on_object.false) in
     let start = at c.args.party (map read_of c.args.kept.now) c.args.pool.now in
     let before = at c.loop-number.party (map read_of c.loop-number.kept) c.loop-number.pool in
     let after = at c.line.new.party (map read_of c.line.new.kept) c.line.new.pool in
-    let one : DidLine config g.P.Pool blocks op reply before after = subst (λ (bs : List Ptr). DidLine config g.P.Pool bs op reply before after) c.as_slice-blocks.ensures c.in_ok-reply.ensures.did in
+    let one : DidLine config g.P.Pool blocks op reply before after = subst (λ (bs : List Ptr). DidLine config g.P.Pool bs op reply before after) c.as_slice-blocks.ensures
+    (with-plain g.P.Pool g.D.CacheDev config c.as_slice-blocks.result.now op reply (at_work c.loop-number.party (map read_of c.loop-number.kept) (outside c.loop-number.pool c.loop-number.device))
+    (at_work c.line.new.party (map read_of c.line.new.kept) (outside c.line.new.pool c.line.new.device)) plain c.in_ok-reply.ensures.did) in
     record {
       stands = c.in_ok-reply.ensures.stands;
       named = line-named config g.P.Pool blocks op reply before after was.named one;
@@ -97,9 +105,15 @@ loop-number-preserved g c =
           (lines-more config g.P.Pool blocks (take c.loop-number.number ops) replies op reply start before after was.did one);
       asks = λ all.
           let so_far = was.asks all in
-          let mine = c.in_ok-reply.ensures.asks (lines-all config g.P.Pool blocks (take c.loop-number.number ops) replies start before was.did all) in
+          let mine = c.in_ok-reply.ensures.asks plain (lines-all config g.P.Pool blocks (take c.loop-number.number ops) replies start before was.did all) in
           asks-line g.D.CacheDev config g.P.Pool blocks (take c.loop-number.number ops) replies op reply _ c.in_ok-push-2.ensures.items start before (sym (take_one ops c.loop-number.number op here)) was.did all so_far.0 mine.0 c.args.device.now c.loop-number.device c.line.new.device so_far.1
           (subst (λ (bs : List Ptr). AsksLine g.D.CacheDev bs (now_of config (shard_of_line config.shards bs op) c.loop-number.party) op reply mine.0 c.loop-number.device c.line.new.device) c.as_slice-blocks.ensures mine.1);
-      left = device-then g.D.CacheDev c.args.device.now c.loop-number.device c.line.new.device was.left c.in_ok-reply.ensures.keeps;
+      left = device-then g.D.CacheDev c.args.device.now c.loop-number.device c.line.new.device was.left c.in_ok-reply.ensures.device;
       keeps = keeps-then g.P.Pool c.args.pool.now c.loop-number.pool c.line.new.pool was.keeps c.in_ok-reply.ensures.pool;
     }
+
+pub line-requires-clause-sized : goal.line-requires-clause-sized
+line-requires-clause-sized g c = λ _ _.
+    let here : slice_get c.args.trace.now.ops c.loop-number.number ≡ Some c.index-ops-number.result =
+    ap (λ (l : List Op). slice_get l c.loop-number.number) (sym c.as_slice-ops.ensures) ∙ slice_get_read _ _ _ _ refl c.loop-number-test.true c.index-ops-number.is in
+    (all-declared c.args.trace.now c.requires.formed c.loop-number.number c.index-ops-number.result here).1

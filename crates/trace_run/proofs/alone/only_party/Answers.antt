@@ -36,6 +36,6 @@ returns-clause-feeder c = λ openings known.
         alone = two.1.joined;
         joined = ap (λ (x : Place (Known HeapCell)). x.joined) c.join.ensures.joined
             ∙ (λ i. (kept o.number o.own (length (two.1.joined i)) ∷ two.1.joined i) ++ two.0.joined i);
-        only = two.1.new.told.only.entries;
+        only = two.1.new.only.entries;
       },
     )

@@ -1,80 +1,105 @@
-use Rattle.std.proofs.Common.{◌≡◌, ◌++◌, ℕ, List, Vec, Global, drop, length, map, take, Option, sym, ap, ◌∙◌, subst, arith}
-use Rattle.std.specs.List.{AllByRecursion, AllZip}
-use Rattle.std.proofs.Math.Seq.{take-append_seam}
-use Rattle.std.proofs.lemmas.Result.{IfOk-weaker}
-use Rattle.dbuf_state.proofs.CellLemmas.{all-at}
+use Rattle.std.proofs.Common.{◌≡◌, ℕ, List, Vec, Global, length, map, Option, subst, arith}
+use Rattle.std.specs.Prelude.{IfOk, Result, filter}
+use Rattle.blk_ptr.specs.declared.memory.NoMemory.{NoMemory}
 use Rattle.trace_text.specs.declared.reply.Reply.{Reply}
+use Rattle.dbuf_cells.specs.Turns.{OnHeap, dbuf_meanings}
 use Rattle.trace_run.specs.Devices.{lent_in}
-use Rattle.trace_run.specs.callers.DeviceForks.{AllAsk, HasAsked, HaveRead, TakesForksBack}
-use Rattle.trace_run.specs.callers.Callers.{AbsorbsAll, HasTried, HaveComeBack, IsReady}
+use Rattle.trace_run.specs.Feeds.{DoesFeeds, is_feed}
+use Rattle.trace_run.specs.callers.DeviceForks.{AllAsk, HaveRead}
 use Rattle.trace_run.specs.callers.Group.{HaveWorked}
 use Rattle.trace_run.specs.declared.group.Caller.{Caller}
 use Rattle.trace_run.proofs.callers.AbsorbLemmas.{absorbed-leaves}
-use Rattle.trace_run.proofs.DeviceLemmas.{lent-then}
+use Rattle.trace_run.proofs.callers.BesideLemmas.{lent-fed, tries-beside, tries-none, works-beside}
 use Rattle.trace_run.proofs.callers.GroupLemmas.{enlisted-ready, have-asked, have-worked, start-length}
 use Rattle.trace_run.proofs.group.run_group.Goals as goal
 
--- what a slice of a whole vector leaves there
-written : {X : Type 0} (n : ℕ) (news olds : List X) → n ≡ length news → take n (news ++ drop (length news) olds) ≡ news
-written n news olds is = ap (λ (k : ℕ). take k (news ++ drop (length news) olds)) is ∙ take-append_seam news (drop (length news) olds)
+pub work_and_feed-fed-requires-clause-ready : goal.work_and_feed-fed-requires-clause-ready
+work_and_feed-fed-requires-clause-ready g c κs within =
+    enlisted-ready c.args.arcs.now g.P.Pool c.args.blocks.now c.args.ops.now c.args.pool.now c.args.parties.items c.args.kept.items c.args.forks.items c.in_ok-callers.callers.items c.requires.parties c.requires.forks c.in_ok-callers.ensures.enlisted
 
-pub work_all-requires-clause-ready : goal.work_all-requires-clause-ready
-work_all-requires-clause-ready g c = λ k lives i d lt.
-    all-at (IsReady c.args.arcs.now c.args.blocks.now) c.deref_mut.result.now i d
-    (subst (AllByRecursion (IsReady c.args.arcs.now c.args.blocks.now)) (sym c.deref_mut.ensures.value)
-    (enlisted-ready c.args.arcs.now g.P.Pool c.args.blocks.now c.args.ops.now c.args.pool.now c.args.parties.items c.args.kept.items c.args.forks.items c.in_ok-callers.callers.items c.requires.parties c.requires.forks c.in_ok-callers.ensures.enlisted)) lt
+pub work_and_feed-fed-requires-clause-device : goal.work_and_feed-fed-requires-clause-device
+work_and_feed-fed-requires-clause-device g c κs within = lent-fed g.D.CacheDev c.args.arcs.now.config c.args.device.now c.device_forks.new.device c.in_ok-devices.ensures.device c.requires.device
 
+-- what the callers did
 pub returns-clause-worked : goal.returns-clause-worked
 returns-clause-worked g c =
-    let news : List (Caller g.row.C.Denot g.row.P.Denot g.row.D.Denot) = c.work_all.new.callers in
-    let tried = subst (λ (l : List (Caller g.row.C.Denot g.row.P.Denot g.row.D.Denot)). AllZip (HasTried c.args.arcs.now g.P.Pool c.args.blocks.now c.args.ops.now) l news) c.deref_mut.ensures.value c.work_all.ensures.tried in
-    let long : c.in_ok-callers.callers.len ≡ length news = let a = c.work_all.auto.callers in let b = c.deref_mut.ensures.len in omega arith in
-    let same = written c.in_ok-callers.callers.len news c.in_ok-callers.callers.items long in
-    let absorbs = subst (λ (l : List (Caller g.row.C.Denot g.row.P.Denot g.row.D.Denot)). AbsorbsAll g.P.Pool (map (λ caller. caller.pool) l) c.args.pool.now c.take_all_back.new.pool) same c.take_all_back.ensures.absorbs in
-    let many : length c.args.parties.items ≡ c.args.parties.len = let o = c.args.parties.ok in omega arith in
-    IfOk-weaker c.take_all_back.result
-    (λ worked. HaveComeBack (take c.in_ok-callers.callers.len (news ++ drop (length news) c.in_ok-callers.callers.items)) (map (λ (v : Vec Reply Global). v.items) worked.replies.items) worked.parties.items worked.kept.items)
-    (λ worked. HaveWorked c.args.arcs.now g.P.Pool c.args.blocks.now c.args.ops.now c.args.parties.len c.args.pool.now c.take_all_back.new.pool (map (λ (v : Vec Reply Global). v.items) worked.replies.items) c.args.kept.items c.args.parties.items worked.kept.items worked.parties.items)
-    (λ worked came.
-    subst (λ (n : ℕ). HaveWorked c.args.arcs.now g.P.Pool c.args.blocks.now c.args.ops.now n c.args.pool.now c.take_all_back.new.pool (map (λ (v : Vec Reply Global). v.items) worked.replies.items) c.args.kept.items c.args.parties.items worked.kept.items worked.parties.items) many
-    (have-worked c.args.arcs.now g.P.Pool c.args.blocks.now c.args.ops.now c.args.pool.now c.take_all_back.new.pool c.args.parties.items c.args.kept.items c.args.forks.items c.in_ok-callers.callers.items news
-    (map (λ (v : Vec Reply Global). v.items) worked.replies.items) worked.kept.items worked.parties.items c.requires.parties c.requires.forks c.in_ok-callers.ensures.enlisted tried absorbs
-    (subst (λ (l : List (Caller g.row.C.Denot g.row.P.Denot g.row.D.Denot)). HaveComeBack l (map (λ (v : Vec Reply Global). v.items) worked.replies.items) worked.parties.items worked.kept.items) same came)))
-    c.take_all_back.ensures.came
+    let many : length c.args.parties.items ≡ c.args.parties.len = let o = c.args.parties.ok.0 in omega (arith, o) in
+    let own : List (List Reply) = map (λ (v : Vec Reply Global). v.items) c.in_ok-worked.worked.replies.items in
+    subst (λ (n : ℕ). HaveWorked c.args.arcs.now g.P.Pool c.args.blocks.now c.args.ops.now n c.args.pool.now c.take_all_back.new.pool own c.args.kept.items c.args.parties.items c.in_ok-worked.worked.kept.items c.in_ok-worked.worked.parties.items) many
+    (have-worked c.args.arcs.now g.P.Pool c.args.blocks.now c.args.ops.now c.args.pool.now c.take_all_back.new.pool c.args.parties.items c.args.kept.items c.args.forks.items c.in_ok-callers.callers.items c.work_and_feed-fed.new.callers.items
+    own c.in_ok-worked.worked.kept.items c.in_ok-worked.worked.parties.items c.requires.parties c.requires.forks c.in_ok-callers.ensures.enlisted c.work_and_feed-fed.ensures.worked c.take_all_back.ensures.absorbs c.in_ok-worked.ensures.came)
 
--- what the callers asked the device, which has their forks back
-pub returns-clause-read : goal.returns-clause-read
-returns-clause-read g c =
-    let news : List (Caller g.row.C.Denot g.row.P.Denot g.row.D.Denot) = c.work_all.new.callers in
-    let olds : List (Caller g.row.C.Denot g.row.P.Denot g.row.D.Denot) = c.in_ok-callers.callers.items in
-    let asked = subst (λ (l : List (Caller g.row.C.Denot g.row.P.Denot g.row.D.Denot)). AllZip (HasAsked g.D.CacheDev c.args.blocks.now c.args.ops.now) l news) c.deref_mut.ensures.value c.work_all.ensures.asked in
-    let long : c.in_ok-callers.callers.len ≡ length news = let a = c.work_all.auto.callers in let b = c.deref_mut.ensures.len in omega arith in
-    let same = written c.in_ok-callers.callers.len news olds long in
+-- what the callers asked the device, which has their forks back, and the feeds meanwhile
+pub returns-clause-beside : goal.returns-clause-beside
+returns-clause-beside g c =
+    let olds : List (Caller OnHeap g.row.P.Denot g.row.D.Denot) = c.in_ok-callers.callers.items in
+    let news : List (Caller OnHeap g.row.P.Denot g.row.D.Denot) = c.work_and_feed-fed.new.callers.items in
+    let own : List (List Reply) = map (λ (v : Vec Reply Global). v.items) c.in_ok-worked.worked.replies.items in
     let given : List (Option g.row.D.Denot) = c.in_ok-devices.devices.items in
-    let done : List (Option g.row.D.Denot) = map (λ (x : Caller g.row.C.Denot g.row.P.Denot g.row.D.Denot). x.device) news in
-    let count : length given ≡ c.args.parties.len = let a = c.in_ok-devices.ensures.count in let b = c.in_ok-devices.devices.ok.0 in let l = c.len.ensures in let o = c.args.parties.ok.0 in omega arith in
-    IfOk-weaker c.take_all_back.result
-    (λ worked. HaveComeBack (take c.in_ok-callers.callers.len (news ++ drop (length news) olds)) (map (λ (v : Vec Reply Global). v.items) worked.replies.items) worked.parties.items worked.kept.items)
-    (λ worked. HaveRead g.D.CacheDev c.args.blocks.now c.args.ops.now c.args.parties.len (map (λ (v : Vec Reply Global). v.items) worked.replies.items) (lent_in c.args.device.now) (lent_in c.take_all_back.new.device))
-    (λ worked came. record {
+    let done : List (Option g.row.D.Denot) = map (λ (x : Caller OnHeap g.row.P.Denot g.row.D.Denot). x.device) news in
+    let count : length given ≡ c.args.parties.len = let a = c.in_ok-devices.ensures.count in let b = c.in_ok-devices.devices.ok.0 in let l = c.len.ensures in let o = c.args.parties.ok.0 in omega (arith, a, b, l, o) in
+    let read : HaveRead g.D.CacheDev c.args.blocks.now c.args.ops.now c.args.parties.len own (lent_in c.args.device.now) (lent_in c.device_forks.new.device) (lent_in c.work_and_feed-fed.new.device) (lent_in c.take_all_back.new.device) = record {
       forks = given;
       count = count;
-      lent = lent_in c.device_forks.new.device;
       given = c.in_ok-devices.ensures.given;
       done = done;
-      asked = subst (λ (l : List (Option g.row.D.Denot)). AllAsk g.D.CacheDev c.args.blocks.now c.args.ops.now 0 l done (map (λ (v : Vec Reply Global). v.items) worked.replies.items)) c.in_ok-callers.ensures.devices
-          (have-asked c.args.arcs.now g.P.Pool c.args.blocks.now c.args.ops.now g.D.CacheDev c.args.pool.now c.args.parties.items c.args.kept.items c.args.forks.items olds news
-          (map (λ (v : Vec Reply Global). v.items) worked.replies.items) c.requires.parties c.requires.forks c.in_ok-callers.ensures.enlisted asked
-          (subst (λ (l : List (Caller g.row.C.Denot g.row.P.Denot g.row.D.Denot)). HaveComeBack l (map (λ (v : Vec Reply Global). v.items) worked.replies.items) worked.parties.items worked.kept.items) same came).replied);
-      back = subst (λ (l : List (Caller g.row.C.Denot g.row.P.Denot g.row.D.Denot)). TakesForksBack g.D.CacheDev (map (λ caller. caller.device) l) (lent_in c.device_forks.new.device) (lent_in c.take_all_back.new.device)) same c.take_all_back.ensures.back;
-    })
-    c.take_all_back.ensures.came
+      asked = subst (λ (l : List (Option g.row.D.Denot)). AllAsk g.D.CacheDev c.args.blocks.now c.args.ops.now 0 l done own) c.in_ok-callers.ensures.devices
+          (have-asked c.args.arcs.now g.P.Pool c.args.blocks.now c.args.ops.now g.D.CacheDev c.args.pool.now c.args.parties.items c.args.kept.items c.args.forks.items olds news own c.requires.parties c.requires.forks c.in_ok-callers.ensures.enlisted
+          c.work_and_feed-fed.ensures.asked c.in_ok-worked.ensures.came.replied);
+      back = c.take_all_back.ensures.back;
+    } in
+    works-beside dbuf_meanings g.D.CacheDev c.args.arcs.now c.args.blocks.now c.args.ops.now c.args.parties.len own c.in_ok-fed.fed.items c.args.device.now c.device_forks.new.device c.work_and_feed-fed.new.device c.take_all_back.new.device c.args.feeder.now c.work_and_feed-fed.new.feeder
+    c.in_ok-devices.ensures.device
+    (subst (λ (r : Result (Vec Reply Global) NoMemory). IfOk r (λ replies. DoesFeeds dbuf_meanings g.D.CacheDev c.args.arcs.now (filter is_feed c.args.ops.now) replies.items c.device_forks.new.device c.work_and_feed-fed.new.device c.args.feeder.now c.work_and_feed-fed.new.feeder)) c.in_ok-fed.was c.work_and_feed-fed.ensures.fed)
+    c.take_all_back.ensures.device read
+
+-- what was tried, whatever it came to
+pub returns-in_err-devices-clause-tried : goal.returns-in_err-devices-clause-tried
+returns-in_err-devices-clause-tried g c = tries-none dbuf_meanings g.D.CacheDev c.args.arcs.now c.args.ops.now c.args.device.now c.device_forks.new.device c.args.feeder.now c.device_forks.ensures.device
+
+pub returns-in_err-callers-clause-tried : goal.returns-in_err-callers-clause-tried
+returns-in_err-callers-clause-tried g c = tries-none dbuf_meanings g.D.CacheDev c.args.arcs.now c.args.ops.now c.args.device.now c.device_forks.new.device c.args.feeder.now c.in_ok-devices.ensures.device
+
+pub returns-in_err-worked-clause-tried : goal.returns-in_err-worked-clause-tried
+returns-in_err-worked-clause-tried g c =
+    tries-beside dbuf_meanings g.D.CacheDev c.args.arcs.now c.args.ops.now c.args.device.now c.device_forks.new.device c.work_and_feed-fed.new.device c.take_all_back.new.device c.args.feeder.now c.work_and_feed-fed.new.feeder
+    c.in_ok-devices.ensures.device c.work_and_feed-fed.ensures.tried c.take_all_back.ensures.device
+
+pub returns-in_err-fed-clause-tried : goal.returns-in_err-fed-clause-tried
+returns-in_err-fed-clause-tried g c =
+    tries-beside dbuf_meanings g.D.CacheDev c.args.arcs.now c.args.ops.now c.args.device.now c.device_forks.new.device c.work_and_feed-fed.new.device c.take_all_back.new.device c.args.feeder.now c.work_and_feed-fed.new.feeder
+    c.in_ok-devices.ensures.device c.work_and_feed-fed.ensures.tried c.take_all_back.ensures.device
+
+pub returns-clause-tried : goal.returns-clause-tried
+returns-clause-tried g c =
+    tries-beside dbuf_meanings g.D.CacheDev c.args.arcs.now c.args.ops.now c.args.device.now c.device_forks.new.device c.work_and_feed-fed.new.device c.take_all_back.new.device c.args.feeder.now c.work_and_feed-fed.new.feeder
+    c.in_ok-devices.ensures.device c.work_and_feed-fed.ensures.tried c.take_all_back.ensures.device
+
+-- the device may be fed again
+pub returns-in_err-devices-clause-device : goal.returns-in_err-devices-clause-device
+returns-in_err-devices-clause-device g c = lent-fed g.D.CacheDev c.args.arcs.now.config c.args.device.now c.device_forks.new.device c.device_forks.ensures.device c.requires.device
+
+pub returns-in_err-callers-clause-device : goal.returns-in_err-callers-clause-device
+returns-in_err-callers-clause-device g c = lent-fed g.D.CacheDev c.args.arcs.now.config c.args.device.now c.device_forks.new.device c.in_ok-devices.ensures.device c.requires.device
+
+pub returns-in_err-worked-clause-device : goal.returns-in_err-worked-clause-device
+returns-in_err-worked-clause-device g c = lent-fed g.D.CacheDev c.args.arcs.now.config c.work_and_feed-fed.new.device c.take_all_back.new.device c.take_all_back.ensures.device c.work_and_feed-fed.ensures.device
+
+pub returns-in_err-fed-clause-device : goal.returns-in_err-fed-clause-device
+returns-in_err-fed-clause-device g c = lent-fed g.D.CacheDev c.args.arcs.now.config c.work_and_feed-fed.new.device c.take_all_back.new.device c.take_all_back.ensures.device c.work_and_feed-fed.ensures.device
 
 pub returns-clause-device : goal.returns-clause-device
-returns-clause-device g c = lent-then g.D.CacheDev c.args.device.now c.device_forks.new.device c.take_all_back.new.device c.in_ok-devices.ensures.device c.take_all_back.ensures.device
+returns-clause-device g c = lent-fed g.D.CacheDev c.args.arcs.now.config c.work_and_feed-fed.new.device c.take_all_back.new.device c.take_all_back.ensures.device c.work_and_feed-fed.ensures.device
+
+-- and the pool has what it had
+pub returns-in_err-worked-clause-pool : goal.returns-in_err-worked-clause-pool
+returns-in_err-worked-clause-pool g c = absorbed-leaves g.P.Pool (map (λ caller. caller.pool) c.work_and_feed-fed.new.callers.items) c.args.pool.now c.take_all_back.new.pool c.take_all_back.ensures.absorbs
+
+pub returns-in_err-fed-clause-pool : goal.returns-in_err-fed-clause-pool
+returns-in_err-fed-clause-pool g c = absorbed-leaves g.P.Pool (map (λ caller. caller.pool) c.work_and_feed-fed.new.callers.items) c.args.pool.now c.take_all_back.new.pool c.take_all_back.ensures.absorbs
 
 pub returns-clause-pool : goal.returns-clause-pool
-returns-clause-pool g c = absorbed-leaves g.P.Pool (map (λ caller. caller.pool) (take c.in_ok-callers.callers.len (c.work_all.new.callers ++ drop (length c.work_all.new.callers) c.in_ok-callers.callers.items))) c.args.pool.now c.take_all_back.new.pool c.take_all_back.ensures.absorbs
+returns-clause-pool g c = absorbed-leaves g.P.Pool (map (λ caller. caller.pool) c.work_and_feed-fed.new.callers.items) c.args.pool.now c.take_all_back.new.pool c.take_all_back.ensures.absorbs
 
 pub enlist-requires-clause-kept : goal.enlist-requires-clause-kept
 enlist-requires-clause-kept g c κs within =

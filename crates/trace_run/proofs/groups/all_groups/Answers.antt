@@ -2,6 +2,7 @@ use Rattle.std.proofs.Common.{◌<◌, ◌≤◌, length, ap, arith}
 use Rattle.trace_run.specs.callers.Together.{between_groups}
 use Rattle.trace_run.specs.Devices.{lent_in}
 use Rattle.trace_run.proofs.DeviceLemmas.{lent-then}
+use Rattle.trace_run.proofs.callers.BesideLemmas.{lent-fed}
 use Rattle.trace_run.proofs.callers.StepLemmas.{all-stepped, leaves-then, not-stepped, stepped}
 use Rattle.trace_run.proofs.groups.all_groups.Goals as goal
 
@@ -44,3 +45,6 @@ returns-clause-stopped g c = λ restored between.
     let all : length c.args.trace.now.ops ≤ length c.loop-alloc.replies.items =
     let test = c.loop-alloc-test.false in let is = c.len.ensures in let long = c.loop-alloc.replies.ok.0 in omega (arith, test, is, long, ap length c.as_slice.ensures) in
     all-stepped c.args.arcs.now restored g.P.Pool c.args.trace.now (between_groups c.args.pool.now c.args.syncs.group c.args.syncs.next) (between_groups c.loop-alloc.pool c.loop-alloc.syncs.group c.loop-alloc.syncs.next) c.loop-alloc.replies.items c.loop-alloc.crew (c.loop-alloc.invariant.between restored between) all
+
+pub next_group-requires-clause-device : goal.next_group-requires-clause-device
+next_group-requires-clause-device g c κs within = lent-fed g.D.CacheDev c.args.arcs.now.config c.args.device.now c.loop-alloc.device c.loop-alloc.invariant.lent c.requires.device

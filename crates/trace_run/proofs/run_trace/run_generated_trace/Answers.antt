@@ -11,20 +11,24 @@ use Rattle.trace_run.specs.Outcome.{generated, zeros_of}
 use Rattle.trace_run.specs.one_caller.PlainReport.{IsPlainReport}
 use Rattle.trace_run.specs.one_caller.PlainRun.{Images, images, report_of}
 use Rattle.trace_run.specs.Restores.{found_keys}
+use Rattle.trace_run.specs.RunWork.{only_ended, plain_work}
 use Rattle.vdev_io.specs.contracts.device.NoCacheCacheDev.TheImpl as no_cache
 use Rattle.trace_run.proofs.one_caller.LentLemmas.{unlent-calls}
 use Rattle.trace_run.proofs.theorem.GenLemmas.{made-plain, made-report, made-trace, never-failed, none-refused}
 use Rattle.trace_run.proofs.run_trace.run_generated_trace.Goals as goal
 
-pub returns : goal.returns
-returns g c =
+pub returns-clause-status : goal.returns-clause-status
+returns-clause-status g c = c.in_ok-reported.ensures.run.1
+
+pub returns-clause-generated : goal.returns-clause-generated
+returns-clause-generated g c =
     let len : c.new-pool.result.len ≡ c.args.blocks * 512 = c.new-pool.ensures.len ∙ ap (λ n. n * 512) c.from.ensures in
     let trace = c.in_ok-trace.trace in
     let reported = c.in_ok-reported.reported in
     let report = reported.report in
     let drawn = c.in_ok-trace.ensures.drawn in
     let ran = c.in_ok-reported.ensures.run in
-    let run = ran.1 in
+    let run = ran.0 in
     let is : trace ≡ generated c.args.seed c.args.blocks c.args.ops = made-trace c.args.seed c.args.blocks c.args.ops trace drawn in
     let one = run.alone (ap (λ (t : Trace). t.config.callers) is) in
     let alone = one.1 in
@@ -43,9 +47,9 @@ returns g c =
     record {
       plain = ap (λ (r : Report). record r { short = true }) whole;
       answers = subst (λ (t : Trace). AnswersAll (c.args.blocks * 512) (Some (zeros_of c.args.blocks)) t.blocks t.ops report.replies) is answers;
-      explained = subst (λ (x : Trace × Option Rebuilt). Explain x.0 (found_keys x.1) report.replies report.ends report.histories) (λ i. (is i, nothing i)) run.explained;
+      explained = subst (λ (x : Trace × Option Rebuilt). Explain x.0 (found_keys x.1) (plain_work x.0.ops report.replies) report.replies report.ends report.histories) (λ i. (is i, nothing i)) run.explained;
       tells = record { histories = run.tells.histories; ends = run.tells.ends };
       config = run.config ∙ ap (λ (t : Trace). t.config) is;
-      cells = subst (λ (t : Trace). AreCellsOf t reported.closed) is c.in_ok-reported.ensures.cells;
-      status = ran.2 ∙ rw (one.0, fine) refl;
+      cells = subst (λ (t : Trace). AreCellsOf t (only_ended t.config) reported.closed) is c.in_ok-reported.ensures.cells;
+      status = ran.1 ∙ rw (one.0, fine) refl;
     }

@@ -2,10 +2,14 @@
 use Rattle.std.proofs.Common.{◌≡◌, ℕ, List, [], length, sym, subst, arith}
 use Rattle.arc_core.specs.Config.{IsConfig}
 use Rattle.trace_run.specs.Openings.{AllKnow, openings_of}
+use Rattle.trace_run.specs.RunWork.{only_ended}
+use Rattle.trace_run.proofs.CellLemmas.{all-empty}
 use Rattle.trace_run.proofs.theorem.CellRun.{closed-cells}
 use Rattle.trace_run.proofs.callers.GroupRunLemmas.{come-wait, group-together, lines-acts, may-resize}
 use Rattle.trace_run.proofs.callers.GroupsLemmas.{crew-rows, have-started}
+use Rattle.arc_core.specs.declared.config.Config.{Config}
 use Rattle.trace_run.specs.Devices.{lent_in}
+use Rattle.trace_run.specs.Feeds.{MayBeFed}
 use Rattle.trace_run.proofs.callers.DeviceSteps.{read-whole}
 use Rattle.trace_run.proofs.OpenLemmas.{last-knows}
 use Rattle.trace_run.proofs.callers.StepLemmas.{between-begun, first-may}
@@ -51,7 +55,7 @@ close_crew-requires-clause-callers g c =
     (last-knows (openings_of c.args.trace.now) c.in_ok-crew.crew.parties.items c.in_ok-crew.crew.feeder (subst (AllKnow (openings_of c.args.trace.now)) c.in_ok-crew.ensures.parties c.in_ok-arcs.ensures.known))
     (first-may g.P.Pool c.args.pool.now c.first_place.result c.len.result c.first_place.ensures.aligned c.first_place.ensures.inside c.len.ensures) in
     let come = (c.in_ok-crew-3.ensures.stopped c.args.restored.now begun).between.come in
-    (lines-acts c.in_ok-arcs.arcs _ _ _ _ _ _ _ come, come-wait c.in_ok-arcs.arcs _ _ _ _ _ _ _ come)
+    (lines-acts c.in_ok-arcs.arcs _ _ _ _ _ _ _ come, (λ n. []), come-wait c.in_ok-arcs.arcs _ _ _ _ _ _ _ come)
 
 pub close_crew-requires-clause-feeder : goal.close_crew-requires-clause-feeder
 close_crew-requires-clause-feeder g c =
@@ -88,7 +92,7 @@ returns-clause-ran g c =
     let cells = closed-cells c.in_ok-arcs.arcs g.P.Pool c.args.pool.now c.all_groups.new.pool c.first_place.result c.args.trace.now c.requires.formed config (subst IsConfig (sym config) c.requires.formed.config) _ c.args.restored.now _ _ done c.in_ok-closed.closed
     c.in_ok-closed.ensures in
     group-together _ c.in_ok-arcs.arcs g.P.Pool c.args.pool.now c.all_groups.new.pool c.first_place.result c.args.trace.now c.requires.formed config (subst IsConfig (sym config) c.requires.formed.config) _ c.args.restored.now _ _ done c.in_ok-closed.closed
-    c.in_ok-closed.ensures place cells
+    c.in_ok-closed.ensures place cells (all-empty c.in_ok-arcs.arcs c.in_ok-closed.ensures.closing c.in_ok-closed.closed c.in_ok-closed.ensures.ends c.args.trace.now (only_ended c.args.trace.now.config) cells)
 
 pub returns-clause-cells : goal.returns-clause-cells
 returns-clause-cells g c =
@@ -108,3 +112,6 @@ returns-clause-read g c =
     (last-knows (openings_of c.args.trace.now) c.in_ok-crew.crew.parties.items c.in_ok-crew.crew.feeder (subst (AllKnow (openings_of c.args.trace.now)) c.in_ok-crew.ensures.parties c.in_ok-arcs.ensures.known))
     (first-may g.P.Pool c.args.pool.now c.first_place.result c.len.result c.first_place.ensures.aligned c.first_place.ensures.inside c.len.ensures) in
     read-whole g.D.CacheDev c.args.trace.now c.in_ok-crew-3.field-0.replies.items (c.in_ok-crew-3.ensures.stopped c.args.restored.now begun).between.few (lent_in c.args.device.now) (lent_in c.all_groups.new.device) c.in_ok-crew-3.ensures.read
+
+pub all_groups-requires-clause-device : goal.all_groups-requires-clause-device
+all_groups-requires-clause-device g c κs within = subst (λ (x : Config). MayBeFed g.D.CacheDev x c.args.device.now) (sym c.in_ok-arcs.ensures.config) c.requires.device

@@ -1,14 +1,19 @@
-use Rattle.std.proofs.Common.{rules, ◌≡◌, Option, sym, ap, ◌∙◌, subst}
+use Rattle.std.proofs.Common.{rules, ◌≡◌, Option, refl, sym, ap, ◌∙◌, subst}
 use Rattle.trace_text.specs.declared.trace.Trace.{Trace}
 use Rattle.trace_run.specs.Bounded.{device_len, with_bound}
 use Rattle.trace_run.specs.CellEnds.{AreCellsOf}
 use Rattle.trace_run.specs.DeviceUse.{WasUsed}
 use Rattle.trace_run.specs.Devices.{Finds, IsHandedBack, WasLent, device_of, lent_in, usable}
 use Rattle.trace_run.specs.declared.device.Device.{Device}
+use Rattle.trace_run.specs.Feeds.{IsOpenedAt, MayBeFed}
 use Rattle.trace_run.specs.Outcome.{IsRun}
+use Rattle.trace_run.specs.Restores.{found_keys}
+use Rattle.trace_run.specs.RunWork.{only_ended, plain_work}
 use Rattle.trace_run.proofs.DeviceLemmas.{found-kept, lent-back, nothing-lost, usable-kept, usable-lent}
+use Rattle.trace_run.proofs.feeds.StartLemmas.{opened-fed}
 use Rattle.trace_run.proofs.callers.DeviceSteps.{was-used}
 use Rattle.trace_run.proofs.theorem.OutcomeLemmas.{reported-so}
+use Rattle.trace_run.proofs.theorem.WorkLemmas.{cells-plain, plain-work}
 use Rattle.trace_run.proofs.top.run_source.Goals as goal
 
 pub returns-in-Err-clause-does : goal.returns-in-Err-clause-does
@@ -41,7 +46,7 @@ returns-in-Ok-ran-clause-does g c =
       took = search rules;
       unrun = search rules;
       cache = found-kept g.D.CacheDev c.args.cache.now (device_of begun) c.back.result c.in-Ok-begin.begun.rebuilt found back;
-      reported = reported-so g.P.Pool g.D.CacheDev _ _ told.report told.closed c.deliver.result.report c.deliver.result.closed c.deliver.ensures.same (record {
+      reported = reported-so g.P.Pool g.D.CacheDev _ _ _ told.report told.closed c.deliver.result.report c.deliver.result.closed c.deliver.ensures.same (record {
         trace = trace;
         read = c.in-Ok.ensures.read;
         done = c.in-Ok.ensures.done;
@@ -49,12 +54,25 @@ returns-in-Ok-ran-clause-does g c =
         found = subst (Finds g.D.CacheDev c.args.cache.now (device_of begun)) (sym c.in-Ok-ran.ensures.rebuilt) found;
         used = subst (λ (t : Trace). WasUsed g.D.CacheDev t told.report.replies (device_of begun) c.back.result) bounded
             (was-used g.D.CacheDev c.with_bound-trace.result told.report.replies begun c.run_trace-ran.new.device c.back.result c.back.ensures kind lent c.in-Ok-ran.ensures.together);
-        fork_failed = run.0;
-        run = subst (λ (x : Trace × Option g.row.D.Denot × Option g.row.D.Denot). IsRun g.P.Pool g.D.CacheDev c.args.pool.now c.run_trace-ran.new.pool x.1 x.2 x.0 run.0 told.closed told.report) (λ i. (bounded i, before i, after i)) run.1;
-        status = run.2;
+        ending = told.ending;
+        run = subst (λ (x : Trace × Option g.row.D.Denot × Option g.row.D.Denot). IsRun g.P.Pool g.D.CacheDev c.args.pool.now c.run_trace-ran.new.pool x.1 x.2 x.0 told.ending (plain_work x.0.ops told.report.replies) told.closed told.report) (λ i. (bounded i, before i, after i)) run.0;
+        status = run.1;
+        told = c.deliver.ensures.full;
         whole = c.in-Ok-ran.ensures.whole;
-        cells = subst (λ (t : Trace). AreCellsOf t told.closed) bounded c.in-Ok-ran.ensures.cells;
+        work = plain_work trace.ops told.report.replies;
+        did = plain-work trace c.with_bound-trace.result told.ending told.report.replies (ap (λ (t : Trace). t.ops) bounded) c.in-Ok.ensures.done run.0.answers.all;
+        cells = cells-plain (with_bound trace (device_len g.D.CacheDev.size c.args.cache.now)) trace.config refl refl trace.ops told.report.replies told.closed
+            (subst (λ (t : Trace). AreCellsOf t (only_ended t.config) told.closed) bounded c.in-Ok-ran.ensures.cells);
       });
       sink = search rules;
       present = search rules;
     }
+
+pub run_trace-ran-requires-clause-device : goal.run_trace-ran-requires-clause-device
+run_trace-ran-requires-clause-device g c κs within =
+    let trace : Trace = c.in-Ok.trace in
+    let size = device_len g.D.CacheDev.size c.args.cache.now in
+    let bounded : c.with_bound-trace.result ≡ with_bound trace size = c.with_bound-trace.ensures.bounded ∙ ap (with_bound trace) c.device_len.ensures in
+    let begun : Device g.row.D.Denot = c.in-Ok-begin.begun.device in
+    let opened = subst (λ (o : Option g.row.D.Denot). IsOpenedAt g.D.CacheDev (device_len g.D.CacheDev.size o) begun (found_keys c.in-Ok-begin.begun.rebuilt)) c.take.ensures.value c.in-Ok-begin.ensures.opened in
+    subst (λ (t : Trace). MayBeFed g.D.CacheDev t.config begun) (sym bounded) (opened-fed g.D.CacheDev trace size begun (found_keys c.in-Ok-begin.begun.rebuilt) c.in-Ok-begin.ensures.kind opened)

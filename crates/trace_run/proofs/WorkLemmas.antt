@@ -1,0 +1,291 @@
+-- A caller's lines, those on objects among them, each with its work: one after another, and where none of them is on an object.
+use Rattle.std.proofs.Common.{◌≡◌, ℕ, Bool, true, false, List, [], ◌∷◌, ◌++◌, Option, Some, None, Result, Ok, Err, Vec, Global, inl, inr, refl, sym, ap, ◌∙◌, subst, append-nil, append_assoc}
+use Rattle.std.specs.Prelude.{IfOk, IfSome, filter, is_some}
+use Rattle.std.specs.List.{AllByRecursion, list_any}
+use Rattle.std.proofs.lemmas.Bool.{false≢true}
+use Rattle.arc_lists.proofs.Tables.{cases_true}
+use Rattle.blk_ptr.specs.declared.memory.NoMemory.{NoMemory}
+use Rattle.blk_ptr.specs.declared.ptr.Ptr.{Ptr}
+use Rattle.vdev_io.specs.declared.device.CacheDev.{Ghosts as DeviceGhosts}
+use Rattle.vdev_io.specs.declared.pool.Pool.{Ghosts as PoolGhosts}
+use Rattle.vdev_io.specs.Calls.{KeepsPool, MakesCalls}
+use Rattle.arc_core.specs.Config.{IsConfig}
+use Rattle.arc_core.specs.declared.config.Config.{Config}
+use Rattle.arc_core.specs.Operations.{Act}
+use Rattle.arc_table.specs.declared.about.About.{About}
+use Rattle.arc_table.specs.declared.view.Line.{Line as SeenLine}
+use Rattle.arc_table.specs.Geometry.{IsCell}
+use Rattle.arc_table.specs.Reading.{KeepsDevice, Outside}
+use Rattle.dbuf_cells.specs.Places.{cell_of}
+use Rattle.dbuf_cells.specs.Turns.{OnHeap, PartyPlace}
+use Rattle.dbuf_state.specs.declared.oid.Oid.{Oid}
+use Rattle.trace_text.specs.declared.op.Op.{Op}
+use Rattle.trace_text.specs.declared.op.Op.TheVariants as ops
+use Rattle.trace_text.specs.declared.reply.Reply.{Reply}
+use Rattle.trace_run.specs.Acts.{acts_of}
+use Rattle.trace_run.specs.callers.CallerLines.{At, DidLine, DidLines, at}
+use Rattle.trace_run.specs.callers.WorkLines.{AnswersLine, AnswersLines, AreLinesOf, AtWork, DidAll, DidLineBy, DidOps, DidWith, DidWorkLine, acts_of_work, acts_with, at_work, calls_of_lines, effect_with, noted_of_work}
+use Rattle.trace_run.specs.Deeds.{HasToldAll, KeepsCells, Noted}
+use Rattle.trace_run.specs.Effects.{calls_of}
+use Rattle.trace_run.specs.DeviceReads.{LineAsks, LinesAsk}
+use Rattle.trace_run.specs.KeptReads.{KeptRead}
+use Rattle.trace_run.specs.Lines.{caller_of, is_of_caller}
+use Rattle.trace_run.specs.ObjectLines.{DidObjectLine, OnObject, cell_lines, on_object}
+use Rattle.trace_run.specs.ObjectReplies.{AnswersFrom}
+use Rattle.trace_run.specs.Objects.{Line, Work, no_work}
+use Rattle.trace_run.specs.one_caller.OneCaller.{kept_after}
+use Rattle.trace_run.specs.one_caller.OverShards.{AreNamed}
+use Rattle.trace_run.proofs.CapLemmas.{his-some}
+use Rattle.trace_run.proofs.callers.CallerActLemmas.{his-is}
+use Rattle.trace_run.proofs.LinesLemmas.{line-named}
+use Rattle.trace_run.proofs.RunLemmas.{calls-then}
+use Rattle.trace_run.proofs.deeds.MakesLemmas.{keeps-none, keeps-then}
+use Rattle.trace_run.proofs.deeds.ObjectReplies.{object-answers}
+use Rattle.trace_run.proofs.deeds.OperatesDone.{cell-there}
+use Rattle.trace_run.proofs.deeds.ObjectWork.{object-work}
+
+-- ---- whether a line is on an object
+
+pub none-is : {X : Type 0} (o : Option X) → is_some o ≡ false → o ≡ None
+none-is None is = refl
+none-is (Some x) is = absurd (false≢true (sym is))
+
+-- where no operation is on an object, none of those that pass a test is
+pub plain-filter : (test : Op → Bool) (os : List Op) → list_any (λ op. is_some (on_object op)) os ≡ false → AllByRecursion (λ op. on_object op ≡ None) (filter test os)
+plain-filter test [] none = tt
+plain-filter test (o ∷ os) none = elim (cases_true (is_some (on_object o))) [
+  | inl object ↦ absurd (false≢true (sym (rw object at none)))
+  | inr plain ↦ elim (cases_true (test o)) [
+    | inl passes ↦ rw passes (none-is (on_object o) plain, plain-filter test os (rw plain at none))
+    | inr fails ↦ rw fails (plain-filter test os (rw plain at none))
+  ]
+]
+
+module _ {P D : Type 0} (pools : PoolGhosts P) (devices : DeviceGhosts D) (g : Config) (blocks : List Ptr) where
+  -- ---- one line
+
+  module _ (p q : PartyPlace) (before now : Outside P D) where
+    -- one on no object did nothing beside its reply
+    plain-with : (kept then : List KeptRead) (op : Op) (reply : Reply) → on_object op ≡ None → DidLine g pools blocks op reply (at p kept before.pool) (at q then now.pool) → LineAsks devices blocks op reply before.device now.device
+        → DidWith pools devices g blocks op reply (at_work p kept before) (at_work q then now)
+    plain-with kept then op reply plain did asked = (
+      no_work,
+      subst (λ (o : Option OnObject). DidLineBy pools devices g blocks o (record { op = op; reply = reply; work = no_work }) (at_work p kept before) (at_work q then now)) (sym plain) (refl, did, asked),
+    )
+
+    pub plain-ok : (kept then : List KeptRead) (op : Op) (r : Result Reply NoMemory) → on_object op ≡ None → IfOk r (λ reply. DidLine g pools blocks op reply (at p kept before.pool) (at q then now.pool)) → IfOk r (λ reply. LineAsks devices blocks op reply before.device now.device)
+        → IfOk r (λ reply. DidWith pools devices g blocks op reply (at_work p kept before) (at_work q then now))
+    plain-ok kept then op (Ok reply) plain did asked = plain-with kept then op reply plain did asked
+    plain-ok kept then op (Err why) plain did asked = tt
+
+    by-object : (o : Option OnObject) (l : Line) (old new : AtWork P D) → is_some o ≡ true → new.kept ≡ old.kept → DidWorkLine pools devices g blocks old.kept old.outside new.outside old.party new.party l → DidLineBy pools devices g blocks o l old new
+    by-object None l old new some same did = absurd (false≢true some)
+    by-object (Some on) l old new some same did = (same, did)
+
+    -- one on an object did what its call says
+    pub object-ok : (kept : List KeptRead) (op : Op) (r : Result Reply NoMemory) → is_of_caller p.number op ≡ true → is_some (on_object op) ≡ true → KeepsPool pools before.pool now.pool → KeepsDevice devices before.device now.device
+        → IfOk r (DidObjectLine pools devices g before now p q op) → IfOk r (λ reply. DidWith pools devices g blocks op reply (at_work p kept before) (at_work q kept now))
+    object-ok kept op (Ok reply) his some pool device did =
+        let w = object-work pools devices g blocks kept before now p q pool device op reply his did some in
+        (w.0, by-object (on_object op) (record { op = op; reply = reply; work = w.0 }) (at_work p kept before) (at_work q kept now) some refl w.1)
+    object-ok kept op (Err why) his some pool device did = tt
+
+  -- as a line on no object sees it
+  abbrev pub plainly : AtWork P D → At OnHeap P
+  plainly x = at x.party x.kept x.outside.pool
+
+  -- the kept reads still hold the entries of their own blocks
+  by-named : (o : Option OnObject) (l : Line) (a b : AtWork P D) → DidLineBy pools devices g blocks o l a b → AreNamed blocks a.kept → AreNamed blocks b.kept
+  by-named None l a b did named = line-named g pools blocks l.op l.reply (plainly a) (plainly b) named did.1
+  by-named (Some on) l a b did named = subst (AreNamed blocks) (sym did.0) named
+
+  pub with-named : (op : Op) (reply : Reply) (a b : AtWork P D) → DidWith pools devices g blocks op reply a b → AreNamed blocks a.kept → AreNamed blocks b.kept
+  with-named op reply a b did named = by-named (on_object op) (record { op = op; reply = reply; work = did.0 }) a b did.1 named
+
+  by-number : (o : Option OnObject) (l : Line) (a b : AtWork P D) → DidLineBy pools devices g blocks o l a b → b.party.number ≡ a.party.number
+  by-number None l a b did = did.1.did.number
+  by-number (Some on) l a b did = did.1.number
+
+  pub with-number : (op : Op) (reply : Reply) (a b : AtWork P D) → DidWith pools devices g blocks op reply a b → b.party.number ≡ a.party.number
+  with-number op reply a b did = by-number (on_object op) (record { op = op; reply = reply; work = did.0 }) a b did.1
+
+  -- a line on no object is as one always was
+  pub with-plain : (op : Op) (reply : Reply) (a b : AtWork P D) → on_object op ≡ None → DidWith pools devices g blocks op reply a b → DidLine g pools blocks op reply (plainly a) (plainly b)
+  with-plain op reply a b plain did = (subst (λ (o : Option OnObject). DidLineBy pools devices g blocks o (record { op = op; reply = reply; work = did.0 }) a b) plain did.1).1
+
+  -- ---- one line more
+
+  lines-of-more : (os : List Op) (rs : List Reply) (ls : List Line) (l : Line) → AreLinesOf os rs ls → AreLinesOf (os ++ l.op ∷ []) (rs ++ l.reply ∷ []) (ls ++ l ∷ [])
+  lines-of-more [] [] [] l are = (refl, refl, tt)
+  lines-of-more [] [] (x ∷ ls) l are = absurd are
+  lines-of-more [] (r ∷ rs) ls l are = absurd are
+  lines-of-more (o ∷ os) [] ls l are = absurd are
+  lines-of-more (o ∷ os) (r ∷ rs) [] l are = absurd are
+  lines-of-more (o ∷ os) (r ∷ rs) (x ∷ ls) l are = (are.0, are.1, lines-of-more os rs ls l are.2)
+
+  all-more : (ls : List Line) (l : Line) (a b c : AtWork P D) → DidAll pools devices g blocks ls a b → DidLineBy pools devices g blocks (on_object l.op) l b c → DidAll pools devices g blocks (ls ++ l ∷ []) a c
+  all-more [] l a b c did one = (c, subst (λ (x : AtWork P D). DidLineBy pools devices g blocks (on_object l.op) l x c) did one, refl)
+  all-more (x ∷ ls) l a b c did one = (did.0, did.1, all-more ls l did.0 b c did.2 one)
+
+  pub ops-none : (a : AtWork P D) → DidOps pools devices g blocks [] [] a a
+  ops-none a = record { lines = []; are = tt; did = refl }
+
+  pub ops-more : (os : List Op) (rs : List Reply) (op : Op) (reply : Reply) (a b c : AtWork P D) → DidOps pools devices g blocks os rs a b → DidWith pools devices g blocks op reply b c → DidOps pools devices g blocks (os ++ op ∷ []) (rs ++ reply ∷ []) a c
+  ops-more os rs op reply a b c did one =
+      let l : Line = record { op = op; reply = reply; work = one.0 } in
+      record { lines = did.lines ++ l ∷ []; are = lines-of-more os rs did.lines l did.are; did = all-more did.lines l a b c did.did one.1 }
+
+  -- ---- lines on no object
+
+  -- what they came to, and what they asked the device for
+  abbrev pub DidPlain : List Op → List Reply → (a b : AtWork P D) → Type 0
+  DidPlain os rs a b = DidLines g pools blocks os rs (plainly a) (plainly b) × LinesAsk devices blocks os rs a.outside.device b.outside.device
+
+  all-plain : (os : List Op) (rs : List Reply) (ls : List Line) (a b : AtWork P D) → AllByRecursion (λ op. on_object op ≡ None) os → AreLinesOf os rs ls → DidAll pools devices g blocks ls a b → DidPlain os rs a b
+  all-plain [] [] [] a b plain are did = (ap plainly did, ap (λ (x : AtWork P D). x.outside.device) did)
+  all-plain [] [] (l ∷ ls) a b plain are did = absurd are
+  all-plain [] (r ∷ rs) ls a b plain are did = absurd are
+  all-plain (o ∷ os) [] ls a b plain are did = absurd are
+  all-plain (o ∷ os) (r ∷ rs) [] a b plain are did = absurd are
+  all-plain (o ∷ os) (r ∷ rs) (l ∷ ls) a b plain are did =
+      let next = did.0 in
+      let one : DidLineBy pools devices g blocks None l a next = subst (λ (x : Option OnObject). DidLineBy pools devices g blocks x l a next) (ap on_object are.0 ∙ plain.0) did.1 in
+      let rest = all-plain os rs ls next b plain.1 are.2 did.2 in (
+        (plainly next, subst (λ (x : Op × Reply). DidLine g pools blocks x.0 x.1 (plainly a) (plainly next)) (λ i. (are.0 i, are.1 i)) one.1, rest.0),
+        (next.outside.device, subst (λ (x : Op × Reply). LineAsks devices blocks x.0 x.1 a.outside.device next.outside.device) (λ i. (are.0 i, are.1 i)) one.2, rest.1),
+      )
+
+  pub ops-plain : (os : List Op) (a b : AtWork P D) (r : Result (Vec Reply Global) NoMemory) → AllByRecursion (λ op. on_object op ≡ None) os → IfOk r (λ v. DidOps pools devices g blocks os v.items a b) → IfOk r (λ v. DidPlain os v.items a b)
+  ops-plain os a b (Ok v) plain did = all-plain os v.items did.lines a b plain did.are did.did
+  ops-plain os a b (Err why) plain did = tt
+
+-- ---- what all lines come to, whatever device was asked
+
+module _ {P D : Type 0} (pools : PoolGhosts P) (devices : DeviceGhosts D) (g : Config) (blocks : List Ptr) where
+  -- each line is this caller's, whatever it is on
+  abbrev pub AreHis : (n : ℕ) → List Line → Type 0
+  AreHis n = AllByRecursion (λ (l : Line). is_of_caller n l.op ≡ true)
+
+  pub his-lines : (n : ℕ) (os : List Op) (rs : List Reply) (ls : List Line) → AllByRecursion (λ op. caller_of op ≡ Some n) os → AreLinesOf os rs ls → AreHis n ls
+  his-lines n [] [] [] own are = tt
+  his-lines n [] [] (l ∷ ls) own are = absurd are
+  his-lines n [] (r ∷ rs) ls own are = absurd are
+  his-lines n (o ∷ os) [] ls own are = absurd are
+  his-lines n (o ∷ os) (r ∷ rs) [] own are = absurd are
+  his-lines n (o ∷ os) (r ∷ rs) (l ∷ ls) own are = (ap (is_of_caller n) are.0 ∙ his-is n n o own.0 refl, his-lines n os rs ls own.1 are.2)
+
+  -- the reads that are kept then
+  by-kept : (o : Option OnObject) (l : Line) (a b : AtWork P D) → on_object l.op ≡ o → DidLineBy pools devices g blocks o l a b → b.kept ≡ kept_after blocks l.op l.reply a.kept
+  by-kept None l a b is did = did.1.kept
+  by-kept (Some on) l a b is did = did.0 ∙ sym (object-keeps l.op l.reply a.kept on is)
+    where
+      object-keeps : (op : Op) (reply : Reply) (kept : List KeptRead) (on : OnObject) → on_object op ≡ Some on → kept_after blocks op reply kept ≡ kept
+      object-keeps (ops.Get n t at w) reply kept on is = refl
+      object-keeps (ops.Put n t at size fill) reply kept on is = refl
+      object-keeps (ops.Patch n t at from bytes) reply kept on is = refl
+      object-keeps (ops.Pin n t at) reply kept on is = refl
+      object-keeps (ops.Unpin n at) reply kept on is = refl
+      object-keeps (ops.Read n t x window) reply kept on is = refl
+      object-keeps (ops.Hold n t x) reply kept on is = cc
+      object-keeps (ops.Drop n x) reply kept on is = cc
+      object-keeps ops.Feed reply kept on is = refl
+      object-keeps (ops.Txg t) reply kept on is = refl
+      object-keeps (ops.Cap c) reply kept on is = refl
+
+  -- what is told
+  plain-acts : (op : Op) (reply : Reply) (kept : List KeptRead) → on_object op ≡ None → acts_with g blocks kept (record { op = op; reply = reply; work = no_work }) ≡ acts_of blocks kept op reply
+  plain-acts (ops.Read n t x window) reply kept is = refl
+  plain-acts (ops.Hold n t x) reply kept is = refl
+  plain-acts (ops.Drop n x) reply kept is = refl
+  plain-acts ops.Feed reply kept is = refl
+  plain-acts (ops.Txg t) reply kept is = refl
+  plain-acts (ops.Cap c) reply kept is = refl
+  plain-acts (ops.Get n t at w) reply kept is = cc
+  plain-acts (ops.Put n t at size fill) reply kept is = cc
+  plain-acts (ops.Patch n t at from bytes) reply kept is = cc
+  plain-acts (ops.Pin n t at) reply kept is = cc
+  plain-acts (ops.Unpin n at) reply kept is = cc
+
+  by-told : (o : Option OnObject) (l : Line) (a b : AtWork P D) → on_object l.op ≡ o → DidLineBy pools devices g blocks o l a b → (did : List Act) (had : List Noted) → HasToldAll g did had a.party
+      → HasToldAll g (did ++ acts_with g blocks a.kept l) (had ++ l.work.noted) b.party
+  by-told None l a b is d did had told =
+      subst (λ (w : Work). HasToldAll g (did ++ acts_with g blocks a.kept (record { op = l.op; reply = l.reply; work = w })) (had ++ w.noted) b.party) (sym d.0)
+      (subst (λ (x : List Act × List Noted). HasToldAll g (did ++ x.0) x.1 b.party) (λ i. (sym (plain-acts l.op l.reply a.kept is) i, sym (append-nil had) i)) (d.1.did.told did had told))
+  by-told (Some on) l a b is d did had told = d.1.told did had told
+
+  pub all-told : (ls : List Line) (a b : AtWork P D) → DidAll pools devices g blocks ls a b → (did : List Act) (had : List Noted) → HasToldAll g did had a.party
+      → HasToldAll g (did ++ acts_of_work g blocks a.kept ls) (had ++ noted_of_work ls) b.party
+  all-told [] a b d did had told = subst (λ (x : List Act × List Noted × PartyPlace). HasToldAll g x.0 x.1 x.2) (λ i. (sym (append-nil did) i, sym (append-nil had) i, (sym d i).party)) told
+  all-told (l ∷ ls) a b d did had told =
+      let next = d.0 in
+      let rest = all-told ls next b d.2 (did ++ acts_with g blocks a.kept l) (had ++ l.work.noted) (by-told (on_object l.op) l a next refl d.1 did had told) in
+      subst (λ (x : List Act × List Noted). HasToldAll g x.0 x.1 b.party)
+      (λ i. (
+        (append_assoc did (acts_with g blocks a.kept l) (acts_of_work g blocks next.kept ls) ∙ ap (λ (ks : List KeptRead). did ++ (acts_with g blocks a.kept l ++ acts_of_work g blocks ks ls)) (by-kept (on_object l.op) l a next refl d.1)) i,
+        append_assoc had l.work.noted (noted_of_work ls) i,
+      ))
+      rest
+
+  -- what was read of the pool
+  by-calls : (o : Option OnObject) (l : Line) (a b : AtWork P D) → DidLineBy pools devices g blocks o l a b → MakesCalls pools (calls_of (effect_with l.work.brought l.reply)) a.outside.pool b.outside.pool
+  by-calls None l a b d = subst (λ (w : Work). MakesCalls pools (calls_of (effect_with w.brought l.reply)) a.outside.pool b.outside.pool) (sym d.0) d.1.calls
+  by-calls (Some on) l a b d = d.1.calls
+
+  pub all-calls : (ls : List Line) (a b : AtWork P D) → DidAll pools devices g blocks ls a b → MakesCalls pools (calls_of_lines ls) a.outside.pool b.outside.pool
+  all-calls [] a b d = ap (λ (x : AtWork P D). x.outside.pool) d
+  all-calls (l ∷ ls) a b d = calls-then pools (calls_of (effect_with l.work.brought l.reply)) (calls_of_lines ls) a.outside.pool d.0.outside.pool b.outside.pool (by-calls (on_object l.op) l a d.0 d.1) (all-calls ls d.0 b d.2)
+
+  -- what the party keeps and knows
+  by-keeps : (o : Option OnObject) (n : ℕ) (l : Line) (a b : AtWork P D) → is_of_caller n l.op ≡ true → DidLineBy pools devices g blocks o l a b → KeepsCells g a.party b.party × (b.party.joined ≡ a.party.joined) × KeepsPool pools a.outside.pool b.outside.pool
+  by-keeps None n l a b his d = (d.1.did.keeps (his-some n l.op his), d.1.did.joined (his-some n l.op his), d.1.keeps)
+  by-keeps (Some on) n l a b his d = (d.1.keeps, d.1.joined, d.1.pool)
+
+  pub all-keeps : (n : ℕ) (ls : List Line) (a b : AtWork P D) → AreHis n ls → DidAll pools devices g blocks ls a b → KeepsCells g a.party b.party × (b.party.joined ≡ a.party.joined)
+  all-keeps n [] a b his d = subst (λ (x : AtWork P D). KeepsCells g a.party x.party × (x.party.joined ≡ a.party.joined)) (sym d) (keeps-none g a.party, refl)
+  all-keeps n (l ∷ ls) a b his d =
+      let one = by-keeps (on_object l.op) n l a d.0 his.0 d.1 in
+      let rest = all-keeps n ls d.0 b his.1 d.2 in
+      (keeps-then g a.party d.0.party b.party one.0 rest.0, rest.1 ∙ one.1)
+
+  pub all-number : (ls : List Line) (a b : AtWork P D) → DidAll pools devices g blocks ls a b → b.party.number ≡ a.party.number
+  all-number [] a b d = ap (λ (x : AtWork P D). x.party.number) d
+  all-number (l ∷ ls) a b d = all-number ls d.0 b d.2 ∙ by-number pools devices g blocks (on_object l.op) l a d.0 d.1
+
+  -- an answer by a cell that was found stands while more is seen of it
+  still-from : (len : ℕ) (image : Option (List ℕ)) (at : Oid) (op : Op) (reply : Reply) (p q r : PartyPlace) → IsCell g (cell_of g.cells at) → KeepsCells g q r → AnswersFrom g len image p.own.about.openings q.own.seen at op reply
+      → AnswersFrom g len image p.own.about.openings r.own.seen at op reply
+  still-from len image at op reply p q r in_range second f = record {
+    cell = f.cell;
+    sound = f.sound;
+    opening = f.opening;
+    front = let x = f.front in let y = second.fronts (cell_of g.cells at) in_range in (x.0 ++ y.0, y.1 ∙ (ap (λ (l : List SeenLine). l ++ y.0) x.1 ∙ append_assoc (cell_lines f.cell) x.0 y.0));
+    answer = f.answer;
+  }
+
+  by-answer : (o : Option OnObject) (n : ℕ) (l : Line) (a b : AtWork P D) → on_object l.op ≡ o → is_of_caller a.party.number l.op ≡ true → DidLineBy pools devices g blocks o l a b
+      → AnswersLine g (pools.size a.outside.pool) (pools.told a.outside.pool) blocks a.party.own.about.openings b.party.own.seen a.kept o l
+  by-answer None n l a b is his d = d.1.answer
+  by-answer (Some on) n l a b is his d =
+      subst (λ (o : Option OnObject). IfSome o (λ on. AnswersFrom g (pools.size a.outside.pool) (pools.told a.outside.pool) a.party.own.about.openings b.party.own.seen on.at l.op l.reply)) is
+      (object-answers pools devices g a.outside b.outside a.party b.party l.op l.reply his d.1.came)
+
+  still-answers : (valid : IsConfig g) (len : ℕ) (image : Option (List ℕ)) (o : Option OnObject) (l : Line) (kept : List KeptRead) (p q r : PartyPlace) → KeepsCells g q r
+      → AnswersLine g len image blocks p.own.about.openings q.own.seen kept o l → AnswersLine g len image blocks p.own.about.openings r.own.seen kept o l
+  still-answers valid len image None l kept p q r keeps answer = answer
+  still-answers valid len image (Some on) l kept p q r keeps answer = still-from len image on.at l.op l.reply p q r (cell-there g valid on.at) keeps answer
+
+  -- each line has its answer
+  pub all-answers : (valid : IsConfig g) (n : ℕ) (ls : List Line) (a b : AtWork P D) (len : ℕ) (image : Option (List ℕ)) (openings : List (List ℕ)) → pools.size a.outside.pool ≡ len → pools.told a.outside.pool ≡ image → a.party.own.about.openings ≡ openings
+      → a.party.number ≡ n → AreHis n ls → DidAll pools devices g blocks ls a b → AnswersLines g len image blocks openings b.party.own.seen a.kept ls
+  all-answers valid n [] a b len image openings size told opens number his d = tt
+  all-answers valid n (l ∷ ls) a b len image openings size told opens number his d =
+      let next = d.0 in
+      let o = on_object l.op in
+      let one = by-keeps o n l a next his.0 d.1 in
+      let later = (all-keeps n ls next b his.1 d.2).0 in
+      let mine : is_of_caller a.party.number l.op ≡ true = ap (λ (m : ℕ). is_of_caller m l.op) number ∙ his.0 in
+      let here = still-answers valid (pools.size a.outside.pool) (pools.told a.outside.pool) o l a.kept a.party next.party b.party later (by-answer o n l a next refl mine d.1) in
+      let rest = all-answers valid n ls next b len image openings (one.2.size ∙ size) (one.2.told ∙ told) (ap (λ (x : About). x.openings) one.0.about ∙ opens) (by-number pools devices g blocks o l a next d.1 ∙ number) his.1 d.2 in (
+        subst (λ (x : ℕ × Option (List ℕ) × List (List ℕ)). AnswersLine g x.0 x.1 blocks x.2 b.party.own.seen a.kept o l) (λ i. (size i, told i, opens i)) here,
+        subst (λ (ks : List KeptRead). AnswersLines g len image blocks openings b.party.own.seen ks ls) (by-kept o l a next refl d.1) rest,
+      )

@@ -1,0 +1,116 @@
+-- What a line on an object may be answered, by how the cell of its block stood when the line looked at it; and that a party found it so.
+use Rattle.std.specs.Prelude.{◌≡◌, ℕ, ◌+◌, false, List, [], length, Option, slice_index_or}
+use Rattle.blk_ptr.specs.declared.ptr.Ptr.{Ptr}
+use Rattle.arc_core.specs.declared.config.Config.{Config}
+use Rattle.arc_table.specs.declared.view.Line.{Line}
+use Rattle.arc_table.specs.Fronts.{StartsWith, front_of}
+use Rattle.dbuf_cells.specs.Places.{cell_of}
+use Rattle.dbuf_cells.specs.Turns.{OnHeap}
+use Rattle.dbuf_state.specs.Answers.{IsAnswerAfter}
+use Rattle.dbuf_state.specs.Numbers.{opening_numbers}
+use Rattle.dbuf_state.specs.Outline.{Outline, has_pin_at, outline_after}
+use Rattle.dbuf_state.specs.Soundness.{IsSound}
+use Rattle.dbuf_state.specs.declared.event.CellEvent.{CellEvent}
+use Rattle.dbuf_state.specs.declared.oid.Oid.{Oid}
+use Rattle.dbuf_state.specs.declared.state.Mapping.{Mapping}
+use Rattle.dbuf_state.specs.declared.window.Window.{Window}
+use Rattle.trace_text.specs.declared.op.Op.{Op}
+use Rattle.trace_text.specs.declared.op.Op.TheVariants as ops
+use Rattle.trace_text.specs.declared.reply.Refusal.{Refusal}
+use Rattle.trace_text.specs.declared.reply.Refusal.TheVariants as refusals
+use Rattle.trace_text.specs.declared.reply.Reply.{Reply}
+use Rattle.trace_text.specs.declared.reply.Reply.TheVariants as replies
+use Rattle.trace_run.specs.Answers.{IsReadRefusal}
+use Rattle.trace_run.specs.ObjectLines.{EndsInside, WasToBring, cell_lines}
+use Rattle.trace_run.specs.Objects.{AnswersKey, AnswersNoBlock, AnswersRange}
+
+-- over a pool of this length that may tell its bytes, and by a cell with this limit and opening to which this had been done
+module _ (pool_len : ℕ) (image : Option (List ℕ)) (limit : ℕ) (opening : List Mapping) (front : List CellEvent) where
+  -- how the cell stood
+  abbrev pub found : Outline
+  found = outline_after limit opening front
+
+  -- the block's bytes were not there, and were refused
+  abbrev pub FailsAt : Oid → (last : ℕ) → Refusal → Type 0
+  FailsAt at last refusal = (ptr : Ptr) × EndsInside at last found × WasToBring at ptr found × IsReadRefusal pool_len image ptr refusal
+
+  -- Why a line was refused that asks for a block's bytes up to here. In this order: there is no such block; the range ends past it; its key names none of the pool; its bytes were refused.
+  abbrev pub RefusesAt : Oid → (last : ℕ) → Refusal → Type 0
+  RefusesAt at last (refusals.NoBlock named) = AnswersNoBlock at named found
+  RefusesAt at last (refusals.Range end size) = AnswersRange at last end size found
+  RefusesAt at last (refusals.Key why) = EndsInside at last found × AnswersKey pool_len at found (refusals.Key why)
+  RefusesAt at last refusals.PoolFault = FailsAt at last refusals.PoolFault
+  RefusesAt at last (refusals.Mismatch other) = FailsAt at last (refusals.Mismatch other)
+  RefusesAt at last (refusals.NoHold block) = ⊥
+  RefusesAt at last (refusals.NoPin named) = ⊥
+  RefusesAt at last refusals.NoMemory = ⊥
+
+  -- why one was refused that asks for the block alone, and for no range
+  abbrev pub RefusesWhole : Oid → Refusal → Type 0
+  RefusesWhole at (refusals.NoBlock named) = RefusesAt at 0 (refusals.NoBlock named)
+  RefusesWhole at (refusals.Range end size) = ⊥
+  RefusesWhole at (refusals.Key why) = RefusesAt at 0 (refusals.Key why)
+  RefusesWhole at refusals.PoolFault = RefusesAt at 0 refusals.PoolFault
+  RefusesWhole at (refusals.Mismatch other) = RefusesAt at 0 (refusals.Mismatch other)
+  RefusesWhole at (refusals.NoHold block) = ⊥
+  RefusesWhole at (refusals.NoPin named) = ⊥
+  RefusesWhole at refusals.NoMemory = ⊥
+
+  -- why a pin could not be taken back: there was none of this caller's
+  abbrev pub RefusesPin : (n : ℕ) → Oid → Refusal → Type 0
+  RefusesPin n at (refusals.NoPin named) = (named ≡ at) × (has_pin_at n at found ≡ false)
+  RefusesPin n at (refusals.NoBlock named) = ⊥
+  RefusesPin n at (refusals.Range end size) = ⊥
+  RefusesPin n at (refusals.Key why) = ⊥
+  RefusesPin n at refusals.PoolFault = ⊥
+  RefusesPin n at (refusals.Mismatch other) = ⊥
+  RefusesPin n at (refusals.NoHold block) = ⊥
+  RefusesPin n at refusals.NoMemory = ⊥
+
+  -- the answers to a read of a window: the block's size and its bytes there, as some legal replay of what had been done has them
+  abbrev pub AnswersWindow : Oid → Window → Reply → Type 0
+  AnswersWindow at w (replies.Got size shown) = IsAnswerAfter limit opening front at w size shown
+  AnswersWindow at w (replies.Refused refusal) = RefusesAt at (w.at + w.len) refusal
+  AnswersWindow at w replies.Done = ⊥
+  AnswersWindow at w (replies.Read served digest shown) = ⊥
+  AnswersWindow at w (replies.Kept served) = ⊥
+  AnswersWindow at w replies.Dropped = ⊥
+  AnswersWindow at w (replies.Fed report) = ⊥
+  AnswersWindow at w replies.FedNone = ⊥
+  AnswersWindow at w (replies.Synced group blocks bytes) = ⊥
+  AnswersWindow at w (replies.Capped c) = ⊥
+
+  -- The answers to a line that shows nothing: it was done, or refused for such a cause. What was done, the cell's history tells.
+  abbrev pub AnswersDone : (Refusal → Type 0) → Reply → Type 0
+  AnswersDone Why replies.Done = Unit {0}
+  AnswersDone Why (replies.Refused refusal) = Why refusal
+  AnswersDone Why (replies.Got size shown) = ⊥
+  AnswersDone Why (replies.Read served digest shown) = ⊥
+  AnswersDone Why (replies.Kept served) = ⊥
+  AnswersDone Why replies.Dropped = ⊥
+  AnswersDone Why (replies.Fed report) = ⊥
+  AnswersDone Why replies.FedNone = ⊥
+  AnswersDone Why (replies.Synced group blocks bytes) = ⊥
+  AnswersDone Why (replies.Capped c) = ⊥
+
+  -- by the line: no other one is on an object, and a write of a whole block is never refused
+  abbrev pub AnswersObject : Op → Reply → Type 0
+  AnswersObject (ops.Get n t at w) reply = AnswersWindow at w reply
+  AnswersObject (ops.Patch n t at from bytes) reply = AnswersDone (RefusesAt at (from + length bytes)) reply
+  AnswersObject (ops.Pin n t at) reply = AnswersDone (RefusesWhole at) reply
+  AnswersObject (ops.Put n t at size fill) reply = AnswersDone (λ refusal. ⊥) reply
+  AnswersObject (ops.Unpin n at) reply = AnswersDone (RefusesPin n at) reply
+  AnswersObject (ops.Read n t x window) reply = ⊥
+  AnswersObject (ops.Hold n t x) reply = ⊥
+  AnswersObject (ops.Drop n x) reply = ⊥
+  AnswersObject ops.Feed reply = ⊥
+  AnswersObject (ops.Txg t) reply = ⊥
+  AnswersObject (ops.Cap c) reply = ⊥
+
+-- The cell of the block was found so, with the opening with which it began, and the line was answered by it. What is seen of the cell's history goes on from there.
+pub record AnswersFrom (g : Config) (pool_len : ℕ) (image : Option (List ℕ)) (openings : List (List ℕ)) (seen : List (List Line)) (at : Oid) (op : Op) (reply : Reply) : Type 0 where
+  pub cell : OnHeap
+  pub sound : IsSound cell.value
+  pub opening : opening_numbers cell.value.limit cell.value.opening ≡ slice_index_or openings (cell_of g.cells at) []
+  pub front : StartsWith (front_of (cell_of g.cells at) seen) (cell_lines cell)
+  pub answer : AnswersObject pool_len image cell.value.limit cell.value.opening cell.value.history op reply

@@ -1,0 +1,44 @@
+-- Callers that do the lines of a group at once, and beside them the feeder, which has the cache device meanwhile.
+use Rattle.std.specs.Prelude.{◌≤◌, ℕ, List, filter, length}
+use Rattle.blk_ptr.specs.declared.ptr.Ptr.{Ptr}
+use Rattle.vdev_io.specs.declared.device.CacheDev.{Ghosts}
+use Rattle.turn_table.specs.Places.{Place}
+use Rattle.arc_table.specs.declared.view.Known.{Known}
+use Rattle.arc_table.specs.Cache.{Cache}
+use Rattle.arc_table.specs.Items.{Meanings}
+use Rattle.trace_text.specs.declared.op.Op.{Op}
+use Rattle.trace_text.specs.declared.reply.Reply.{Reply}
+use Rattle.trace_run.specs.declared.device.Device.{Device}
+use Rattle.trace_run.specs.Devices.{WasLent, lent_in}
+use Rattle.trace_run.specs.Feeds.{AreFedReplies, FeedDone, MadeFeedsOf, is_feed}
+use Rattle.trace_run.specs.callers.DeviceForks.{HaveRead}
+use Rattle.trace_run.specs.callers.InOrder.{AreInOrder}
+
+module _ {C D : Type 0} (m : Meanings C) (devices : Ghosts D) (cache : Cache) where
+  -- The device was lent to callers; then these feeds were made, by the feeder's party, which was p and is q; and then it took back what was lent.
+  pub record LendsAndFeeds (feeds : List FeedDone) (old new : Device D) (p q : Place (Known C)) : Type 0 where
+    pub lent : Device D
+    pub later : Device D
+    pub gave : WasLent devices old lent
+    pub made : MadeFeedsOf m devices cache feeds lent later p q
+    pub took : WasLent devices later new
+
+  -- so it was of these lines, whatever they came to: there are no more feeds than lines that ask for one
+  pub record TriesBeside (ops : List Op) (old new : Device D) (p q : Place (Known C)) : Type 0 where
+    pub feeds : List FeedDone
+    pub few : length feeds ≤ length (filter is_feed ops)
+    pub used : LendsAndFeeds feeds old new p q
+
+  -- Callers did these lines, and were answered so; the lines `feed` among them are answered by these feeds.
+  pub record WorksBeside (blocks : List Ptr) (ops : List Op) (callers : ℕ) (replies : List (List Reply)) (fed : List Reply) (old new : Device D) (p q : Place (Known C)) : Type 0 where
+    pub feeds : List FeedDone
+    pub used : LendsAndFeeds feeds old new p q
+    pub answered : AreFedReplies (lent_in old) (filter is_feed ops) feeds fed
+    pub read : HaveRead devices blocks ops callers replies (lent_in old) (lent_in used.lent) (lent_in used.later) (lent_in new)
+
+  -- The same by the replies to all these lines in their order.
+  pub record WorksInOrder (blocks : List Ptr) (ops : List Op) (callers : ℕ) (merged : List Reply) (old new : Device D) (p q : Place (Known C)) : Type 0 where
+    pub replies : List (List Reply)
+    pub fed : List Reply
+    pub ordered : AreInOrder ops replies fed merged
+    pub works : WorksBeside blocks ops callers replies fed old new p q
