@@ -26,7 +26,7 @@ use crate::ran::Ending;
 use crate::resizing::resize_joined;
 use crate::syncing::{AfterSync, sync_joined};
 use arc_core::Keeps;
-use arc_table::{Arcs, Party};
+use arc_table::Party;
 use blk_ptr::{NoMemory, Ptr};
 use dbuf_cells::{Cells, HeapCell};
 use std::alloc::Global;
@@ -120,11 +120,11 @@ fn group_end(ops: &[Op], from: usize) -> usize
 
 /// The callers do the lines of a group at once, each on its forks of the pool and of the cache device. The replies, in the order of the lines, come
 /// behind those so far.
-fn lines_at_once<R: Threads + Wait + Sync, C: Keeps + Send, P: Pool, D: CacheDev, G: Gate>(
+fn lines_at_once<R: Threads + Wait + Sync, P: Pool, D: CacheDev, G: Gate>(
     alloc: Global,
     rt: &R,
-    arcs: &Arcs<C>,
-    crew: Crew<C>,
+    arcs: &Cells,
+    crew: Crew<HeapCell>,
     forks: Vec<P>,
     pool: &mut P,
     device: &mut Device<D>,
@@ -132,7 +132,7 @@ fn lines_at_once<R: Threads + Wait + Sync, C: Keeps + Send, P: Pool, D: CacheDev
     ops: &[Op],
     first: u32,
     gate: &G,
-) -> Result<(Crew<C>, Vec<Reply>), NoMemory>
+) -> Result<(Crew<HeapCell>, Vec<Reply>), NoMemory>
     requires start { AreAtStart arcs.now blocks.now 0 crew.kept.items crew.parties.items }
     requires forks { AllByRecursion (IsFork P.Pool pool.old) forks.items }
     requires same { vec_len forks ≡ vec_len crew.parties }
@@ -241,8 +241,10 @@ fn end_line<P: Pool>(
             let AfterSync {
                 feeder,
                 callers,
-                synced,
+                came,
             } = sync_joined(alloc, rt, arcs, feeder, parties, group, t, pool, next)?;
+            // No line makes a block dirty yet, so no sync stops.
+            let Ok(synced) = came else { unreachable!() };
             let crew = Crew {
                 feeder,
                 parties: callers,

@@ -1,8 +1,9 @@
 -- A line that ends a group of several callers: what it leaves of the pool, and of what stands between two groups.
-use Rattle.std.proofs.Common.{◌≡◌, ◌⊎◌, ◌==◌, ℕ, suc, ◌+◌, ◌<◌, Bool, true, false, if◌then◌else◌, List, [], ◌∷◌, ◌++◌, map, Option, Some, None, Ok, refl, sym, ap, ◌∙◌, subst, inl, inr, arith}
+use Rattle.std.proofs.Common.{◌≡◌, ◌⊎◌, ◌==◌, ℕ, suc, ◌+◌, ◌<◌, Bool, true, false, if◌then◌else◌, List, [], ◌∷◌, ◌++◌, map, Option, Some, None, Ok, Err, refl, sym, ap, ◌∙◌, subst, inl, inr, arith}
 use Rattle.std.specs.Prelude.{slice_get, slice_index_or}
 use Rattle.std.specs.List.{AllByRecursion}
 use Rattle.std.specs.Option.{option_map_or}
+use Rattle.std.proofs.lemmas.Bool.{false≢true}
 use Rattle.std.proofs.lemmas.Option.{slice_get_within}
 use Rattle.arc_core.specs.declared.event.Event.{Event}
 use Rattle.arc_table.specs.declared.view.Line.{Line}
@@ -14,9 +15,11 @@ use Rattle.dbuf_state.specs.Numbers.{event_numbers}
 use Rattle.dbuf_state.specs.declared.event.CellEvent.{CellEvent}
 use Rattle.dbuf_state.specs.declared.oid.Oid.{Oid}
 use Rattle.txg_sync.specs.Items.{SyncItem, due_in, dues_from, items_from, need_of, tells_written}
-use Rattle.txg_sync.specs.Syncing.{AnswersWith}
+use Rattle.txg_sync.specs.Syncing.{AnswersWith, AreAllDirty}
 use Rattle.txg_sync.specs.Turns.{synced_in}
 use Rattle.txg_sync.specs.declared.due.Due.{Due}
+use Rattle.txg_sync.specs.declared.syncing.SyncFault.{SyncFault}
+use Rattle.txg_sync.specs.declared.syncing.SyncFault.TheVariants as fault
 use Rattle.txg_sync.specs.declared.syncing.Synced.{Synced as SyncAnswer}
 use Rattle.trace_text.specs.declared.op.Op.{Op}
 use Rattle.trace_text.specs.declared.op.Op.TheVariants as ops
@@ -30,7 +33,7 @@ use Rattle.trace_run.specs.Lines.{caller_of, is_of_caller}
 use Rattle.trace_run.specs.Making.{AreNoEntries}
 use Rattle.trace_run.specs.Meeting.{MadeJoined, resizes_in}
 use Rattle.trace_run.specs.Openings.{Knows}
-use Rattle.trace_run.specs.Syncing.{SyncedJoined, SyncsJoined, inserts_in, lines_of}
+use Rattle.trace_run.specs.Syncing.{SyncedJoined, SyncsJoined, inserts_in, wants_memory}
 use Rattle.trace_run.proofs.syncs.SyncJoined.{none-among, none-dirty-in}
 use Rattle.trace_run.proofs.callers.GroupsLemmas.{EndsSo, cap-ends, sync-ends}
 
@@ -57,8 +60,25 @@ none-from : (i : ℕ) (cs : List OnHeap) → ((k : ℕ) (c : OnHeap) → slice_g
 none-from i [] none = refl
 none-from i (c ∷ cs) none = (λ z. map (due_in i) (none 0 c refl z) ++ none-from (suc i) cs (λ k x at. none (suc k) x at) z)
 
+module _ (cache : Cache) (t : ℕ) (p : PartyPlace) (olds : List PartyPlace) (q : PartyPlace) (news : List PartyPlace) (unwritten : AllByRecursion (λ o. AreNoEntries cache.config o.own.mine) (p ∷ olds)) where
+  -- nothing is dirty
+  none-due : (cells : List OnHeap) (xs : List SyncItem) (dues : List Due) → SyncsJoined cache t p olds q news cells xs → AreAllDirty cells dues → dues ≡ []
+  none-due cells xs dues j dirty = none-among cells dues (none-from 0 cells (λ k c at. none-dirty-in c (j.sound k c at) (j.fresh unwritten.0 unwritten.1 k c at))) dirty
+
+  -- so no sync stops
+  pub never-stopped : {P : Type 0} (pools : Ghosts P) (group next : ℕ) (from to : P) (why : SyncFault) → wants_memory (Err why) ≡ false → SyncedJoined pools cache group t next from to p olds q news (Err why) → ⊥
+  never-stopped pools group next from to fault.PoolFault some f = some-due f.stops.done f.stops.due f.stops.rest (none-due f.stops.cells _ (f.stops.done ++ f.stops.due ∷ f.stops.rest) f.stops.turns f.stops.dirty)
+    where
+      some-due : (done : List Due) (due : Due) (rest : List Due) → done ++ due ∷ rest ≡ [] → ⊥
+      some-due [] due rest is = cc
+      some-due (d ∷ done) due rest is = cc
+  never-stopped pools group next from to (fault.PoolFull need left) some f =
+      let zero_is : need ≡ 0 = f.need_is ∙ ap (need_of f.cells) (none-due f.cells [] f.dues f.turns f.dirty) in
+      omega (arith, zero_is, f.full)
+  never-stopped pools group next from to fault.NoMemory some f = false≢true (sym some)
+
 module _ {P : Type 0} (pools : Ghosts P) (cache : Cache) (openings : List (List ℕ)) (group t next : ℕ) (from to : P) (p : PartyPlace) (olds : List PartyPlace) (q : PartyPlace) (news : List PartyPlace) (done : SyncAnswer) (knows : Knows openings p)
-    (unwritten : AllByRecursion (λ o. AreNoEntries cache.config o.own.mine) (p ∷ olds)) (s : SyncedJoined pools cache group t next from to p olds q news done) where
+    (unwritten : AllByRecursion (λ o. AreNoEntries cache.config o.own.mine) (p ∷ olds)) (s : SyncedJoined pools cache group t next from to p olds q news (Ok done)) where
   abbrev xs : List SyncItem
   xs = items_from group next s.cells s.dues
 
@@ -69,13 +89,31 @@ module _ {P : Type 0} (pools : Ghosts P) (cache : Cache) (openings : List (List 
   unused-cell = j.fresh unwritten.0 unwritten.1
 
   none : s.dues ≡ []
-  none = none-among s.cells s.dues (none-from 0 s.cells (λ k c at. none-dirty-in c (j.sound k c at) (unused-cell k c at))) s.dirty
+  none = none-due cache t p olds q news unwritten s.cells xs s.dues j s.dirty
 
   nothing : xs ≡ []
   nothing = ap (items_from group next s.cells) none
 
   pub sync-made : MadeJoined cache (λ shard. []) p olds q news
-  sync-made = subst (λ (l : List SyncItem). MadeJoined cache (inserts_in cache.config t l) p olds q news) nothing j.made
+  sync-made = record {
+    lines = j.lines;
+    parted = j.parted;
+    level = j.level;
+    number = j.number;
+    about = j.about;
+    alone = j.alone;
+    stands = j.stands;
+    front = j.front;
+    seen = λ shard. j.seen shard ∙ ap (λ (l : List SyncItem). j.front shard ++ inserts_in cache.config t l shard (j.front shard)) nothing;
+    own = j.own;
+    others = j.others;
+    since = j.since;
+    only = j.only nothing;
+    entries = j.entries nothing;
+    settled = j.settled;
+    one = j.one;
+    same = j.same;
+  }
 
   pub sync-unused : IsUnused pools from to
   sync-unused = record {

@@ -93,7 +93,7 @@ module _ (g : Config) where
       ∙ (sym (events-acts (with_number c (events_there g shard (e ∷ []))) (with_number c (events_there g shard es)))
       ∙ ap acts_of_events (sym (ap (with_number c) (there-append g shard (e ∷ []) es) ∙ filter-append _ (events_there g shard (e ∷ [])) (events_there g shard es)))))
 
-all-both : {A : Type 0} (P : A → Type 0) (xs ys : List A) → AllByRecursion P xs → AllByRecursion P ys → AllByRecursion P (xs ++ ys)
+pub all-both : {A : Type 0} (P : A → Type 0) (xs ys : List A) → AllByRecursion P xs → AllByRecursion P ys → AllByRecursion P (xs ++ ys)
 all-both P [] ys a b = b
 all-both P (x ∷ xs) ys a b = (a.0, all-both P xs ys a.1 b)
 

@@ -1,5 +1,5 @@
 -- Several callers between two groups of a trace: what all lines so far came to.
-use Rattle.std.specs.Prelude.{◌≡◌, ◌⊎◌, ◌<◌, ◌≤◌, ◌+◌, ◌%◌, ◌^◌, ℕ, suc, Bool, true, false, List, [], Option, Some, None, count_by, filter, length, map, slice_get, slice_index_or, take}
+use Rattle.std.specs.Prelude.{◌≡◌, ◌⊎◌, ◌<◌, ◌≤◌, ◌+◌, ◌%◌, ◌^◌, ℕ, suc, Bool, true, false, List, [], Ok, Option, Some, None, count_by, filter, length, map, slice_get, slice_index_or, take}
 use Rattle.std.specs.List.{AllByRecursion}
 use Rattle.blk_ptr.specs.Size.{sector}
 use Rattle.blk_ptr.specs.declared.ptr.Ptr.{Ptr}
@@ -135,7 +135,7 @@ pub record DidCap {C P : Type 0} (cache : Cache) (c : ℕ) (from to : BetweenGro
 pub record DidSync {P : Type 0} (cache : Cache) (pools : Ghosts P) (t : ℕ) (from to : BetweenGroups P) (old new : Crew OnHeap) (reply : Reply) : Type 0 where
   pub done : SyncAnswer
   pub answer : reply ≡ Synced from.group done.blocks done.bytes
-  pub synced : SyncedJoined pools cache from.group t from.next from.pool to.pool old.feeder old.parties.items new.feeder new.parties.items done
+  pub synced : SyncedJoined pools cache from.group t from.next from.pool to.pool old.feeder old.parties.items new.feeder new.parties.items (Ok done)
   pub group : to.group ≡ suc from.group
   pub next : to.next ≡ done.next
 
