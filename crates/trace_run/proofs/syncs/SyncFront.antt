@@ -56,7 +56,7 @@ written-from group place m cells (due ∷ dues) image low inside =
     record { long = rest.long ∙ long; front = rest.front ∙ put-front place m bytes image low here }
 
 need-more : (cells : List OnHeap) (done rest : List Due) → need_of cells (done ++ rest) ≡ need_of cells done + need_of cells rest
-need-more cells [] rest = refl
+need-more cells [] rest = omega arith
 need-more cells (due ∷ done) rest = let r = need-more cells done rest in omega (arith, r)
 
 -- a count that rose by one has not fallen, as far as a count goes

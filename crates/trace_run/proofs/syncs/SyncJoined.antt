@@ -100,8 +100,10 @@ below-from i (c ∷ cs) =
 module _ (g : Config) (cells : List OnHeap) (all : length cells ≡ g.cells) where
   dues-inside : (dues : List Due) → AreAllDirty cells dues → AllByRecursion (λ due. IsCell g due.cell) dues
   dues-inside dues dirty =
+      let z : 0 + length cells ≡ length cells = omega arith in
+      let below = subst (λ (n : ℕ). AllByRecursion (λ due. due.cell < n) (dues_from 0 cells)) z (below-from 0 cells) in
       subst (λ (n : ℕ). AllByRecursion (λ due. due.cell < n) dues) all
-      (recursion_from_All (λ due. due.cell < length cells) dues (All-permutation (λ due. due.cell < length cells) (dues_from 0 cells) dues dirty.all (All-from_recursion (λ due. due.cell < length cells) (dues_from 0 cells) (below-from 0 cells))))
+      (recursion_from_All (λ due. due.cell < length cells) dues (All-permutation (λ due. due.cell < length cells) (dues_from 0 cells) dues dirty.all (All-from_recursion (λ due. due.cell < length cells) (dues_from 0 cells) below)))
 
   front-inside : (done rest : List Due) → AllByRecursion (λ due. IsCell g due.cell) (done ++ rest) → AllByRecursion (λ due. IsCell g due.cell) done
   front-inside [] rest each = tt
@@ -169,7 +171,7 @@ module _ (cache : Cache) (p : PartyPlace) (others : List PartyPlace) (stands : S
       abbrev t : HasTaken g stands.valid 0 cells q s.taken
       t = taken g stands.valid tick cells xs q r stood.of.config low stood.seen has-all stood.cells s inside
 
-      wrote : HasInserted g stands.valid tick xs s.taken s.reached
+      abbrev wrote : HasInserted g stands.valid tick xs s.taken s.reached
       wrote = inserts g stands.valid tick cells xs q r stood.of.config low stood.seen has-all stood.cells s inside
 
       then : HasEndedSome g wrote.events q r
@@ -214,8 +216,9 @@ module _ (cache : Cache) (p : PartyPlace) (others : List PartyPlace) (stands : S
         inserts = wrote.events;
         are = λ shard. wrote.are shard ∙ ap (inserts_in g tick xs shard) (t.quiet.shards shard);
         told = λ did noted before.
-            told-synced g did noted wrote.events xs p.number q r (sym met.number) then.number low wrote.kinds then.own
-            (synced-made g stands.valid tick cells xs q r stood.of.config low stood.seen has-all stood.cells s inside) (synced-cells g stands.valid tick cells xs q r stood.of.config low stood.seen has-all stood.cells s inside) (met-told did noted before);
+            let h = told-synced g did noted wrote.events xs p.number q r (sym met.number) then.number low wrote.kinds then.own
+            (synced-made g stands.valid tick cells xs q r stood.of.config low stood.seen has-all stood.cells s inside) (synced-cells g stands.valid tick cells xs q r stood.of.config low stood.seen has-all stood.cells s inside) (met-told did noted before) in
+            record { acts = h.acts; cells = h.cells; kinds = h.kinds; entries = h.entries };
         only = λ nothing only. record {
           events = subst (λ (x : ℕ × List Mine). AreSeen g x.0 x.1 r.own.seen) (λ k. (sym (then.number ∙ met.number) k, sym (still-mine nothing) k))
               (own-seen-more g p.number p.own.mine q.own.seen r.own.seen then.starts (own-seen-more g p.number p.own.mine p.own.seen q.own.seen met.self.starts only.events));

@@ -19,6 +19,8 @@ use Rattle.arc_table.specs.Seen.{seen_of, turn_of}
 use Rattle.arc_table.specs.Telling.{opening_of}
 use Rattle.arc_table.specs.Told.{IsTold}
 use Rattle.dbuf_cells.specs.Turns.{PartyPlace}
+use Rattle.dbuf_state.specs.declared.event.CellEvent.{CellEvent}
+use Rattle.dbuf_state.specs.declared.event.CellEvent.TheVariants.{Synced as WasSynced}
 use Rattle.txg_sync.specs.Items.{SyncItem}
 use Rattle.txg_sync.specs.Turns.{synced_in}
 use Rattle.trace_run.specs.Deeds.{HasAct, HasToldAll, Noted, act_of_event, acts_of_events, events_of_cell, events_there, lines_of_cell, with_number}
@@ -91,7 +93,7 @@ module _ (g : Config) where
   noted-there : (n i : ℕ) (xs : List SyncItem) → events_of_cell i (noted_of n xs) ≡ synced_in n i xs
   noted-there n i [] = refl
   noted-there n i (x ∷ xs) = elim (cases_true (x.due.cell == i)) [
-    | inl here ↦ rw here (ap (λ l. _ ∷ l) (noted-there n i xs))
+    | inl here ↦ rw here (ap (λ (l : List CellEvent). WasSynced n x.due.at x.ptr ∷ l) (noted-there n i xs))
     | inr other ↦ rw other (noted-there n i xs)
   ]
 

@@ -140,7 +140,13 @@ module _ (g : Config) (valid : IsConfig g) (tick : ℕ) (cells : List OnHeap) (x
 
   pub synced-cells : (i : ℕ) → IsCell g i → made_of i r ≡ made_of i p ++ lines_of (synced_in p.number i xs)
   synced-cells i in_range =
-      given.news_made (λ j. synced_in p.number j xs) (have-news 0 cells s.afters many (λ k d below. (s.synced k d below).history)) i (let e = s.all in let f = s.count in omega (arith, in_range, e, f))
+      let z : 0 + i ≡ i = omega arith in
+      subst (λ (n : ℕ). made_of n r ≡ made_of n s.reached ++ lines_of (synced_in p.number n xs)) z
+      (given.news_made (λ j. synced_in p.number j xs)
+      (have-news 0 cells s.afters many (λ k d below.
+          let y : k ≡ 0 + k = omega arith in
+          (s.synced k d below).history ∙ ap (λ (n : ℕ). (slice_index_or cells k d).value.history ++ synced_in p.number n xs) y))
+      i (let e = s.all in let f = s.count in omega (arith, in_range, e, f)))
       ∙ ap (λ (l : List Line). l ++ lines_of (synced_in p.number i xs)) (inserts.cells_made i in_range ∙ taken.mades i)
 
   -- where there is no block, it made nothing
