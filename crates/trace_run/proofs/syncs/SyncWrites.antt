@@ -144,8 +144,8 @@ module _ (g : Config) (valid : IsConfig g) (tick : ℕ) (cells : List OnHeap) (x
       subst (λ (n : ℕ). made_of n r ≡ made_of n s.reached ++ lines_of (synced_in p.number n xs)) z
       (given.news_made (λ j. synced_in p.number j xs)
       (have-news 0 cells s.afters many (λ k d below.
-          let y : k ≡ 0 + k = omega arith in
-          (s.synced k d below).history ∙ ap (λ (n : ℕ). (slice_index_or cells k d).value.history ++ synced_in p.number n xs) y))
+      let y : k ≡ 0 + k = omega arith in
+      (s.synced k d below).history ∙ ap (λ (n : ℕ). (slice_index_or cells k d).value.history ++ synced_in p.number n xs) y))
       i (let e = s.all in let f = s.count in omega (arith, in_range, e, f)))
       ∙ ap (λ (l : List Line). l ++ lines_of (synced_in p.number i xs)) (inserts.cells_made i in_range ∙ taken.mades i)
 
