@@ -19,6 +19,8 @@ use Rattle.trace_text.specs.declared.trace.Trace.{Trace}
 use Rattle.trace_run.specs.Acts.{acts_of_callers}
 use Rattle.trace_run.specs.Effects.{calls_of_all}
 use Rattle.trace_run.specs.Ends.{ends_of}
+use Rattle.trace_run.specs.FeedEvents.{AreFeedsTold}
+use Rattle.trace_run.specs.Feeds.{FeedDone}
 use Rattle.arc_table.specs.Telling.{opening_of}
 use Rattle.trace_run.specs.KeptBlocks.{holds_in}
 use Rattle.trace_run.specs.Lines.{is_in_shard, is_of_caller, replies_where}
@@ -44,8 +46,8 @@ EndsWith history es = (front : List Event) × (history ≡ front ++ es)
 abbrev pub BeginsWith : List Event → List Event → Type 0
 BeginsWith history es = (rest : List Event) × (history ≡ es ++ rest)
 
--- The histories explain the replies, for any number of callers and shards, where these keys were found on the cache device.
-pub record Explain (trace : Trace) (restored : List Restored) (replies : List Reply) (shard_ends : List ShardEnd) (histories : List (List Event)) : Type 0 where
+-- The histories explain the replies, for any number of callers and shards, where these keys were found on the cache device and these feeds were made.
+pub record Explain (trace : Trace) (restored : List Restored) (replies : List Reply) (feeds : List FeedDone) (shard_ends : List ShardEnd) (histories : List (List Event)) : Type 0 where
   -- each shard has a history, by its number, which is legal from the shard's start
   pub shards : length histories ≡ trace.config.shards
   pub legal : AllByRecursion (λ history. IsTrue (is_legal_history (opening_of trace.config) history)) histories
@@ -54,10 +56,12 @@ pub record Explain (trace : Trace) (restored : List Restored) (replies : List Re
   pub at_rest : AllByRecursion (λ history. IsAtRest (replay (opening_of trace.config) history)) histories
   -- each begins with the restores of its keys, in the order in which they were found
   pub begins : (shard : ℕ) → shard < length histories → BeginsWith (slice_index_or histories shard []) (restores_in trace.config restored shard)
-  -- each call of each caller stands once in the history of its key's shard, in the order of the lines; the feeder made these restores, then one
-  -- Resize in each for each capacity that the trace gives, in the order of the lines, and nothing else
+  -- the feeds are those that are told, each by its acts
+  pub fed : AreFeedsTold trace.config trace.ops replies feeds
+  -- each call of each caller stands once in the history of its key's shard, in the order of the lines; the feeder made these restores, then, in the order of
+  -- the lines, the events of each feed and one Resize in each for each capacity that the trace gives, and nothing else
   pub every_call : HoldEveryCallOnce trace.config (shard_of trace.config.shards) (opening_of trace.config)
-      (acts_of_callers trace.blocks trace.config.callers trace.ops replies) (events_by_feeder trace.config restored trace.ops replies) histories
+      (acts_of_callers trace.blocks trace.config.callers trace.ops replies) (events_by_feeder trace.config restored trace.ops replies feeds) histories
   -- each history ends with the drops at the end of the run
   pub ending : (shard : ℕ) → shard < length histories
       → EndsWith (slice_index_or histories shard []) (drops_at_end trace.config trace.blocks shard trace.config.callers trace.ops replies)

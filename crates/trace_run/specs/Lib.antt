@@ -12,6 +12,7 @@ pub mod Devices
 pub mod Effects
 pub mod Ends
 pub mod Explaining
+pub mod FeedEvents
 pub mod Feeds
 pub mod KeptBlocks
 pub mod KeptQueue

@@ -1,9 +1,9 @@
 -- Several callers between groups: what one group more adds to what they have come to, and a line that ends it.
 use Rattle.std.proofs.Common.{◌≡◌, ℕ, zero, suc, ◌+◌, ◌==◌, ◌<◌, ◌≤◌, nat_lt, Bool, true, false, if◌then◌else◌, List, [], ◌∷◌, ◌++◌, Option, Some, None, length, map, take, refl, sym, ap, ◌∙◌, subst, inl, inr, arith, append-nil, append_assoc, length-append, eq-eqb, ◌-◌}
-use Rattle.std.specs.Prelude.{filter, slice_get}
+use Rattle.std.specs.Prelude.{◌⊎◌, filter, slice_get}
 use Rattle.std.specs.List.{AllByRecursion}
 use Rattle.std.specs.Option.{option_map_or}
-use Rattle.std.proofs.lemmas.Bool.{cases_lt}
+use Rattle.std.proofs.lemmas.Bool.{cases_lt, false≢true}
 use Rattle.std.proofs.lemmas.Bool.Decides.{nat_tests}
 use Rattle.std.proofs.lemmas.List.{take-append-le}
 use Rattle.std.proofs.lemmas.List.Elements.{filter-append}
@@ -36,9 +36,12 @@ use Rattle.trace_text.specs.declared.reply.Reply.{Reply}
 use Rattle.trace_text.specs.declared.reply.Reply.TheVariants.{Capped, Synced}
 use Rattle.trace_run.specs.declared.groups.Crew.{Crew}
 use Rattle.trace_run.specs.declared.kept_blocks.KeptBlock.{KeptBlock}
-use Rattle.trace_run.specs.Acts.{acts_of, acts_of_all, acts_of_lines, events_of_feeder, events_of_feeds}
+use Rattle.trace_run.specs.Acts.{acts_of, acts_of_all, acts_of_lines, events_of_feeder}
+use Rattle.trace_run.specs.FeedEvents.{AreFeedsTold, events_of_lines, events_of_made, feeds_told}
+use Rattle.trace_run.specs.Feeds.{FeedDone, is_feed}
 use Rattle.trace_run.specs.callers.Group.{HasWorked}
-use Rattle.trace_run.specs.callers.Groups.{AreEndLines, AreOfCallers, ComesAt, DidLinesAtOnce, HaveCome, IsEndLine, KeepNothing}
+use Rattle.trace_run.specs.callers.Groups.{AreEndLines, ComesAt, DidLinesAtOnce, HaveCome, IsEndLine, KeepNothing}
+use Rattle.trace_run.specs.callers.InOrder.{AreInGroup}
 use Rattle.trace_run.specs.KeptBlocks.{read_of}
 use Rattle.trace_run.specs.KeptReads.{KeptRead}
 use Rattle.trace_run.specs.Lines.{caller_of, is_of_caller, replies_where}
@@ -49,6 +52,7 @@ use Rattle.trace_run.specs.Opened.{AreOpened, IsOpened}
 use Rattle.trace_run.specs.Tally.{AreAnswered}
 use Rattle.trace_run.specs.callers.Together.{AreCut, BeginsGroup, IsCut, GroupLines, ends_group, groups_of, replies_of_caller, with_first}
 use Rattle.trace_run.proofs.FeederLemmas.{own-restores}
+use Rattle.trace_run.proofs.feeds.FedLemmas.{HasFedMore, as-told, group-made, lines-append, lines-enough, one-asked, told-front, told-still, told-then}
 use Rattle.trace_run.proofs.callers.MeetLemmas.{parted-waits, same-own-events, starts-then}
 use Rattle.trace_run.proofs.OpenLemmas.{new-seen}
 use Rattle.trace_run.proofs.callers.TogetherLemmas.{answered-length}
@@ -102,23 +106,6 @@ module _ (blocks : List Ptr) where
   answers-append len image kept (o ∷ os) qs [] ss first rest = absurd first
   answers-append len image kept (o ∷ os) qs (r ∷ rs) ss first rest = (first.0, answers-append len image (kept_after blocks o r kept) os qs rs ss first.1 rest)
 
-pub feeds-append : (n : ℕ) (os qs : List Op) (rs ss : List Reply) → length rs ≡ length os → events_of_feeds n (os ++ qs) (rs ++ ss) ≡ events_of_feeds n os rs ++ events_of_feeds n qs ss
-feeds-append n [] qs [] ss same = refl
-feeds-append n [] qs (r ∷ rs) ss same = absurd (omega arith)
-feeds-append n (o ∷ os) qs [] ss same = absurd (omega arith)
-feeds-append n (o ∷ os) qs (r ∷ rs) ss same =
-    ap (λ (l : List Event). events_of_feeder n o ++ l) (feeds-append n os qs rs ss (omega (arith, same))) ∙ sym (append_assoc (events_of_feeder n o) (events_of_feeds n os rs) (events_of_feeds n qs ss))
-
--- a caller's lines ask nothing of the feeder
-none-fed : (n callers : ℕ) (os : List Op) (rs : List Reply) → AreOfCallers callers os → events_of_feeds n os rs ≡ []
-none-fed n callers [] rs own = refl
-none-fed n callers (o ∷ os) [] own = refl
-none-fed n callers (o ∷ os) (r ∷ rs) own = go o (own 0 o refl).0 (own 0 o refl).1 (none-fed n callers os rs (λ k op at. own (suc k) op at))
-  where
-    go : (o : Op) (m : ℕ) → caller_of o ≡ Some m → events_of_feeds n os rs ≡ [] → events_of_feeder n o ++ events_of_feeds n os rs ≡ []
-    go (ops.Cap c) m of rest = cc
-    go other m of rest = rest
-
 -- a line that ends a group is no caller's
 ends-nobody : (op : Op) → ends_group op ≡ true → caller_of op ≡ None
 ends-nobody (ops.Read n t x window) is = cc
@@ -131,19 +118,26 @@ ends-nobody (ops.Pin n t at) is = cc
 ends-nobody (ops.Unpin n at) is = cc
 ends-nobody other is = refl
 
--- the lines of a group are all some caller's
-pub no-other : (callers : ℕ) (os : List Op) → AreOfCallers callers os → (k : ℕ) (op : Op) → slice_get os k ≡ Some op → caller_of op ≡ None → ⊥
-no-other callers os own k op at none = let of = (own k op at).1 in some-none (sym of ∙ none)
-  where
-    some-none : {n : ℕ} → ◌≡◌ {A = Option ℕ} (Some n) None → ⊥
-    some-none is = cc
+-- and asks for no feed
+ends-unfed : (op : Op) → ends_group op ≡ true → is_feed op ≡ false
+ends-unfed (ops.Read n t x window) is = refl
+ends-unfed (ops.Hold n t x) is = refl
+ends-unfed (ops.Drop n x) is = refl
+ends-unfed (ops.Get n t at window) is = refl
+ends-unfed (ops.Put n t at size fill) is = refl
+ends-unfed (ops.Patch n t at from bytes) is = refl
+ends-unfed (ops.Pin n t at) is = refl
+ends-unfed (ops.Unpin n at) is = refl
+ends-unfed ops.Feed is = absurd (false≢true is)
+ends-unfed (ops.Txg t) is = refl
+ends-unfed (ops.Cap c) is = refl
 
 -- ---- what is cut stays cut
 
 module _ (config : Config) (restored : List Restored) (blocks : List Ptr) (shard : ℕ) where
   -- behind what the feeder had seen
-  pub cut-more : (os : List Op) (rs : List Reply) (here h g : List Event) → StartsWith g h → IsCut config restored blocks shard os rs here h → IsCut config restored blocks shard os rs here g
-  cut-more os rs here h g starts cut = record {
+  pub cut-more : (os : List Op) (rs : List Reply) (fs : List FeedDone) (here h g : List Event) → StartsWith g h → IsCut config restored blocks shard os rs fs here h → IsCut config restored blocks shard os rs fs here g
+  cut-more os rs fs here h g starts cut = record {
     front = cut.front;
     rest = cut.rest ++ starts.0;
     whole = starts.1
@@ -152,22 +146,33 @@ module _ (config : Config) (restored : List Restored) (blocks : List Ptr) (shard
     feeder = cut.feeder;
   }
 
-  pub are-cut-more : (os : List Op) (rs : List Reply) (h g : List Event) → StartsWith g h → AreCut config restored blocks shard os rs h → AreCut config restored blocks shard os rs g
-  are-cut-more os rs h g starts cut k op at ends below = cut-more (take k os) (take k rs) (events_of_feeder config.callers op) h g starts (cut k op at ends below)
+  pub are-cut-more : (os : List Op) (rs : List Reply) (fs : List FeedDone) (h g : List Event) → StartsWith g h → AreCut config restored blocks shard os rs fs h → AreCut config restored blocks shard os rs fs g
+  are-cut-more os rs fs h g starts cut k op at ends below = cut-more (take k os) (take k rs) fs (events_of_feeder config.callers op) h g starts (cut k op at ends below)
+
+  -- where more feeds were made
+  cut-fed : (os : List Op) (rs : List Reply) (fs gs : List FeedDone) (here h : List Event) → feeds_told os rs ≤ length fs → IsCut config restored blocks shard os rs fs here h → IsCut config restored blocks shard os rs (fs ++ gs) here h
+  cut-fed os rs fs gs here h few cut = record {
+    front = cut.front;
+    rest = cut.rest;
+    whole = cut.whole;
+    callers = cut.callers;
+    feeder = cut.feeder ∙ ap (λ (l : List Event). restores_in config restored shard ++ l) (sym (lines-enough config shard os rs fs gs few));
+  }
 
   -- by lines that stand before others
-  pub cut-before : (os qs : List Op) (rs ss : List Reply) (h : List Event) → length rs ≡ length os → AreCut config restored blocks shard os rs h
+  pub cut-before : (os qs : List Op) (rs ss : List Reply) (fs gs : List FeedDone) (h : List Event) → length rs ≡ length os → feeds_told os rs ≤ length fs → AreCut config restored blocks shard os rs fs h
       → (k : ℕ) (op : Op) → slice_get (os ++ qs) k ≡ Some op → ends_group op ≡ true → k < length os
-      → IsCut config restored blocks shard (take k (os ++ qs)) (take k (rs ++ ss)) (events_of_feeder config.callers op) h
-  cut-before os qs rs ss h same cut k op at ends below =
-      subst (λ (x : List Op × List Reply). IsCut config restored blocks shard x.0 x.1 (events_of_feeder config.callers op) h) (λ i. (sym (take-append-le k os qs (omega (arith, below))) i, sym (take-append-le k rs ss (omega (arith, below, same))) i))
-      (cut k op (sym (get-left os qs k below) ∙ at) ends (omega (arith, below, same)))
+      → IsCut config restored blocks shard (take k (os ++ qs)) (take k (rs ++ ss)) (fs ++ gs) (events_of_feeder config.callers op) h
+  cut-before os qs rs ss fs gs h same told cut k op at ends below =
+      subst (λ (x : List Op × List Reply). IsCut config restored blocks shard x.0 x.1 (fs ++ gs) (events_of_feeder config.callers op) h) (λ i. (sym (take-append-le k os qs (omega (arith, below))) i, sym (take-append-le k rs ss (omega (arith, below, same))) i))
+      (cut-fed (take k os) (take k rs) fs gs (events_of_feeder config.callers op) h (omega (arith, told, told-front k os rs)) (cut k op (sym (get-left os qs k below) ∙ at) ends (omega (arith, below, same))))
 
 -- behind the lines that are answered nothing is cut
-pub cut-prefix : (config : Config) (restored : List Restored) (blocks : List Ptr) (shard : ℕ) (os more : List Op) (rs : List Reply) (h : List Event) → length rs ≡ length os → AreCut config restored blocks shard os rs h → AreCut config restored blocks shard (os ++ more) rs h
-cut-prefix config restored blocks shard os more rs h same cut k op at ends below =
-    subst (λ (x : List Op × List Reply). IsCut config restored blocks shard x.0 x.1 (events_of_feeder config.callers op) h) (λ i. (take k (os ++ more), ap (take k) (append-nil rs) i))
-    (cut-before config restored blocks shard os more rs [] h same cut k op at ends (omega (arith, below, same)))
+pub cut-prefix : (config : Config) (restored : List Restored) (blocks : List Ptr) (shard : ℕ) (os more : List Op) (rs : List Reply) (fs : List FeedDone) (h : List Event) → length rs ≡ length os → feeds_told os rs ≤ length fs → AreCut config restored blocks shard os rs fs h
+    → AreCut config restored blocks shard (os ++ more) rs fs h
+cut-prefix config restored blocks shard os more rs fs h same told cut k op at ends below =
+    subst (λ (x : List Reply × List FeedDone). IsCut config restored blocks shard (take k (os ++ more)) (take k x.0) x.1 (events_of_feeder config.callers op) h) (λ i. (append-nil rs i, append-nil fs i))
+    (cut-before config restored blocks shard os more rs [] fs [] h same told cut k op at ends (omega (arith, below, same)))
 
 -- ---- groups
 
@@ -210,22 +215,28 @@ caller-inside (ops.Hold m t x) n of = refl
 caller-inside (ops.Drop m x) n of = refl
 caller-inside other n of = cc
 
-pub group-ended : (callers : ℕ) (qs : List Op) (ss : List Reply) (o : Op) (r : Reply) → length ss ≡ length qs → AreOfCallers callers qs → ends_group o ≡ true → groups_of (qs ++ o ∷ []) (ss ++ r ∷ []) ≡ record { ops = qs; replies = ss; end = Some (record { op = o; reply = r }) } ∷ []
+-- and so are the lines of a group
+group-inside : (o : Op) (callers : ℕ) → ((n : ℕ) × (caller_of o ≡ Some n) × (n < callers)) ⊎ (is_feed o ≡ true) → ends_group o ≡ false
+group-inside o callers (inl his) = caller-inside o his.0 his.1
+group-inside o callers (inr asks) = elim (cases_true (ends_group o)) [
+  | inl ends ↦ absurd (false≢true (sym (ends-unfed o ends) ∙ asks))
+  | inr inside ↦ inside
+]
+
+pub group-ended : (callers : ℕ) (qs : List Op) (ss : List Reply) (o : Op) (r : Reply) → length ss ≡ length qs → AreInGroup callers qs → ends_group o ≡ true → groups_of (qs ++ o ∷ []) (ss ++ r ∷ []) ≡ record { ops = qs; replies = ss; end = Some (record { op = o; reply = r }) } ∷ []
 group-ended callers [] [] o r same own ends = rw ends refl
 group-ended callers [] (s ∷ ss) o r same own ends = absurd (omega arith)
 group-ended callers (q ∷ qs) [] o r same own ends = absurd (omega arith)
 group-ended callers (q ∷ qs) (s ∷ ss) o r same own ends =
-    let first = own 0 q refl in
-    rw (caller-inside q first.0 first.1) (ap (with_first q s) (group-ended callers qs ss o r (omega (arith, same)) (λ k op at. own (suc k) op at) ends))
+    rw (group-inside q callers (own 0 q refl)) (ap (with_first q s) (group-ended callers qs ss o r (omega (arith, same)) (λ k op at. own (suc k) op at) ends))
 
-pub group-last : (callers : ℕ) (qs : List Op) (ss : List Reply) → length ss ≡ length qs → AreOfCallers callers qs → 0 < length qs → groups_of qs ss ≡ record { ops = qs; replies = ss; end = None } ∷ []
+pub group-last : (callers : ℕ) (qs : List Op) (ss : List Reply) → length ss ≡ length qs → AreInGroup callers qs → 0 < length qs → groups_of qs ss ≡ record { ops = qs; replies = ss; end = None } ∷ []
 group-last callers [] ss same own some_of = absurd (omega arith)
 group-last callers (q ∷ qs) [] same own some_of = absurd (omega arith)
-group-last callers (q ∷ []) (s ∷ []) same own some_of = let first = own 0 q refl in rw (caller-inside q first.0 first.1) refl
+group-last callers (q ∷ []) (s ∷ []) same own some_of = rw (group-inside q callers (own 0 q refl)) refl
 group-last callers (q ∷ []) (s ∷ (t ∷ ss)) same own some_of = absurd (omega (arith, same))
 group-last callers (q ∷ (x ∷ xs)) (s ∷ ss) same own some_of =
-    let first = own 0 q refl in
-    rw (caller-inside q first.0 first.1) (ap (with_first q s) (group-last callers (x ∷ xs) ss (omega (arith, same)) (λ k op at. own (suc k) op at) (omega arith)))
+    rw (group-inside q callers (own 0 q refl)) (ap (with_first q s) (group-last callers (x ∷ xs) ss (omega (arith, same)) (λ k op at. own (suc k) op at) (omega arith)))
 
 -- lines that are not answered are in none
 pub groups-prefix : (os more : List Op) (rs : List Reply) → length rs ≡ length os → groups_of (os ++ more) rs ≡ groups_of os rs
@@ -281,9 +292,10 @@ module _ {C : Type 0} (cache : Cache) (whole : List (Place (Known C))) (crew : C
   pub crew-rows : cache.row.parties ≡ cache.config.callers + 1
   crew-rows = sym feeder-new.new.stands.of.row.1 ∙ feeder-new.new.parties
 
-  pub have-started : (len : ℕ) (image : Option (List ℕ)) (blocks : List Ptr) → HaveCome cache [] len image blocks [] [] crew
+  pub have-started : (len : ℕ) (image : Option (List ℕ)) (blocks : List Ptr) → HaveCome cache [] len image blocks [] [] [] crew
   have-started len image blocks = record {
     long = refl;
+    told = record { told = refl; shapes = tt };
     kepts = count ∙ crew-count;
     parties = crew-count;
     each = λ n below.
@@ -337,7 +349,7 @@ parted-length cache lines (o ∷ os) (x ∷ xs) parted = ap suc (parted-length c
 -- ---- the keys that were found on the cache device
 
 module _ {C : Type 0} (cache : Cache) (restored : List Restored) (len : ℕ) (image : Option (List ℕ)) (blocks : List Ptr) (old new : Crew C) (whole : List (Place (Known C))) (opened : AreOpened cache whole)
-    (is : whole ≡ old.parties.items ++ old.feeder ∷ []) (before : HaveCome cache [] len image blocks [] [] old)
+    (is : whole ≡ old.parties.items ++ old.feeder ∷ []) (before : HaveCome cache [] len image blocks [] [] [] old)
     (made : MadeJoined cache (restores_in cache.config restored) old.feeder old.parties.items new.feeder new.parties.items) (kept : new.kept.items ≡ old.kept.items) where
   -- nobody had seen anything
   nothing-seen : (p : Place (Known C)) (n : ℕ) → IsOpened cache n p → IsLevel cache.config (λ shard. []) p
@@ -366,9 +378,10 @@ module _ {C : Type 0} (cache : Cache) (restored : List Restored) (len : ℕ) (im
         come = record { waits = parted-waits cache made.lines b.party x.0 x.2 n [] b.reads b.come.waits; keeps = b.come.keeps; answers = b.come.answers };
       }
 
-  pub have-restored : HaveCome cache restored len image blocks [] [] new
+  pub have-restored : HaveCome cache restored len image blocks [] [] [] new
   have-restored = record {
     long = refl;
+    told = before.told;
     kepts = ap length kept ∙ before.kepts;
     parties = parted-length cache made.lines old.parties.items new.parties.items made.parted ∙ before.parties;
     each = restored-come;
@@ -391,9 +404,20 @@ module _ {C : Type 0} (cache : Cache) (restored : List Restored) (len : ℕ) (im
 
 -- ---- the lines of a group
 
-module _ {C P : Type 0} (cache : Cache) (restored : List Restored) (pools : Ghosts P) (len : ℕ) (image : Option (List ℕ)) (blocks : List Ptr) (os qs : List Op) (rs ss : List Reply) (from to : P) (old new : Crew C)
-    (before : HaveCome cache restored len image blocks os rs old) (did : DidLinesAtOnce cache pools blocks qs from to old new ss) (same_feeder : new.feeder ≡ old.feeder) (own : AreOfCallers cache.config.callers qs)
-    (size : pools.size from ≡ len) (told : pools.told from ≡ image) where
+-- the lines of two lists that are no caller's are answered, where those of each are
+ended-append : (os qs : List Op) (rs ss : List Reply) → length rs ≡ length os → AreEndLines os rs → AreEndLines qs ss → AreEndLines (os ++ qs) (rs ++ ss)
+ended-append os qs rs ss same first rest k op at none = elim (cases_lt k (length os)) [
+  | inl below ↦
+      let given = first k op (sym (get-left os qs k below) ∙ at) none in
+      (given.0, get-left rs ss k (omega (arith, below, same)) ∙ given.1, given.2)
+  | inr above ↦
+      let given = rest (k - length os) op (sym (get-right os qs (k - length os)) ∙ (ap (slice_get (os ++ qs)) (omega (arith, above)) ∙ at)) none in
+      (given.0, ap (slice_get (rs ++ ss)) (omega (arith, above, same)) ∙ (get-right rs ss (k - length os) ∙ given.1), given.2)
+]
+
+module _ {C P : Type 0} (cache : Cache) (restored : List Restored) (pools : Ghosts P) (len : ℕ) (image : Option (List ℕ)) (blocks : List Ptr) (os qs : List Op) (rs ss : List Reply) (fs gs : List FeedDone) (from to : P) (old new : Crew C)
+    (before : HaveCome cache restored len image blocks os rs fs old) (did : DidLinesAtOnce cache pools blocks qs from to old new ss) (fed : HasFedMore cache gs old.feeder new.feeder) (fed_told : AreFeedsTold cache.config qs ss gs) (ended : AreEndLines qs ss)
+    (own : AreInGroup cache.config.callers qs) (size : pools.size from ≡ len) (told : pools.told from ≡ image) where
   callers-are : length old.parties.items ≡ cache.config.callers
   callers-are = before.parties
 
@@ -450,35 +474,48 @@ module _ {C P : Type 0} (cache : Cache) (restored : List Restored) (pools : Ghos
           };
         }
 
-  in-front : (k : ℕ) (op : Op) → slice_get (os ++ qs) k ≡ Some op → caller_of op ≡ None → k < length os
-  in-front k op at none = elim (cases_lt k (length os)) [
+  in-front : (k : ℕ) (op : Op) → slice_get (os ++ qs) k ≡ Some op → ends_group op ≡ true → k < length os
+  in-front k op at ends = elim (cases_lt k (length os)) [
     | inl below ↦ below
-    | inr above ↦ absurd (no-other cache.config.callers qs own (k - length os) op (sym (get-right os qs (k - length os)) ∙ (ap (slice_get (os ++ qs)) (omega (arith, above)) ∙ at)) none)
+    | inr above ↦ absurd (false≢true (sym (group-inside op cache.config.callers (own (k - length os) op (sym (get-right os qs (k - length os)) ∙ (ap (slice_get (os ++ qs)) (omega (arith, above)) ∙ at)))) ∙ ends))
   ]
 
-  feeds-same : events_of_feeds cache.config.callers (os ++ qs) (rs ++ ss) ≡ events_of_feeds cache.config.callers os rs
-  feeds-same = feeds-append cache.config.callers os qs rs ss before.long
-      ∙ (ap (λ (l : List Event). events_of_feeds cache.config.callers os rs ++ l) (none-fed cache.config.callers cache.config.callers qs ss own) ∙ append-nil (events_of_feeds cache.config.callers os rs))
+  so-far : feeds_told os rs ≡ length fs
+  so-far = as-told cache.config os rs fs before.told
 
-  feeds-are : events_by_feeder cache.config restored (os ++ qs) (rs ++ ss) ≡ events_by_feeder cache.config restored os rs
-  feeds-are i shard = restores_in cache.config restored shard ++ feeds-same i
+  feeds-are : (shard : ℕ) → events_by_feeder cache.config restored (os ++ qs) (rs ++ ss) (fs ++ gs) shard ≡ events_by_feeder cache.config restored os rs fs shard ++ events_of_made cache.config shard gs
+  feeds-are shard =
+      ap (λ (l : List Event). restores_in cache.config restored shard ++ l)
+      (lines-append cache.config shard os qs rs ss fs gs before.long so-far
+      ∙ ap (λ (l : List Event). events_of_lines cache.config shard os rs fs ++ l) (group-made cache.config shard cache.config.callers qs ss gs own same-length (as-told cache.config qs ss gs fed_told)))
+      ∙ sym (append_assoc (restores_in cache.config restored shard) (events_of_lines cache.config shard os rs fs) (events_of_made cache.config shard gs))
 
-  pub have-come-more : HaveCome cache restored len image blocks (os ++ qs) (rs ++ ss) new
+  pub have-come-more : HaveCome cache restored len image blocks (os ++ qs) (rs ++ ss) (fs ++ gs) new
   have-come-more = record {
     long = length-append rs ss ∙ (omega (arith, before.long, same-length, length-append os qs));
+    told = told-then cache.config os qs rs ss fs gs before.long before.told fed_told;
     kepts = did.worked.kepts ∙ callers-are;
     parties = did.worked.parties ∙ callers-are;
     each = come-at;
-    ended = λ k op at none.
-        let below = in-front k op at none in
-        let given = before.ended k op (sym (get-left os qs k below) ∙ at) none in
-        (given.0, get-left rs ss k (omega (arith, below, before.long)) ∙ given.1, given.2);
-    settled = subst HasSettled (sym same_feeder) before.settled;
-    feeder = subst (λ (p : Place (Known C)). IsFed cache p.own.about.openings (events_by_feeder cache.config restored (os ++ qs) (rs ++ ss)) (λ shard. seen_of cache.config shard p) p) (sym same_feeder)
-        (subst (λ (fed : ℕ → List Event). IsFed cache old.feeder.own.about.openings fed (λ shard. seen_of cache.config shard old.feeder) old.feeder) (sym feeds-are) before.feeder);
-    begun = λ shard below. subst (λ (p : Place (Known C)). StartsWith (seen_of cache.config shard p) (restores_in cache.config restored shard)) (sym same_feeder) (before.begun shard below);
-    cut = λ shard below. subst (λ (p : Place (Known C)). AreCut cache.config restored blocks shard (os ++ qs) (rs ++ ss) (seen_of cache.config shard p)) (sym same_feeder)
-        (λ k op at ends inside. cut-before cache.config restored blocks shard os qs rs ss (seen_of cache.config shard old.feeder) before.long (before.cut shard below) k op at ends (in-front k op at (ends-nobody op ends)));
+    ended = ended-append os qs rs ss before.long before.ended ended;
+    settled = fed.idle.settled;
+    feeder = record {
+      number = fed.idle.number;
+      alone = fed.idle.alone;
+      stands = fed.idle.stands;
+      knows = refl;
+      fed = λ shard below.
+          ap (λ (n : ℕ). own_events n (seen_of cache.config shard new.feeder)) fed.idle.number
+          ∙ (fed.events shard
+          ∙ (ap (λ (l : List Event). l ++ events_of_made cache.config shard gs) (ap (λ (n : ℕ). own_events n (seen_of cache.config shard old.feeder)) (sym before.feeder.number) ∙ before.feeder.fed shard below)
+          ∙ sym (feeds-are shard)));
+      since = λ shard. starts_whole (seen_of cache.config shard new.feeder);
+      only = fed.idle.only;
+    };
+    begun = λ shard below. starts-then (seen_of cache.config shard new.feeder) (seen_of cache.config shard old.feeder) (restores_in cache.config restored shard) (fed.starts shard) (before.begun shard below);
+    cut = λ shard below k op at ends inside.
+        cut-more cache.config restored blocks shard (take k (os ++ qs)) (take k (rs ++ ss)) (fs ++ gs) (events_of_feeder cache.config.callers op) (seen_of cache.config shard old.feeder) (seen_of cache.config shard new.feeder) (fed.starts shard)
+        (cut-before cache.config restored blocks shard os qs rs ss fs gs (seen_of cache.config shard old.feeder) before.long (omega (arith, so-far)) (before.cut shard below) k op at ends (in-front k op at ends));
   }
 
 -- ---- a line that ends a group
@@ -494,11 +531,12 @@ pub record EndsSo {C : Type 0} (cache : Cache) (op : Op) (reply : Reply) (more :
   pub kept : new.kept.items ≡ old.kept.items
   pub end : IsEndLine op reply
   pub nobody : caller_of op ≡ None
+  pub unfed : is_feed op ≡ false
   pub feeds : (shard : ℕ) → shard < cache.config.shards → own_events cache.config.callers (more shard) ≡ events_of_feeder cache.config.callers op
   pub here : (shard : ℕ) → shard < cache.config.shards → more shard ≡ events_of_feeder cache.config.callers op
 
-module _ {C : Type 0} (cache : Cache) (restored : List Restored) (len : ℕ) (image : Option (List ℕ)) (blocks : List Ptr) (os : List Op) (rs : List Reply) (op : Op) (reply : Reply) (more : (shard : ℕ) → List Event) (old new : Crew C)
-    (before : HaveCome cache restored len image blocks os rs old) (so : EndsSo cache op reply more old new) where
+module _ {C : Type 0} (cache : Cache) (restored : List Restored) (len : ℕ) (image : Option (List ℕ)) (blocks : List Ptr) (os : List Op) (rs : List Reply) (fs : List FeedDone) (op : Op) (reply : Reply) (more : (shard : ℕ) → List Event) (old new : Crew C)
+    (before : HaveCome cache restored len image blocks os rs fs old) (so : EndsSo cache op reply more old new) where
   abbrev g : Config
   g = cache.config
 
@@ -538,8 +576,8 @@ module _ {C : Type 0} (cache : Cache) (restored : List Restored) (len : ℕ) (im
       }
 
   -- what the feeder has made
-  front-own : (shard : ℕ) → shard < g.shards → own_events g.callers (so.made.front shard) ≡ events_by_feeder g restored os rs shard
-  front-own shard below = subst (λ (n : ℕ). own_events n (so.made.front shard) ≡ events_by_feeder g restored os rs shard) feeder-number
+  front-own : (shard : ℕ) → shard < g.shards → own_events g.callers (so.made.front shard) ≡ events_by_feeder g restored os rs fs shard
+  front-own shard below = subst (λ (n : ℕ). own_events n (so.made.front shard) ≡ events_by_feeder g restored os rs fs shard) feeder-number
       (same-own-events g old.feeder.number (seen_of g shard old.feeder) (so.made.front shard) (so.made.own shard) ∙ before.feeder.fed shard below)
 
   own-two : (n : ℕ) (es fs : List Event) → own_events n (es ++ fs) ≡ own_events n es ++ own_events n fs
@@ -548,16 +586,19 @@ module _ {C : Type 0} (cache : Cache) (restored : List Restored) (len : ℕ) (im
   abbrev asked : List Event
   asked = events_of_feeder g.callers op
 
-  feeds-more : (shard : ℕ) → events_by_feeder g restored (os ++ op ∷ []) (rs ++ reply ∷ []) shard ≡ events_by_feeder g restored os rs shard ++ asked
+  feeds-more : (shard : ℕ) → events_by_feeder g restored (os ++ op ∷ []) (rs ++ reply ∷ []) fs shard ≡ events_by_feeder g restored os rs fs shard ++ asked
   feeds-more shard =
-      ap (λ (es : List Event). restores_in g restored shard ++ es) (feeds-append g.callers os (op ∷ []) rs (reply ∷ []) before.long ∙ ap (λ (es : List Event). events_of_feeds g.callers os rs ++ es) (append-nil asked))
-      ∙ sym (append_assoc (restores_in g restored shard) (events_of_feeds g.callers os rs) asked)
+      ap (λ (es : List Event). restores_in g restored shard ++ es)
+      (ap (events_of_lines g shard (os ++ op ∷ []) (rs ++ reply ∷ [])) (sym (append-nil fs))
+      ∙ (lines-append g shard os (op ∷ []) rs (reply ∷ []) fs [] before.long (as-told g os rs fs before.told)
+      ∙ ap (λ (es : List Event). events_of_lines g shard os rs fs ++ es) (one-asked g shard op reply so.unfed)))
+      ∙ sym (append_assoc (restores_in g restored shard) (events_of_lines g shard os rs fs) asked)
 
   grown : (shard : ℕ) → StartsWith (seen_of g shard new.feeder) (seen_of g shard old.feeder)
   grown shard = starts-then (seen_of g shard new.feeder) (so.made.front shard) (seen_of g shard old.feeder) (more shard, so.made.seen shard) (so.made.since shard)
 
   -- what stands before it
-  cut-here : (shard : ℕ) → shard < g.shards → IsCut g restored blocks shard os rs asked (seen_of g shard new.feeder)
+  cut-here : (shard : ℕ) → shard < g.shards → IsCut g restored blocks shard os rs fs asked (seen_of g shard new.feeder)
   cut-here shard below = record {
     front = so.made.front shard;
     rest = [];
@@ -570,15 +611,16 @@ module _ {C : Type 0} (cache : Cache) (restored : List Restored) (len : ℕ) (im
     feeder = front-own shard below;
   }
 
-  all-cut : (shard : ℕ) → shard < g.shards → AreCut g restored blocks shard (os ++ op ∷ []) (rs ++ reply ∷ []) (seen_of g shard new.feeder)
+  all-cut : (shard : ℕ) → shard < g.shards → AreCut g restored blocks shard (os ++ op ∷ []) (rs ++ reply ∷ []) fs (seen_of g shard new.feeder)
   all-cut shard below k line at ends inside = elim (cases_lt k (length os)) [
     | inl early ↦
-        cut-more g restored blocks shard (take k (os ++ op ∷ [])) (take k (rs ++ reply ∷ [])) (events_of_feeder g.callers line) (seen_of g shard old.feeder) (seen_of g shard new.feeder) (grown shard)
-        (cut-before g restored blocks shard os (op ∷ []) rs (reply ∷ []) (seen_of g shard old.feeder) before.long (before.cut shard below) k line at ends early)
+        cut-more g restored blocks shard (take k (os ++ op ∷ [])) (take k (rs ++ reply ∷ [])) fs (events_of_feeder g.callers line) (seen_of g shard old.feeder) (seen_of g shard new.feeder) (grown shard)
+        (subst (λ (l : List FeedDone). IsCut g restored blocks shard (take k (os ++ op ∷ [])) (take k (rs ++ reply ∷ [])) l (events_of_feeder g.callers line) (seen_of g shard old.feeder)) (append-nil fs)
+        (cut-before g restored blocks shard os (op ∷ []) rs (reply ∷ []) fs [] (seen_of g shard old.feeder) before.long (let told = as-told g os rs fs before.told in omega (arith, told)) (before.cut shard below) k line at ends early))
     | inr late ↦
         let last : k ≡ length os = omega (arith, late, inside, before.long, length-append rs (reply ∷ [])) in
         let is : line ≡ op = some-same line op (sym at ∙ (ap (slice_get (os ++ op ∷ [])) (last ∙ omega arith) ∙ get-right os (op ∷ []) 0)) in
-        subst (λ (x : List Op × List Reply × Op). IsCut g restored blocks shard x.0 x.1 (events_of_feeder g.callers x.2) (seen_of g shard new.feeder))
+        subst (λ (x : List Op × List Reply × Op). IsCut g restored blocks shard x.0 x.1 fs (events_of_feeder g.callers x.2) (seen_of g shard new.feeder))
         (λ i. (
           sym (ap (λ (m : ℕ). take m (os ++ op ∷ [])) last ∙ take-append_seam os (op ∷ [])) i,
           sym (ap (λ (m : ℕ). take m (rs ++ reply ∷ [])) (last ∙ sym before.long) ∙ take-append_seam rs (reply ∷ [])) i,
@@ -599,8 +641,9 @@ module _ {C : Type 0} (cache : Cache) (restored : List Restored) (len : ℕ) (im
         (reply, ap (slice_get (rs ++ reply ∷ [])) (last ∙ omega (arith, before.long)) ∙ get-right rs (reply ∷ []) 0, subst (λ (y : Op). IsEndLine y reply) (some-same op x there_is) so.end)
   ]
 
-  pub have-come-ended : HaveCome cache restored len image blocks (os ++ op ∷ []) (rs ++ reply ∷ []) new
+  pub have-come-ended : HaveCome cache restored len image blocks (os ++ op ∷ []) (rs ++ reply ∷ []) fs new
   have-come-ended = record {
+    told = told-still g os rs fs op reply before.long so.unfed before.told;
     long = omega (arith, before.long, length-append rs (reply ∷ []), length-append os (op ∷ []));
     kepts = ap length so.kept ∙ before.kepts;
     parties = parted-length cache so.made.lines old.parties.items new.parties.items so.made.parted ∙ before.parties;
@@ -633,6 +676,7 @@ cap-ends cache c old new resized kept = record {
   kept = kept;
   end = inl (c, refl, refl);
   nobody = refl;
+  unfed = refl;
   feeds = λ shard below. ap (own_events cache.config.callers) (here shard c below) ∙ own-resize cache.config.callers;
   here = λ shard below. here shard c below;
 }
@@ -650,8 +694,9 @@ pub sync-ends : {C : Type 0} (cache : Cache) (t group blocks bytes : ℕ) (old n
 sync-ends cache t group blocks bytes old new made kept = record {
   made = made;
   kept = kept;
-  end = inr (t, group, blocks, bytes, refl, refl);
+  end = inr (inl (t, group, blocks, bytes, refl, refl));
   nobody = refl;
+  unfed = refl;
   feeds = λ shard below. refl;
   here = λ shard below. refl;
 }

@@ -1,5 +1,5 @@
 -- One group more of several callers: what their pool counts then, which groups were done, and what stands before the next one.
-use Rattle.std.proofs.Common.{◌≡◌, ℕ, zero, suc, ◌+◌, ◌%◌, ◌^◌, ◌<◌, ◌≤◌, Bool, true, false, Option, List, [], ◌∷◌, ◌++◌, Some, None, length, take, drop, refl, sym, ap, ◌∙◌, subst, arith, append_assoc, length-append, ◌-◌, inl, inr}
+use Rattle.std.proofs.Common.{◌≡◌, ℕ, zero, suc, ◌+◌, ◌%◌, ◌^◌, ◌<◌, ◌≤◌, Bool, true, false, Option, List, [], ◌∷◌, ◌++◌, Some, None, length, take, drop, refl, sym, ap, ◌∙◌, subst, arith, append-nil, append_assoc, length-append, ◌-◌, inl, inr}
 use Rattle.std.specs.Prelude.{count_by, slice_get, slice_range}
 use Rattle.std.specs.List.{AllByRecursion}
 use Rattle.std.proofs.lemmas.Bool.{false≢true}
@@ -35,9 +35,11 @@ use Rattle.trace_run.specs.declared.ran.Ending.TheVariants.{Fork, Whole}
 use Rattle.trace_run.specs.declared.kept_blocks.KeptBlock.{KeptBlock}
 use Rattle.trace_run.specs.Answers.{is_pool_fault}
 use Rattle.trace_run.specs.Effects.{calls_of, calls_of_all, effect_of}
+use Rattle.trace_run.specs.FeedEvents.{AreFeedsTold}
+use Rattle.trace_run.specs.Feeds.{FeedDone, is_feed}
 use Rattle.trace_run.specs.callers.Group.{HaveWorked, LeavesPool}
-use Rattle.trace_run.specs.callers.Groups.{AreBetween, AreDone, AreOfCallers, DidEndLine, DidLinesAtOnce, HaveCome, HaveCounted, KeepNothing, MaySync, StepsOn, StoodFresh}
-use Rattle.trace_run.specs.callers.InOrder.{AreInOrder}
+use Rattle.trace_run.specs.callers.Groups.{AreBetween, AreDone, AreEndLines, DidEndLine, DidLinesAtOnce, HaveCome, HaveCounted, KeepNothing, MaySync, StepsOn, StoodFresh}
+use Rattle.trace_run.specs.callers.InOrder.{AreInGroup, AreInOrder}
 use Rattle.trace_run.specs.Lines.{caller_of, is_of_caller}
 use Rattle.trace_run.specs.Openings.{Knows, openings_of}
 use Rattle.trace_run.specs.Tally.{AreDeclared}
@@ -48,6 +50,7 @@ use Rattle.trace_run.proofs.callers.GroupCounts.{over-add, over-same, over-zero}
 use Rattle.trace_run.proofs.callers.GroupRunLemmas.{all-callers, all-declared, come-unwritten, may-resize, where-few}
 use Rattle.trace_run.proofs.callers.EndLineLemmas.{IsUnused, Turned, end-turned, not-replied}
 use Rattle.trace_run.proofs.callers.GroupsLemmas.{group-ended, group-last, groups-append, have-come-ended, have-come-more, have-restored, have-started, where-append, whole-of}
+use Rattle.trace_run.proofs.feeds.FedLemmas.{HasFedMore}
 use Rattle.trace_run.proofs.RunLemmas.{calls-faults, calls-few, calls-reads, failed-all}
 
 pub calls-append : (rs ss : List Reply) → calls_of_all (rs ++ ss) ≡ calls_of_all rs ++ calls_of_all ss
@@ -177,8 +180,8 @@ in-groups-more pools config Cells (g ∷ gs) last a b c worked done once ends = 
 
 -- ---- between two groups
 
-pub between-none : {C P : Type 0} (cache : Cache) (restored : List Restored) (pools : Ghosts P) (trace : Trace) (start : BetweenGroups P) (crew : Crew C) → HaveCome cache restored (pools.size start.pool) (pools.told start.pool) trace.blocks [] [] crew
-    → Knows (openings_of trace) crew.feeder → MaySync pools 0 start → AreBetween cache restored pools trace start start [] crew
+pub between-none : {C P : Type 0} (cache : Cache) (restored : List Restored) (pools : Ghosts P) (trace : Trace) (start : BetweenGroups P) (crew : Crew C) → HaveCome cache restored (pools.size start.pool) (pools.told start.pool) trace.blocks [] [] [] crew
+    → Knows (openings_of trace) crew.feeder → MaySync pools 0 start → AreBetween cache restored pools trace start start [] [] crew
 between-none cache restored pools trace start crew come knows may = record {
   few = omega arith;
   begins = λ more. tt;
@@ -201,15 +204,15 @@ first-may pools pool place len aligned inside is = record { born = omega arith; 
 pub between-begun : {C P : Type 0} (cache : Cache) (restored : List Restored) (pools : Ghosts P) (trace : Trace) (start : BetweenGroups P) (whole : List (Place (Known C))) (old new : Crew C) → AreOpened cache whole
     → whole ≡ old.parties.items ++ old.feeder ∷ [] → KeepNothing old.kept.items → length old.kept.items ≡ length old.parties.items
     → MadeJoined cache (restores_in cache.config restored) old.feeder old.parties.items new.feeder new.parties.items → new.kept.items ≡ old.kept.items → Knows (openings_of trace) old.feeder → MaySync pools 0 start
-    → AreBetween cache restored pools trace start start [] new
+    → AreBetween cache restored pools trace start start [] [] new
 between-begun cache restored pools trace start whole old new opened is none many made kept knows may =
     between-none cache restored pools trace start new
     (have-restored cache restored (pools.size start.pool) (pools.told start.pool) trace.blocks old new whole opened is (have-started cache whole old opened is none many (pools.size start.pool) (pools.told start.pool) trace.blocks) made kept)
     (ap (λ (a : About). a.openings) made.about ∙ knows) may
 
-module _ {P : Type 0} (cache : Cache) (restored : List Restored) (pools : Ghosts P) (trace : Trace) (start was : BetweenGroups P) (from to : P) (rs ss : List Reply) (qs : List Op) (old new : Crew OnHeap) (few : length trace.ops ≤ 1000000) (some_callers : (0 < cache.config.callers) × (cache.config.callers ≤ 16))
-    (between : AreBetween cache restored pools trace start was rs old) (more : length rs < length trace.ops) (unused : IsUnused pools was.pool from) (did : DidLinesAtOnce cache pools trace.blocks qs from to old new ss) (same_feeder : new.feeder ≡ old.feeder) (leaves : LeavesPool pools from to)
-    (own : AreOfCallers cache.config.callers qs) (inside : length rs + length qs ≤ length trace.ops) (here : take (length qs) (drop (length rs) trace.ops) ≡ qs) where
+module _ {P : Type 0} (cache : Cache) (restored : List Restored) (pools : Ghosts P) (trace : Trace) (start was : BetweenGroups P) (from to : P) (rs ss : List Reply) (qs : List Op) (fs gs : List FeedDone) (old new : Crew OnHeap) (few : length trace.ops ≤ 1000000) (some_callers : (0 < cache.config.callers) × (cache.config.callers ≤ 16))
+    (between : AreBetween cache restored pools trace start was rs fs old) (more : length rs < length trace.ops) (unused : IsUnused pools was.pool from) (did : DidLinesAtOnce cache pools trace.blocks qs from to old new ss) (fed : HasFedMore cache gs old.feeder new.feeder) (told : AreFeedsTold cache.config qs ss gs) (answered : AreEndLines qs ss) (leaves : LeavesPool pools from to)
+    (own : AreInGroup cache.config.callers qs) (inside : length rs + length qs ≤ length trace.ops) (here : take (length qs) (drop (length rs) trace.ops) ≡ qs) where
   abbrev callers : ℕ
   callers = cache.config.callers
 
@@ -251,16 +254,16 @@ module _ {P : Type 0} (cache : Cache) (restored : List Restored) (pools : Ghosts
       (group-reads cache pools trace.blocks qs callers was.pool from to did.own old.kept.items old.parties.items new.kept.items new.parties.items ss unused worked did.fed did.ordered some_callers.0 few-here some_callers.1)
       (group-faults cache pools trace.blocks qs callers was.pool from to did.own old.kept.items old.parties.items new.kept.items new.parties.items ss unused worked did.fed did.ordered some_callers.0 few-here some_callers.1)
 
-  come-lines : HaveCome cache restored (pools.size start.pool) (pools.told start.pool) trace.blocks (os ++ qs) (rs ++ ss) new
-  come-lines = have-come-more cache restored pools (pools.size start.pool) (pools.told start.pool) trace.blocks os qs rs ss from to old new between.come did same_feeder own (unused.size ∙ between.counted.keeps.size) (unused.told ∙ between.counted.keeps.told)
+  come-lines : HaveCome cache restored (pools.size start.pool) (pools.told start.pool) trace.blocks (os ++ qs) (rs ++ ss) (fs ++ gs) new
+  come-lines = have-come-more cache restored pools (pools.size start.pool) (pools.told start.pool) trace.blocks os qs rs ss fs gs from to old new between.come did fed told answered own (unused.size ∙ between.counted.keeps.size) (unused.told ∙ between.counted.keeps.told)
 
   -- the trace ends with these lines
-  pub between-last : length rs + length qs ≡ length trace.ops → AreBetween cache restored pools trace start (between_groups to was.group was.next) (rs ++ ss) new
+  pub between-last : length rs + length qs ≡ length trace.ops → AreBetween cache restored pools trace start (between_groups to was.group was.next) (rs ++ ss) (fs ++ gs) new
   between-last all = record {
     few = omega (arith, both-long, all);
     begins = λ less. absurd (omega (arith, both-long, all, less));
-    come = subst (λ (l : List Op). HaveCome cache restored (pools.size start.pool) (pools.told start.pool) trace.blocks l (rs ++ ss) new) (sym taken) come-lines;
-    knows = ap (λ (p : PartyPlace). p.own.about.openings) same_feeder ∙ between.knows;
+    come = subst (λ (l : List Op). HaveCome cache restored (pools.size start.pool) (pools.told start.pool) trace.blocks l (rs ++ ss) (fs ++ gs) new) (sym taken) come-lines;
+    knows = ap (λ (a : About). a.openings) fed.about ∙ between.knows;
     counted = subst (λ (l : List Op). HaveCounted pools callers l (rs ++ ss) start.pool to) (sym taken) counted-lines;
     groups = subst (λ (gs : List GroupLines). WorkInGroups pools cache.config Cells gs start (between_groups to was.group was.next))
         (sym (ap (λ (l : List Op). groups_of l (rs ++ ss)) taken
@@ -294,13 +297,13 @@ module _ {P : Type 0} (cache : Cache) (restored : List Restored) (pools : Ghosts
         ∙ (λ i. (sym (ap (λ (k : ℕ). take k trace.ops) both-long) ∙ taken) i ++ get_or_from_slice_get trace.ops (length rs + length qs) op op at i ∷ []))
 
     knows-new : Knows (openings_of trace) new.feeder
-    knows-new = ap (λ (p : PartyPlace). p.own.about.openings) same_feeder ∙ between.knows
+    knows-new = ap (λ (a : About). a.openings) fed.about ∙ between.knows
 
     turn : Turned cache pools (openings_of trace) op reply (between_groups to was.group was.next) fin new last
-    turn = end-turned cache pools (openings_of trace) op (between_groups to was.group was.next) fin new last reply knows-new (come-unwritten cache restored (pools.size start.pool) (pools.told start.pool) trace.blocks (os ++ qs) (rs ++ ss) new come-lines) ended
+    turn = end-turned cache pools (openings_of trace) op (between_groups to was.group was.next) fin new last reply knows-new (come-unwritten cache restored (pools.size start.pool) (pools.told start.pool) trace.blocks (os ++ qs) (rs ++ ss) (fs ++ gs) new come-lines) ended
 
-    come-ended-lines : HaveCome cache restored (pools.size start.pool) (pools.told start.pool) trace.blocks ((os ++ qs) ++ op ∷ []) all-replies last
-    come-ended-lines = have-come-ended cache restored (pools.size start.pool) (pools.told start.pool) trace.blocks (os ++ qs) (rs ++ ss) op reply turn.more new last come-lines turn.so
+    come-ended-lines : HaveCome cache restored (pools.size start.pool) (pools.told start.pool) trace.blocks ((os ++ qs) ++ op ∷ []) all-replies (fs ++ gs) last
+    come-ended-lines = have-come-ended cache restored (pools.size start.pool) (pools.told start.pool) trace.blocks (os ++ qs) (rs ++ ss) (fs ++ gs) op reply turn.more new last come-lines turn.so
 
     none-where : (n : ℕ) → replies_of_caller n (op ∷ []) (reply ∷ []) ≡ []
     none-where n = not-replied n op reply turn.so.nobody
@@ -311,11 +314,11 @@ module _ {P : Type 0} (cache : Cache) (restored : List Restored) (pools : Ghosts
         (λ full. let none = over-zero callers (asked (op ∷ []) (reply ∷ [])) (λ n below. ap (λ (l : List Reply). length (calls_of_all l)) (none-where n)) in let same = turn.unused.reads in omega (arith, none, same))
         (λ full. let none = over-zero callers (failed (op ∷ []) (reply ∷ [])) (λ n below. ap (count_by is_pool_fault) (none-where n)) in let same = turn.unused.faults in omega (arith, none, same))
 
-    pub between-ended : AreBetween cache restored pools trace start fin all-replies last
+    pub between-ended : AreBetween cache restored pools trace start fin all-replies (fs ++ gs) last
     between-ended = record {
       few = omega (arith, all-long, room);
       begins = λ less. subst (BeginsGroup trace.ops) (sym all-long) (op, at, ends);
-      come = subst (λ (l : List Op). HaveCome cache restored (pools.size start.pool) (pools.told start.pool) trace.blocks l all-replies last) (sym all-taken) come-ended-lines;
+      come = subst (λ (l : List Op). HaveCome cache restored (pools.size start.pool) (pools.told start.pool) trace.blocks l all-replies (fs ++ gs) last) (sym all-taken) come-ended-lines;
       knows = ap (λ (a : About). a.openings) turn.so.made.about ∙ knows-new;
       counted = subst (λ (l : List Op). HaveCounted pools callers l all-replies start.pool fin.pool) (sym all-taken) counted-end;
       groups = subst (λ (gs : List GroupLines). WorkInGroups pools cache.config Cells gs start fin)
@@ -334,17 +337,19 @@ module _ {P : Type 0} (cache : Cache) (restored : List Restored) (pools : Ghosts
 
 -- ---- the lines of the next group
 
--- a line that is no caller's ends its group
-none-ends : (op : Op) → caller_of op ≡ None → ends_group op ≡ true
-none-ends (ops.Read n t x window) none = cc
-none-ends (ops.Hold n t x) none = cc
-none-ends (ops.Drop n x) none = cc
-none-ends (ops.Get n t at window) none = cc
-none-ends (ops.Put n t at size fill) none = cc
-none-ends (ops.Patch n t at from bytes) none = cc
-none-ends (ops.Pin n t at) none = cc
-none-ends (ops.Unpin n at) none = cc
-none-ends other none = refl
+-- a line that is no caller's and does not end its group asks for a feed
+none-feeds : (op : Op) → caller_of op ≡ None → ends_group op ≡ false → is_feed op ≡ true
+none-feeds (ops.Read n t x window) none inside = cc
+none-feeds (ops.Hold n t x) none inside = cc
+none-feeds (ops.Drop n x) none inside = cc
+none-feeds (ops.Get n t at window) none inside = cc
+none-feeds (ops.Put n t at size fill) none inside = cc
+none-feeds (ops.Patch n t at from bytes) none inside = cc
+none-feeds (ops.Pin n t at) none inside = cc
+none-feeds (ops.Unpin n at) none inside = cc
+none-feeds ops.Feed none inside = refl
+none-feeds (ops.Txg t) none inside = absurd (false≢true (sym inside))
+none-feeds (ops.Cap c) none inside = absurd (false≢true (sym inside))
 
 module _ {X : Type 0} where
   dropped-at : (xs : List X) (a k : ℕ) → slice_get (drop a xs) k ≡ slice_get xs (a + k)
@@ -377,34 +382,41 @@ module _ (trace : Trace) (formed : IsFormed trace) (a b : ℕ) where
   pub range-declared : AreDeclared (length trace.blocks) (slice_range trace.ops a b)
   range-declared k op at = all-declared trace formed (a + k) op (range-at trace.ops a b k op at).1
 
-  pub range-callers : ((k : ℕ) (op : Op) → a ≤ k → k < b → slice_get trace.ops k ≡ Some op → ends_group op ≡ false) → AreOfCallers trace.config.callers (slice_range trace.ops a b)
-  range-callers inside k op at =
+  pub range-group : ((k : ℕ) (op : Op) → a ≤ k → k < b → slice_get trace.ops k ≡ Some op → ends_group op ≡ false) → AreInGroup trace.config.callers (slice_range trace.ops a b)
+  range-group inside k op at =
       let h = range-at trace.ops a b k op at in
       let within_group = inside (a + k) op (omega arith) h.0 h.1 in
       elim (line-kind op) [
-        | inl caller ↦ (caller.0, caller.1, all-callers trace formed (a + k) op h.1 caller.0 caller.1)
-        | inr none ↦ absurd (false≢true (sym within_group ∙ none-ends op none))
+        | inl caller ↦ inl (caller.0, caller.1, all-callers trace formed (a + k) op h.1 caller.0 caller.1)
+        | inr none ↦ inr (none-feeds op none within_group)
       ]
 
 -- ---- one step of all groups
 
 -- What the next group came to, whose lines are these of the trace: they are done at once, and then the line that ends them, where there is one.
-module _ {P : Type 0} (cache : Cache) (restored : List Restored) (pools : Ghosts P) (trace : Trace) (formed : IsFormed trace) (config : cache.config ≡ trace.config) (start was : BetweenGroups P) (from to : P) (rs ss : List Reply) (old new : Crew OnHeap)
+module _ {P : Type 0} (cache : Cache) (restored : List Restored) (pools : Ghosts P) (trace : Trace) (formed : IsFormed trace) (config : cache.config ≡ trace.config) (start was : BetweenGroups P) (from to : P) (rs ss : List Reply) (fs gs : List FeedDone) (old new : Crew OnHeap)
     (first end : ℕ) (bs : List Ptr) (os : List Op) (is_bs : bs ≡ trace.blocks) (is_os : os ≡ trace.ops) (is_first : first ≡ length rs) (le : first ≤ end) (few : end ≤ length os)
-    (inside : (k : ℕ) (op : Op) → first ≤ k → k < end → slice_get os k ≡ Some op → ends_group op ≡ false) (between : AreBetween cache restored pools trace start was rs old) (more : length rs < length trace.ops)
-    (unused : IsUnused pools was.pool from) (did : DidLinesAtOnce cache pools bs (slice_range os first end) from to old new ss) (same_feeder : new.feeder ≡ old.feeder) (leaves : LeavesPool pools from to) where
+    (inside : (k : ℕ) (op : Op) → first ≤ k → k < end → slice_get os k ≡ Some op → ends_group op ≡ false) (between : AreBetween cache restored pools trace start was rs fs old) (more : length rs < length trace.ops)
+    (unused : IsUnused pools was.pool from) (did : DidLinesAtOnce cache pools bs (slice_range os first end) from to old new ss) (fed : HasFedMore cache gs old.feeder new.feeder)
+    (told : AreFeedsTold cache.config (slice_range os first end) ss gs) (answered : AreEndLines (slice_range os first end) ss) (leaves : LeavesPool pools from to) where
   abbrev qs : List Op
   qs = slice_range trace.ops (length rs) end
 
   did-these : DidLinesAtOnce cache pools trace.blocks qs from to old new ss
   did-these = subst (λ (x : List Ptr × List Op × ℕ). DidLinesAtOnce cache pools x.0 (slice_range x.1 x.2 end) from to old new ss) (λ i. (is_bs i, is_os i, is_first i)) did
 
+  told-these : AreFeedsTold cache.config qs ss gs
+  told-these = subst (λ (x : List Op × ℕ). AreFeedsTold cache.config (slice_range x.0 x.1 end) ss gs) (λ i. (is_os i, is_first i)) told
+
+  answered-these : AreEndLines qs ss
+  answered-these = subst (λ (x : List Op × ℕ). AreEndLines (slice_range x.0 x.1 end) ss) (λ i. (is_os i, is_first i)) answered
+
   few-callers : (0 < cache.config.callers) × (cache.config.callers ≤ 16)
   few-callers = subst (λ (g : Config). (0 < g.callers) × (g.callers ≤ 16)) (sym config) (omega (arith, formed.config.counts.callers.0), formed.config.counts.callers.1)
 
-  own : AreOfCallers cache.config.callers qs
-  own = subst (λ (g : Config). AreOfCallers g.callers qs) (sym config)
-      (range-callers trace formed (length rs) end (λ k op low high at. inside k op (omega (arith, is_first, low)) high (ap (λ (l : List Op). slice_get l k) is_os ∙ at)))
+  own : AreInGroup cache.config.callers qs
+  own = subst (λ (g : Config). AreInGroup g.callers qs) (sym config)
+      (range-group trace formed (length rs) end (λ k op low high at. inside k op (omega (arith, is_first, low)) high (ap (λ (l : List Op). slice_get l k) is_os ∙ at)))
 
   few-lines : end ≤ length trace.ops
   few-lines = subst (λ (l : List Op). end ≤ length l) is_os few
@@ -418,27 +430,27 @@ module _ {P : Type 0} (cache : Cache) (restored : List Restored) (pools : Ghosts
   here : take (length qs) (drop (length rs) trace.ops) ≡ qs
   here = range-here trace.ops (length rs) end low few-lines
 
-  pub next-last : length os ≤ end → (all : List Reply) → all ≡ rs ++ ss → AreBetween cache restored pools trace start (between_groups to was.group was.next) all new × (length rs < length all)
+  pub next-last : length os ≤ end → (all : List Reply) → all ≡ rs ++ ss → AreBetween cache restored pools trace start (between_groups to was.group was.next) all (fs ++ gs) new × (length rs < length all)
   next-last last all is =
       let long : length os ≡ length trace.ops = ap length is_os in
       let whole : length rs + length qs ≡ length trace.ops = omega (arith, ends-at, few-lines, last, long) in
       let size = ap length is in (
-        subst (λ (l : List Reply). AreBetween cache restored pools trace start (between_groups to was.group was.next) l new) (sym is)
-            (between-last cache restored pools trace start was from to rs ss qs old new formed.few_ops few-callers between more unused did-these same_feeder leaves own (omega (arith, ends-at, few-lines)) here whole),
+        subst (λ (l : List Reply). AreBetween cache restored pools trace start (between_groups to was.group was.next) l (fs ++ gs) new) (sym is)
+            (between-last cache restored pools trace start was from to rs ss qs fs gs old new formed.few_ops few-callers between more unused did-these fed told-these answered-these leaves own (omega (arith, ends-at, few-lines)) here whole),
         omega (arith, size, length-append rs ss, did-these.ordered.all, whole, more),
       )
 
   -- the callers may join the feeder
   pub next-may : cache.row.parties ≡ parties_of cache.config → MayGoOn cache [] new.feeder new.parties.items
   next-may rows =
-      may-resize cache restored (pools.size start.pool) (pools.told start.pool) trace.blocks (take (length rs) trace.ops ++ qs) (rs ++ ss) new
-      (come-lines cache restored pools trace start was from to rs ss qs old new formed.few_ops few-callers between more unused did-these same_feeder leaves own (omega (arith, ends-at, few-lines)) here) rows
+      may-resize cache restored (pools.size start.pool) (pools.told start.pool) trace.blocks (take (length rs) trace.ops ++ qs) (rs ++ ss) (fs ++ gs) new
+      (come-lines cache restored pools trace start was from to rs ss qs fs gs old new formed.few_ops few-callers between more unused did-these fed told-these answered-these leaves own (omega (arith, ends-at, few-lines)) here) rows
 
   -- none of them has changed a cell
   pub next-unwritten : AllByRecursion (λ o. AreNoEntries cache.config o.own.mine) (new.feeder ∷ new.parties.items)
   next-unwritten =
-      come-unwritten cache restored (pools.size start.pool) (pools.told start.pool) trace.blocks (take (length rs) trace.ops ++ qs) (rs ++ ss) new
-      (come-lines cache restored pools trace start was from to rs ss qs old new formed.few_ops few-callers between more unused did-these same_feeder leaves own (omega (arith, ends-at, few-lines)) here)
+      come-unwritten cache restored (pools.size start.pool) (pools.told start.pool) trace.blocks (take (length rs) trace.ops ++ qs) (rs ++ ss) (fs ++ gs) new
+      (come-lines cache restored pools trace start was from to rs ss qs fs gs old new formed.few_ops few-callers between more unused did-these fed told-these answered-these leaves own (omega (arith, ends-at, few-lines)) here)
 
   -- the sync that ends it may be done
   pub next-sync : (lines : ℕ) × (lines < 2 ^ 32) × MaySync pools lines (between_groups to was.group was.next)
@@ -454,34 +466,34 @@ module _ {P : Type 0} (cache : Cache) (restored : List Restored) (pools : Ghosts
   )
 
   pub next-ended : (op : Op) → slice_get os end ≡ Some op → ends_group op ≡ true → (last : Crew OnHeap) (fin : BetweenGroups P) (reply : Reply) → DidEndLine cache pools op (between_groups to was.group was.next) fin new last reply → (so_far all : List Reply) → so_far ≡ rs ++ ss → all ≡ so_far ++ reply ∷ []
-      → AreBetween cache restored pools trace start fin all last × (length rs < length all)
+      → AreBetween cache restored pools trace start fin all (fs ++ gs) last × (length rs < length all)
   next-ended op at ends last fin reply ended so_far all is_far is =
       let there : slice_get trace.ops (length rs + length qs) ≡ Some op = ap (slice_get trace.ops) ends-at ∙ (ap (λ (l : List Op). slice_get l end) (sym is_os) ∙ at) in
       let whole : all ≡ (rs ++ ss) ++ reply ∷ [] = is ∙ ap (λ (l : List Reply). l ++ reply ∷ []) is_far in
       let size = ap length whole in (
-        subst (λ (l : List Reply). AreBetween cache restored pools trace start fin l last) (sym whole)
-            (between-ended cache restored pools trace start was from to rs ss qs old new formed.few_ops few-callers between more unused did-these same_feeder leaves own (omega (arith, ends-at, few-lines)) here op reply last fin there ends ended),
+        subst (λ (l : List Reply). AreBetween cache restored pools trace start fin l (fs ++ gs) last) (sym whole)
+            (between-ended cache restored pools trace start was from to rs ss qs fs gs old new formed.few_ops few-callers between more unused did-these fed told-these answered-these leaves own (omega (arith, ends-at, few-lines)) here op reply last fin there ends ended),
         omega (arith, size, length-append (rs ++ ss) (reply ∷ []), length-append rs ss),
       )
 
 -- what a step says, by whether the group was done
-pub stepped : {C P : Type 0} (cache : Cache) (restored : List Restored) (pools : Ghosts P) (trace : Trace) (start before after : BetweenGroups P) (replied replies : List Reply) (done : Bool) (old new : Crew C) → done ≡ true
-    → StepsOn cache restored pools trace start before after replied replies done old new → AreBetween cache restored pools trace start after replies new × (length replied < length replies)
-stepped cache restored pools trace start before after replied replies done old new is step = subst (λ (b : Bool). StepsOn cache restored pools trace start before after replied replies b old new) is step
+pub stepped : {C P : Type 0} (cache : Cache) (restored : List Restored) (pools : Ghosts P) (trace : Trace) (start before after : BetweenGroups P) (replied replies : List Reply) (fs gs : List FeedDone) (done : Bool) (old new : Crew C) → done ≡ true
+    → StepsOn cache restored pools trace start before after replied replies fs gs done old new → AreBetween cache restored pools trace start after replies (fs ++ gs) new × (length replied < length replies)
+stepped cache restored pools trace start before after replied replies fs gs done old new is step = subst (λ (b : Bool). StepsOn cache restored pools trace start before after replied replies fs gs b old new) is step
 
-pub not-stepped : {C P : Type 0} (cache : Cache) (restored : List Restored) (pools : Ghosts P) (trace : Trace) (start before after : BetweenGroups P) (replied replies : List Reply) (done : Bool) (old new : Crew C) → done ≡ false
-    → StepsOn cache restored pools trace start before after replied replies done old new → AreBetween cache restored pools trace start before replied old → length replied < length trace.ops → AreDone cache restored pools trace start after.pool Fork replies new
-not-stepped {C} cache restored pools trace start before after replied replies done old new is step between more =
-    let same = subst (λ (b : Bool). StepsOn cache restored pools trace start before after replied replies b old new) is step in
+pub not-stepped : {C P : Type 0} (cache : Cache) (restored : List Restored) (pools : Ghosts P) (trace : Trace) (start before after : BetweenGroups P) (replied replies : List Reply) (fs gs : List FeedDone) (done : Bool) (old new : Crew C) → done ≡ false
+    → StepsOn cache restored pools trace start before after replied replies fs gs done old new → AreBetween cache restored pools trace start before replied fs old → length replied < length trace.ops → AreDone cache restored pools trace start after.pool Fork replies (fs ++ gs) new
+not-stepped {C} cache restored pools trace start before after replied replies fs gs done old new is step between more =
+    let same = subst (λ (b : Bool). StepsOn cache restored pools trace start before after replied replies fs gs b old new) is step in
     record {
       reached = before;
-      between = subst (λ (x : List Reply × Crew C). AreBetween cache restored pools trace start before x.0 x.1) (λ i. (sym same.0 i, sym same.1 i)) between;
-      ended = (omega (arith, ap length same.0, more), same.2);
+      between = subst (λ (x : List Reply × List FeedDone × Crew C). AreBetween cache restored pools trace start before x.0 x.1 x.2) (λ i. (sym same.0 i, (sym (append-nil fs) ∙ ap (λ (l : List FeedDone). fs ++ l) (sym same.1)) i, sym same.2 i)) between;
+      ended = (omega (arith, ap length same.0, more), same.3);
     }
 
-pub all-stepped : {C P : Type 0} (cache : Cache) (restored : List Restored) (pools : Ghosts P) (trace : Trace) (start after : BetweenGroups P) (replies : List Reply) (crew : Crew C) → AreBetween cache restored pools trace start after replies crew → length trace.ops ≤ length replies
-    → AreDone cache restored pools trace start after.pool Whole replies crew
-all-stepped cache restored pools trace start after replies crew between all = record {
+pub all-stepped : {C P : Type 0} (cache : Cache) (restored : List Restored) (pools : Ghosts P) (trace : Trace) (start after : BetweenGroups P) (replies : List Reply) (fs : List FeedDone) (crew : Crew C) → AreBetween cache restored pools trace start after replies fs crew → length trace.ops ≤ length replies
+    → AreDone cache restored pools trace start after.pool Whole replies fs crew
+all-stepped cache restored pools trace start after replies fs crew between all = record {
   reached = after;
   between = between;
   ended = (omega (arith, between.few, all), refl);

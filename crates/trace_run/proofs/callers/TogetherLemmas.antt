@@ -109,7 +109,8 @@ module _ (pool_len : ℕ) (image : Option (List ℕ)) (blocks : List Ptr) where
   -- a line that ends a group has its answer
   end-answers : (earlier : List Op) (replied : List Reply) (o : Op) (r : Reply) → IsEndLine o r → Answers pool_len image blocks earlier replied o r
   end-answers earlier replied o r (inl cap) = subst (λ (x : Op). Answers pool_len image blocks earlier replied x r) (sym cap.1) cap.2
-  end-answers earlier replied o r (inr sync) = subst (λ (x : Op). Answers pool_len image blocks earlier replied x r) (sym sync.4) (sync.1, sync.2, sync.3, sync.5)
+  end-answers earlier replied o r (inr (inl sync)) = subst (λ (x : Op). Answers pool_len image blocks earlier replied x r) (sym sync.4) (sync.1, sync.2, sync.3, sync.5)
+  end-answers earlier replied o r (inr (inr feed)) = subst (λ (x : Op). Answers pool_len image blocks earlier replied x r) (sym feed.0) feed.1
 
   -- the answers so far, and those to what is left, where all lines are of these callers or end a group
   pub each-together : (who : ℕ → Type 0) (all : List Op) (whole : List Reply) → ((k : ℕ) (op : Op) → slice_get all k ≡ Some op → (n : ℕ) → caller_of op ≡ Some n → who n)

@@ -1,5 +1,5 @@
 -- Several callers between two groups of a trace: what all lines so far came to.
-use Rattle.std.specs.Prelude.{◌≡◌, ◌⊎◌, ◌<◌, ◌≤◌, ◌+◌, ◌%◌, ◌^◌, ℕ, suc, Bool, true, false, List, [], Option, Some, None, count_by, filter, length, map, slice_get, slice_index_or, take}
+use Rattle.std.specs.Prelude.{◌≡◌, ◌⊎◌, ◌<◌, ◌≤◌, ◌+◌, ◌%◌, ◌^◌, ◌++◌, ℕ, suc, Bool, true, false, List, [], Option, Some, None, count_by, filter, length, map, slice_get, slice_index_or, take}
 use Rattle.std.specs.List.{AllByRecursion}
 use Rattle.blk_ptr.specs.Size.{sector}
 use Rattle.blk_ptr.specs.declared.ptr.Ptr.{Ptr}
@@ -15,7 +15,7 @@ use Rattle.dbuf_state.specs.Soundness.{IsSound}
 use Rattle.txg_sync.specs.Items.{SyncItem}
 use Rattle.txg_sync.specs.declared.syncing.Synced.{Synced as SyncAnswer}
 use Rattle.trace_text.specs.declared.op.Op.{Op}
-use Rattle.trace_text.specs.declared.op.Op.TheVariants.{Cap, Txg}
+use Rattle.trace_text.specs.declared.op.Op.TheVariants.{Cap, Feed, Txg}
 use Rattle.trace_text.specs.declared.reply.Reply.{Reply}
 use Rattle.trace_text.specs.declared.reply.Reply.TheVariants.{Capped, Synced}
 use Rattle.trace_text.specs.declared.trace.Trace.{Trace}
@@ -26,8 +26,10 @@ use Rattle.trace_run.specs.declared.ran.Ending.{Ending}
 use Rattle.trace_run.specs.declared.ran.Ending.TheVariants.{Whole, Fork, Sync, Full}
 use Rattle.trace_run.specs.declared.kept_blocks.KeptBlock.{KeptBlock}
 use Rattle.trace_run.specs.Acts.{acts_of_lines}
-use Rattle.trace_run.specs.Answers.{is_pool_fault}
+use Rattle.trace_run.specs.Answers.{AnswersFeed, is_pool_fault}
 use Rattle.trace_run.specs.Effects.{calls_of_all}
+use Rattle.trace_run.specs.FeedEvents.{AreFeedsTold}
+use Rattle.trace_run.specs.Feeds.{FeedDone}
 use Rattle.trace_run.specs.callers.Group.{HaveWorked, IsAt, LeavesPool}
 use Rattle.trace_run.specs.callers.InOrder.{AreInOrder}
 use Rattle.trace_run.specs.KeptBlocks.{read_of}
@@ -41,9 +43,10 @@ use Rattle.trace_run.specs.Syncing.{SyncedJoined}
 use Rattle.trace_run.specs.Tally.{AreAnswered}
 use Rattle.trace_run.specs.callers.Together.{AreCut, BeginsGroup, BetweenGroups, WorkInGroups, groups_of, over_callers, replies_of_caller, between_groups}
 
--- the line gave a capacity, and is answered so; or it is a sync that is answered
+-- the line gave a capacity, and is answered so; or it is a sync that is answered; or it asked for a feed, and is answered by its report, or by none
 abbrev pub IsEndLine : Op → Reply → Type 0
-IsEndLine op reply = ((c : ℕ) × (op ≡ Cap c) × (reply ≡ Capped c)) ⊎ ((t group blocks bytes : ℕ) × (op ≡ Txg t) × (reply ≡ Synced group blocks bytes))
+IsEndLine op reply =
+    ((c : ℕ) × (op ≡ Cap c) × (reply ≡ Capped c)) ⊎ (((t group blocks bytes : ℕ) × (op ≡ Txg t) × (reply ≡ Synced group blocks bytes)) ⊎ ((op ≡ Feed) × AnswersFeed reply))
 
 -- the lines among these that are no caller's are
 abbrev pub AreEndLines : List Op → List Reply → Type 0
@@ -72,18 +75,19 @@ module _ {C : Type 0} where
     pub at : IsAt n crew.kept.items crew.parties.items reads party
     pub come : HasCome cache pool_len image blocks ops n replies reads party
 
-  -- All callers and the feeder have come to this by these lines, where these keys were restored. The feeder has settled all that it picked. What it has seen of
+  -- All callers and the feeder have come to this by these lines and these feeds, where these keys were restored. The feeder has settled all that it picked. What it has seen of
   -- each shard begins with the restores, and is cut by the capacities among the lines.
-  pub record HaveCome (cache : Cache) (restored : List Restored) (pool_len : ℕ) (image : Option (List ℕ)) (blocks : List Ptr) (ops : List Op) (replies : List Reply) (crew : Crew C) : Type 0 where
+  pub record HaveCome (cache : Cache) (restored : List Restored) (pool_len : ℕ) (image : Option (List ℕ)) (blocks : List Ptr) (ops : List Op) (replies : List Reply) (feeds : List FeedDone) (crew : Crew C) : Type 0 where
     pub long : length replies ≡ length ops
+    pub told : AreFeedsTold cache.config ops replies feeds
     pub kepts : length crew.kept.items ≡ cache.config.callers
     pub parties : length crew.parties.items ≡ cache.config.callers
     pub each : (n : ℕ) → n < cache.config.callers → ComesAt cache pool_len image blocks ops replies n crew
     pub ended : AreEndLines ops replies
     pub settled : HasSettled crew.feeder
-    pub feeder : IsFed cache crew.feeder.own.about.openings (events_by_feeder cache.config restored ops replies) (λ shard. seen_of cache.config shard crew.feeder) crew.feeder
+    pub feeder : IsFed cache crew.feeder.own.about.openings (events_by_feeder cache.config restored ops replies feeds) (λ shard. seen_of cache.config shard crew.feeder) crew.feeder
     pub begun : (shard : ℕ) → shard < cache.config.shards → StartsWith (seen_of cache.config shard crew.feeder) (restores_in cache.config restored shard)
-    pub cut : (shard : ℕ) → shard < cache.config.shards → AreCut cache.config restored blocks shard ops replies (seen_of cache.config shard crew.feeder)
+    pub cut : (shard : ℕ) → shard < cache.config.shards → AreCut cache.config restored blocks shard ops replies feeds (seen_of cache.config shard crew.feeder)
 
 -- what the pool counts once the callers did these lines, group by group
 pub record HaveCounted {P : Type 0} (pools : Ghosts P) (callers : ℕ) (ops : List Op) (replies : List Reply) (before now : P) : Type 0 where
@@ -108,10 +112,10 @@ pub record MaySync {P : Type 0} (pools : Ghosts P) (lines : ℕ) (now : BetweenG
   pub inside : now.next ≤ pools.size now.pool
 
 -- The callers stand between two groups of a trace, of which so many lines are answered.
-pub record AreBetween {C P : Type 0} (cache : Cache) (restored : List Restored) (pools : Ghosts P) (trace : Trace) (before now : BetweenGroups P) (replies : List Reply) (crew : Crew C) : Type 0 where
+pub record AreBetween {C P : Type 0} (cache : Cache) (restored : List Restored) (pools : Ghosts P) (trace : Trace) (before now : BetweenGroups P) (replies : List Reply) (feeds : List FeedDone) (crew : Crew C) : Type 0 where
   pub few : length replies ≤ length trace.ops
   pub begins : length replies < length trace.ops → BeginsGroup trace.ops (length replies)
-  pub come : HaveCome cache restored (pools.size before.pool) (pools.told before.pool) trace.blocks (take (length replies) trace.ops) replies crew
+  pub come : HaveCome cache restored (pools.size before.pool) (pools.told before.pool) trace.blocks (take (length replies) trace.ops) replies feeds crew
   -- the feeder knows how the cells began
   pub knows : Knows (openings_of trace) crew.feeder
   pub counted : HaveCounted pools cache.config.callers (take (length replies) trace.ops) replies before.pool now.pool
@@ -160,17 +164,13 @@ EndsLines pools trace replies (Full need left) reached after = ⊥
 
 -- All lines of the trace were done; or a fork of the pool failed before the group of the first line that isn't answered. No sync stops, since no line makes
 -- a block dirty yet.
-pub record AreDone {C P : Type 0} (cache : Cache) (restored : List Restored) (pools : Ghosts P) (trace : Trace) (before : BetweenGroups P) (after : P) (ending : Ending) (replies : List Reply) (crew : Crew C) : Type 0 where
+pub record AreDone {C P : Type 0} (cache : Cache) (restored : List Restored) (pools : Ghosts P) (trace : Trace) (before : BetweenGroups P) (after : P) (ending : Ending) (replies : List Reply) (feeds : List FeedDone) (crew : Crew C) : Type 0 where
   pub reached : BetweenGroups P
-  pub between : AreBetween cache restored pools trace before reached replies crew
+  pub between : AreBetween cache restored pools trace before reached replies feeds crew
   pub ended : EndsLines pools trace replies ending reached.pool after
 
--- each of these lines is one of so many callers
-abbrev pub AreOfCallers : (callers : ℕ) → List Op → Type 0
-AreOfCallers callers ops = (k : ℕ) (op : Op) → slice_get ops k ≡ Some op → (n : ℕ) × (caller_of op ≡ Some n) × (n < callers)
-
--- the next group was done, or none of it was begun, since a fork of the pool failed
-abbrev pub StepsOn : {C P : Type 0} → Cache → List Restored → Ghosts P → Trace → (start before after : BetweenGroups P) → (replied replies : List Reply) → (done : Bool) → (old new : Crew C) → Type 0
-StepsOn cache restored pools trace start before after replied replies true old new =
-    AreBetween cache restored pools trace start after replies new × (length replied < length replies)
-StepsOn cache restored pools trace start before after replied replies false old new = (replies ≡ replied) × (new ≡ old) × ForkFailed pools before.pool after.pool
+-- the next group was done, with these feeds behind those so far, or none of it was begun, since a fork of the pool failed
+abbrev pub StepsOn : {C P : Type 0} → Cache → List Restored → Ghosts P → Trace → (start before after : BetweenGroups P) → (replied replies : List Reply) → (fed feeds : List FeedDone) → (done : Bool) → (old new : Crew C) → Type 0
+StepsOn cache restored pools trace start before after replied replies fed feeds true old new =
+    AreBetween cache restored pools trace start after replies (fed ++ feeds) new × (length replied < length replies)
+StepsOn cache restored pools trace start before after replied replies fed feeds false old new = (replies ≡ replied) × (feeds ≡ []) × (new ≡ old) × ForkFailed pools before.pool after.pool

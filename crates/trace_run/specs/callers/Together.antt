@@ -34,6 +34,7 @@ use Rattle.trace_run.specs.declared.ran.Ending.TheVariants.{Whole, Fork, Sync, F
 use Rattle.trace_run.specs.Acts.{acts_of_lines, events_of_feeder}
 use Rattle.trace_run.specs.Answers.{is_pool_fault}
 use Rattle.trace_run.specs.Effects.{calls_of_all}
+use Rattle.trace_run.specs.Feeds.{FeedDone}
 use Rattle.trace_run.specs.Lines.{is_of_caller, replies_where}
 use Rattle.trace_run.specs.one_caller.PlainRun.{status_of}
 use Rattle.trace_run.specs.Restores.{events_by_feeder, found_keys}
@@ -97,7 +98,7 @@ reads_of_caller n histories = sum_by (λ history. count_by (λ e. is_pool_read e
 
 -- ---- groups
 
--- The line ends its group, and is done once all callers have come back. A feed will not, but none is done yet.
+-- The line ends its group, and is done once all callers have come back. A feed does not: the feeder does it while the callers do theirs.
 abbrev pub ends_group : Op → Bool
 ends_group (Read n t x window) = false
 ends_group (Hold n t x) = false
@@ -107,7 +108,7 @@ ends_group (Put n t at size fill) = false
 ends_group (Patch n t at from bytes) = false
 ends_group (Pin n t at) = false
 ends_group (Unpin n at) = false
-ends_group Feed = true
+ends_group Feed = false
 ends_group (Txg t) = true
 ends_group (Cap c) = true
 
@@ -228,22 +229,22 @@ module _ {P : Type 0} (pool : Ghosts P) (config : Config) (Cells : OfCells) wher
   WorkInGroups (group ∷ groups) from to =
       (worked : P) × (next : BetweenGroups P) × WorkAtOnce pool config.callers group from.pool worked × EndsGroup group.end (between_groups worked from.group from.next) next × WorkInGroups groups next to
 
--- At one place in the history of a shard stand these events. Before it stands all that these lines did there, and nothing else that a caller
+-- At one place in the history of a shard stand these events. Before it stands all that these lines did there, by these feeds, and nothing else that a caller
 -- or the feeder did.
-pub record IsCut (config : Config) (restored : List Restored) (blocks : List Ptr) (shard : ℕ) (ops : List Op) (replies : List Reply) (here : List Event) (history : List Event) : Type 0 where
+pub record IsCut (config : Config) (restored : List Restored) (blocks : List Ptr) (shard : ℕ) (ops : List Op) (replies : List Reply) (feeds : List FeedDone) (here : List Event) (history : List Event) : Type 0 where
   pub front : List Event
   pub rest : List Event
   pub whole : history ≡ front ++ (here ++ rest)
   pub callers : (n : ℕ) → n < config.callers
       → Tell (acts_in (shard_of config.shards) shard n (acts_of_lines blocks ops n (replies_of_caller n ops replies))) (own_moments n (moments (opening_of config) front))
-  pub feeder : own_events config.callers front ≡ events_by_feeder config restored ops replies shard
+  pub feeder : own_events config.callers front ≡ events_by_feeder config restored ops replies feeds shard
 
 -- Each line of these that ends a group cuts the history of a shard behind the lines before it. There stands what the line asks of the feeder: the new
 -- capacity; and nothing for a sync, since no line makes a block dirty yet.
-abbrev pub AreCut : Config → List Restored → List Ptr → (shard : ℕ) → List Op → List Reply → (history : List Event) → Type 0
-AreCut config restored blocks shard lines replies history =
+abbrev pub AreCut : Config → List Restored → List Ptr → (shard : ℕ) → List Op → List Reply → List FeedDone → (history : List Event) → Type 0
+AreCut config restored blocks shard lines replies feeds history =
     (k : ℕ) (op : Op) → slice_get lines k ≡ Some op → ends_group op ≡ true → k < length replies
-    → IsCut config restored blocks shard (take k lines) (take k replies) (events_of_feeder config.callers op) history
+    → IsCut config restored blocks shard (take k lines) (take k replies) feeds (events_of_feeder config.callers op) history
 
 -- ---- the cells at a sync
 
@@ -263,7 +264,7 @@ pub record StoodThen (trace : Trace) (closed : List OnHeap) (tick : ℕ) (cells 
 
 -- With two callers or more, each has a fork of the pool in each group, made as the group begins. Where one fails, that group isn't begun, and the
 -- pool has only counted that. Where a sync stops, the lines of its group are done, and none behind it is begun.
-pub record RunsTogether {P : Type 0} (pool : Ghosts P) (before after : P) (trace : Trace) (ending : Ending) (closed : List OnHeap) (report : Report) : Type 0 where
+pub record RunsTogether {P : Type 0} (pool : Ghosts P) (before after : P) (trace : Trace) (ending : Ending) (feeds : List FeedDone) (closed : List OnHeap) (report : Report) : Type 0 where
   -- the place of the first sync
   pub place : ℕ
   pub first : IsFirstPlace (pool.size before) trace.blocks place
@@ -273,4 +274,4 @@ pub record RunsTogether {P : Type 0} (pool : Ghosts P) (before after : P) (trace
   -- each caller's reads of its forks are those that its events stand for
   pub counted : (n : ℕ) → n < trace.config.callers → length (calls_of_all (replies_of_caller n trace.ops report.replies)) ≡ reads_of_caller n report.histories
   -- a capacity is given to each shard, and a sync done, once all lines before it are done, and before any line behind it is begun
-  pub cut : (shard : ℕ) → shard < length report.histories → AreCut trace.config (found_keys report.rebuilt) trace.blocks shard trace.ops report.replies (slice_index_or report.histories shard [])
+  pub cut : (shard : ℕ) → shard < length report.histories → AreCut trace.config (found_keys report.rebuilt) trace.blocks shard trace.ops report.replies feeds (slice_index_or report.histories shard [])
