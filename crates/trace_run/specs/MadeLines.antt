@@ -1,5 +1,5 @@
 -- The lines of a history that one party made.
-use Rattle.std.specs.Prelude.{ℕ, zero, suc, ◌==◌, ◌&&◌, Bool, if◌then◌else◌, List, [], ◌∷◌}
+use Rattle.std.specs.Prelude.{ℕ, suc, ◌==◌, ◌&&◌, Bool, if◌then◌else◌, List, [], ◌∷◌}
 use Rattle.std.specs.List.{list_any}
 use Rattle.turn_table.specs.Places.{Place}
 use Rattle.arc_core.specs.declared.config.Config.{Config}

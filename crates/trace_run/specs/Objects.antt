@@ -1,22 +1,20 @@
 -- Lines on objects: what was brought for one, what it did, and what it may be answered.
-use Rattle.std.specs.Prelude.{◌≡◌, ◌≢◌, ◌⊎◌, ◌==◌, ℕ, ◌+◌, ◌<◌, ◌≤◌, Bool, true, false, if◌then◌else◌, List, [], ◌∷◌, ◌++◌, length, map, Option, Some, None}
+use Rattle.std.specs.Prelude.{◌≡◌, ℕ, ◌<◌, List, [], ◌∷◌, ◌++◌, map, Option, Some, None}
 use Rattle.std.specs.List.{AllByRecursion}
 use Rattle.blk_ptr.specs.declared.ptr.Ptr.{Ptr}
-use Rattle.blk_ptr.specs.Key.{IsFirstKeyFault, IsValid}
+use Rattle.blk_ptr.specs.Key.{IsFirstKeyFault}
 use Rattle.arc_core.specs.declared.config.Config.{Config}
 use Rattle.arc_core.specs.declared.served.Served.{Served}
-use Rattle.arc_core.specs.Operations.{Act, Fails, GivesBack, Loads, MakesPrivate, actor_of}
+use Rattle.arc_core.specs.Operations.{Act, Fails, Loads, actor_of}
 use Rattle.arc_table.specs.Geometry.{cell_number}
 use Rattle.dbuf_cells.specs.Places.{cell_of}
-use Rattle.dbuf_state.specs.Answers.{IsAnswerAfter}
-use Rattle.dbuf_state.specs.Outline.{Outline, has_pin_at, mapped_at, mapped_size, outline_after}
+use Rattle.dbuf_state.specs.Outline.{Outline, mapped_at, mapped_size, outline_after}
 use Rattle.dbuf_state.specs.declared.event.CellEvent.{CellEvent}
 use Rattle.dbuf_state.specs.declared.event.CellEvent.TheVariants as events
 use Rattle.dbuf_state.specs.declared.oid.Oid.{Oid}
 use Rattle.dbuf_state.specs.declared.state.Mapped.{Mapped}
 use Rattle.dbuf_state.specs.declared.state.Mapped.TheVariants.{Clean}
 use Rattle.dbuf_state.specs.declared.state.Mapping.{Mapping}
-use Rattle.dbuf_state.specs.declared.window.Window.{Window}
 use Rattle.trace_text.specs.declared.op.Op.{Op}
 use Rattle.trace_text.specs.declared.op.Op.TheVariants as ops
 use Rattle.trace_text.specs.declared.reply.Refusal.{Refusal}

@@ -1,36 +1,28 @@
 -- A line that ends a group of several callers: what it leaves of the pool, and of what stands between two groups.
-use Rattle.std.proofs.Common.{◌≡◌, ◌⊎◌, ◌==◌, ℕ, suc, ◌+◌, ◌<◌, Bool, true, false, if◌then◌else◌, List, [], ◌∷◌, ◌++◌, map, Option, Some, None, Ok, refl, sym, ap, ◌∙◌, subst, inl, inr, arith}
+use Rattle.std.proofs.Common.{◌≡◌, ◌⊎◌, ◌==◌, ℕ, suc, ◌+◌, false, List, [], ◌∷◌, ◌++◌, map, Option, Some, None, Ok, refl, sym, ap, ◌∙◌, subst, inl, inr, arith}
 use Rattle.std.specs.Prelude.{slice_get, slice_index_or}
 use Rattle.std.specs.List.{AllByRecursion}
 use Rattle.std.specs.Option.{option_map_or}
-use Rattle.std.proofs.lemmas.Option.{slice_get_within}
 use Rattle.arc_core.specs.declared.event.Event.{Event}
-use Rattle.arc_table.specs.declared.view.Line.{Line}
 use Rattle.arc_table.specs.Cache.{Cache}
-use Rattle.arc_table.specs.Fronts.{front_of}
 use Rattle.dbuf_cells.specs.Turns.{OnHeap, PartyPlace}
 use Rattle.dbuf_state.specs.Dbufs.{dirty_oids}
-use Rattle.dbuf_state.specs.Numbers.{event_numbers}
-use Rattle.dbuf_state.specs.declared.event.CellEvent.{CellEvent}
-use Rattle.dbuf_state.specs.declared.oid.Oid.{Oid}
 use Rattle.txg_sync.specs.Items.{SyncItem, due_in, dues_from, items_from, need_of, tells_written}
 use Rattle.txg_sync.specs.Syncing.{AnswersWith}
-use Rattle.txg_sync.specs.Turns.{synced_in}
 use Rattle.txg_sync.specs.declared.due.Due.{Due}
 use Rattle.txg_sync.specs.declared.syncing.Synced.{Synced as SyncAnswer}
 use Rattle.trace_text.specs.declared.op.Op.{Op}
 use Rattle.trace_text.specs.declared.op.Op.TheVariants as ops
 use Rattle.trace_text.specs.declared.reply.Reply.{Reply}
-use Rattle.trace_text.specs.declared.reply.Reply.TheVariants.{Capped, Synced}
 use Rattle.vdev_io.specs.declared.pool.Pool.{Ghosts}
 use Rattle.trace_run.specs.declared.groups.Crew.{Crew}
 use Rattle.trace_run.specs.callers.Groups.{DidCap, DidEndLine, DidSync, StoodFresh}
-use Rattle.trace_run.specs.callers.Together.{EndsGroup, BetweenGroups, replies_of_caller, between_groups}
+use Rattle.trace_run.specs.callers.Together.{EndsGroup, BetweenGroups, replies_of_caller}
 use Rattle.trace_run.specs.Lines.{caller_of, is_of_caller}
 use Rattle.trace_run.specs.Making.{AreNoEntries}
 use Rattle.trace_run.specs.Meeting.{MadeJoined, resizes_in}
 use Rattle.trace_run.specs.Openings.{Knows}
-use Rattle.trace_run.specs.Syncing.{SyncedJoined, SyncsJoined, inserts_in, lines_of}
+use Rattle.trace_run.specs.Syncing.{SyncedJoined, SyncsJoined, inserts_in}
 use Rattle.trace_run.proofs.syncs.SyncJoined.{none-among, none-dirty-in}
 use Rattle.trace_run.proofs.callers.GroupsLemmas.{EndsSo, cap-ends, sync-ends}
 

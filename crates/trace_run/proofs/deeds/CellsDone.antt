@@ -1,13 +1,9 @@
 -- What a turn of a cell of dbufs, or several, come to for their party: what it made of each history, what it has seen, and what it lists.
-use Rattle.std.proofs.Common.{◌≡◌, ◌≢◌, ◌⊎◌, ℕ, zero, suc, ◌<◌, ◌≤◌, ◌==◌, Bool, true, false, if◌then◌else◌, List, [], ◌∷◌, ◌++◌, length, map, Option, Some, refl, sym, ap, ◌∙◌, subst, inl, inr, arith, append-nil, append_assoc, eq-eqb, ne_eqb}
-use Rattle.std.specs.Prelude.{filter}
-use Rattle.std.specs.List.{AllByRecursion}
+use Rattle.std.proofs.Common.{◌≡◌, ◌≢◌, ◌⊎◌, ℕ, zero, suc, ◌<◌, ◌==◌, true, false, List, [], ◌∷◌, ◌++◌, map, Option, Some, refl, sym, ap, ◌∙◌, subst, inl, inr, arith, append-nil, append_assoc, eq-eqb, ne_eqb}
 use Rattle.std.proofs.lemmas.List.{map-append}
-use Rattle.std.proofs.lemmas.List.Elements.{filter-append}
 use mathlib.Core.Logic.{dite}
 use native.Mathlib.Decide.{ℕ_discrete}
 use Rattle.arc_lists.proofs.Tables.{cases_true}
-use Rattle.blk_ptr.specs.declared.ptr.Ptr.{Ptr}
 use Rattle.arc_core.specs.Config.{IsConfig}
 use Rattle.arc_core.specs.declared.config.Config.{Config}
 use Rattle.arc_core.specs.declared.event.Event.{Event}
@@ -31,16 +27,14 @@ use Rattle.arc_table.specs.Telling.{opening_of}
 use Rattle.arc_table.specs.Views.{after_cell}
 use Rattle.arc_table.proofs.cell_lemmas.EntriesSeen.{given-entries, given-sees, seen-at-take}
 use Rattle.arc_table.proofs.Reached.{Took, loses_same, took_is}
-use Rattle.dbuf_cells.specs.Turns.{CellTurn, FindsBringing, OnHeap, PartyPlace, WaitsForDbuf, dbuf_meanings}
-use Rattle.dbuf_cells.specs.Places.{cell_of}
+use Rattle.dbuf_cells.specs.Turns.{CellTurn, OnHeap, PartyPlace, WaitsForDbuf, dbuf_meanings}
 use Rattle.dbuf_state.specs.Numbers.{event_numbers}
 use Rattle.dbuf_state.specs.declared.event.CellEvent.{CellEvent}
 use Rattle.dbuf_state.specs.declared.oid.Oid.{Oid}
 use Rattle.trace_run.specs.DbufTurns.{CellsDone, held_through}
 use Rattle.trace_run.specs.Deeds.{Noted, events_of_cell, events_there, lines_of_cell, noted_in}
-use Rattle.trace_run.specs.MadeLines.{made_from, made_of}
-use Rattle.trace_run.specs.Making.{HasSeenItsEvents}
-use Rattle.trace_run.proofs.CellsLeft.{CellsGrow, leaves-seen}
+use Rattle.trace_run.specs.MadeLines.{made_of}
+use Rattle.trace_run.proofs.CellsLeft.{leaves-seen}
 use Rattle.trace_run.proofs.deeds.MadeCells.{given-made, given-made-else, took-made, took-made-else}
 use Rattle.trace_run.proofs.deeds.TurnMakes.{AreTurnEvents, TurnMakes, all-made, held-append, own-there, starts-on, there-append}
 

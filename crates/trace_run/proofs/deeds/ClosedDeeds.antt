@@ -1,15 +1,10 @@
 -- What a closed cache's histories are: of each party just what it is told to have made.
-use Rattle.std.proofs.Common.{◌≡◌, ◌⊎◌, ℕ, zero, suc, ◌+◌, ◌<◌, ◌≤◌, ◌==◌, Bool, true, false, not, ◌&&◌, if◌then◌else◌, IsTrue, List, [], ◌∷◌, ◌++◌, length, map, refl, sym, ap, ◌∙◌, subst, inl, inr, eq-eqb, arith}
-use Rattle.std.specs.Prelude.{filter}
+use Rattle.std.proofs.Common.{◌≡◌, ℕ, ◌==◌, false, List, [], ◌∷◌, ◌++◌, map, refl, sym, ap, ◌∙◌, subst, inl, inr}
 use Rattle.std.specs.List.{AllByRecursion}
-use Rattle.std.proofs.lemmas.Bool.{eqb-true, false≢true}
-use mathlib.Core.Option.{some, some-injective, some-ne-none}
-use lib.ListN.{get_elem?}
 use Rattle.arc_lists.proofs.Tables.{cases_true}
-use Rattle.arc_core.specs.declared.config.Config.{Config}
 use Rattle.arc_core.specs.declared.event.Event.{Event}
 use Rattle.arc_core.specs.declared.event.Event.TheVariants.{Pass, Hit, Miss, Arrive, Fail, Drop, Past, Hand, Insert, Release, Pick, FeedEnd, Set, Leave, Clear, Restore, Resize}
-use Rattle.arc_core.specs.Operations.{Act, GivesBack, MakesPrivate, Moment, StandsFor, Tell, Writes, is_pass, moments, number_of, own_moments}
+use Rattle.arc_core.specs.Operations.{Act, GivesBack, MakesPrivate, StandsFor, Tell, Writes, is_pass, moments, number_of, own_moments}
 use Rattle.arc_core.specs.PlainShard.{PlainShard}
 use Rattle.arc_core.specs.Step.{after}
 use Rattle.dbuf_state.specs.Numbers.{event_in, event_numbers}

@@ -1,6 +1,5 @@
 -- How what a party did is told, once it did more.
-use Rattle.std.proofs.Common.{◌≡◌, ◌≢◌, ◌⊎◌, ℕ, ◌<◌, ◌≤◌, ◌==◌, ◌&&◌, Bool, true, false, if◌then◌else◌, List, [], ◌∷◌, ◌++◌, map, Option, Some, refl, sym, ap, ◌∙◌, subst, inl, inr, arith, append-nil, append_assoc, eq-eqb, ne_eqb}
-use Rattle.std.specs.Prelude.{filter}
+use Rattle.std.proofs.Common.{◌≡◌, ◌≢◌, ◌⊎◌, ℕ, ◌==◌, ◌&&◌, true, false, if◌then◌else◌, List, [], ◌∷◌, ◌++◌, map, refl, sym, ap, ◌∙◌, subst, inl, inr, append-nil, append_assoc, ne_eqb}
 use Rattle.std.specs.List.{AllByRecursion}
 use Rattle.std.specs.Option.{option_map_or}
 use Rattle.std.proofs.lemmas.Bool.{eqb-true}
@@ -11,14 +10,12 @@ use Rattle.blk_ptr.specs.declared.key.Key.{Key}
 use Rattle.arc_core.specs.declared.config.Config.{Config}
 use Rattle.arc_core.specs.declared.event.Event.{Event}
 use Rattle.arc_core.specs.declared.event.Event.TheVariants.{Drop, Hand, Release}
-use Rattle.arc_core.specs.Operations.{Act, GivesBack, MakesPrivate, Tell, act_key, actor_of, acts_in, event_key, moments, number_of, own_events, own_moments}
+use Rattle.arc_core.specs.Operations.{Act, GivesBack, MakesPrivate, act_key, actor_of, acts_in, event_key, number_of}
 use Rattle.turn_table.specs.Places.{Place}
 use Rattle.arc_table.specs.declared.view.Known.{Known}
-use Rattle.arc_table.specs.declared.view.Line.{Line}
 use Rattle.arc_table.specs.declared.view.Line.TheVariants as line
 use Rattle.arc_table.specs.Geometry.{IsCell}
-use Rattle.arc_table.specs.Seen.{events_in, seen_of, turn_of}
-use Rattle.arc_table.specs.Telling.{opening_of}
+use Rattle.arc_table.specs.Seen.{turn_of}
 use Rattle.arc_table.specs.Told.{IsTold}
 use Rattle.trace_run.specs.Deeds.{HasAct, HasToldAll, Noted, SameMade, act_of_event, acts_of_events, events_there, lines_of_cell, with_number}
 use Rattle.trace_run.specs.MadeLines.{made_in, made_of}

@@ -1,6 +1,6 @@
 -- What a party made of a cell, as it takes it and gives it back; and what is each one's of a history in the end.
-use Rattle.std.proofs.Common.{◌≡◌, ◌≢◌, ℕ, zero, suc, ◌+◌, ◌-◌, ◌<◌, ◌==◌, true, false, if◌then◌else◌, List, [], ◌∷◌, ◌++◌, length, map, refl, sym, ap, ◌∙◌, subst, inl, inr, arith, eq-eqb, ne_eqb, length-append}
-use Rattle.std.proofs.lemmas.List.{length-map, map-append}
+use Rattle.std.proofs.Common.{◌≡◌, ◌≢◌, ℕ, zero, suc, ◌+◌, ◌-◌, ◌<◌, ◌==◌, if◌then◌else◌, List, [], ◌∷◌, ◌++◌, length, map, refl, sym, ap, ◌∙◌, subst, inl, inr, arith, eq-eqb, ne_eqb, length-append}
+use Rattle.std.proofs.lemmas.List.{map-append}
 use mathlib.Core.Logic.{dite}
 use native.Mathlib.Decide.{ℕ_discrete}
 use mathlib.Core.Option.{some, some-injective, some-ne-none}
@@ -20,16 +20,16 @@ use Rattle.arc_table.specs.pact.Attached.{IsShown}
 use Rattle.arc_table.specs.pact.Logged.{Logged}
 use Rattle.arc_table.specs.pact.Scene.{Scene}
 use Rattle.arc_table.specs.Fronts.{StartsWith, front_of}
-use Rattle.arc_table.specs.Geometry.{IsCell, parties_of}
+use Rattle.arc_table.specs.Geometry.{IsCell}
 use Rattle.arc_table.specs.Giving.{IsGivenCell}
 use Rattle.arc_table.specs.Items.{Meanings, lines_in}
-use Rattle.arc_table.specs.Seen.{HasSeenItsEntries, turn_of}
+use Rattle.arc_table.specs.Seen.{HasSeenItsEntries}
 use Rattle.arc_table.specs.TableLaws.{starts_whole}
 use Rattle.arc_table.proofs.TableLaws.{front_else, front_here}
 use Rattle.arc_table.specs.Views.{after_cell, mines_from, recorded}
 use Rattle.arc_table.proofs.Reached.{Took}
 use Rattle.trace_run.specs.MadeLines.{is_listed, made_from, made_of, owned_from}
-use Rattle.trace_run.proofs.deeds.MadeLemmas.{AreBelow, at-listed, listed-at, listed-none, made-else, made-grown, made-more}
+use Rattle.trace_run.proofs.deeds.MadeLemmas.{AreBelow, at-listed, listed-none, made-else, made-grown, made-more}
 use Rattle.trace_run.proofs.deeds.MakesLemmas.{entries-below}
 
 -- ---- a cell that is taken

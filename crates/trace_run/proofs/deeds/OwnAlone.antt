@@ -1,5 +1,5 @@
 -- A party that is told to have done acts of its own number alone, and nothing to a cell, made just events of shards with its own number.
-use Rattle.std.proofs.Common.{◌≡◌, ◌≢◌, ◌⊎◌, ℕ, zero, suc, ◌+◌, ◌<◌, ◌≤◌, ◌==◌, Bool, true, false, if◌then◌else◌, List, [], ◌∷◌, ◌++◌, map, refl, sym, ap, ◌∙◌, subst, inl, inr, arith, eq-eqb}
+use Rattle.std.proofs.Common.{◌≡◌, ◌≢◌, ◌⊎◌, ℕ, zero, suc, ◌+◌, ◌<◌, ◌≤◌, ◌==◌, Bool, true, false, if◌then◌else◌, List, [], ◌∷◌, ◌++◌, refl, sym, ap, ◌∙◌, subst, inl, inr, arith, eq-eqb}
 use Rattle.std.specs.List.{AllByRecursion}
 use mathlib.Core.Option.{some, some-injective, some-ne-none}
 use lib.ListN.{get_elem?}
@@ -14,9 +14,9 @@ use Rattle.arc_table.specs.declared.view.Line.{Line}
 use Rattle.arc_table.specs.declared.view.Line.TheVariants as line
 use Rattle.arc_table.specs.declared.view.Mine.{Mine}
 use Rattle.arc_table.specs.Fronts.{front_of}
-use Rattle.arc_table.specs.Geometry.{IsCell, parties_of}
-use Rattle.arc_table.specs.Seen.{AreSeen, HasSeenItsEntries, IsSeen, events_in, turn_of}
-use Rattle.trace_run.specs.Deeds.{HasAct, HasToldAll, act_of_event, acts_of_events, with_number}
+use Rattle.arc_table.specs.Geometry.{parties_of}
+use Rattle.arc_table.specs.Seen.{HasSeenItsEntries, events_in, turn_of}
+use Rattle.trace_run.specs.Deeds.{HasAct, HasToldAll, acts_of_events, with_number}
 use Rattle.trace_run.specs.MadeLines.{is_listed, made_from, made_in}
 use Rattle.arc_table.specs.Cache.{Cache}
 use Rattle.trace_run.specs.declared.kept_blocks.KeptBlock.{KeptBlock}

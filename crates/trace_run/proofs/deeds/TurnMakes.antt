@@ -1,14 +1,12 @@
 -- What a party makes of shards while it has a cell in hand, and what it has seen and lists then.
-use Rattle.std.proofs.Common.{◌≡◌, ◌≢◌, ◌⊎◌, ℕ, zero, suc, ◌<◌, ◌≤◌, ◌==◌, Bool, true, false, if◌then◌else◌, List, [], ◌∷◌, ◌++◌, length, map, Option, Some, refl, sym, ap, ◌∙◌, subst, inl, inr, arith, append-nil, append_assoc, eq-eqb, ne_eqb}
-use Rattle.std.specs.Prelude.{filter}
+use Rattle.std.proofs.Common.{◌≡◌, ◌≢◌, ◌⊎◌, ℕ, zero, suc, ◌<◌, ◌≤◌, ◌==◌, Bool, true, false, if◌then◌else◌, List, [], ◌∷◌, ◌++◌, map, Option, Some, refl, sym, ap, ◌∙◌, subst, inl, inr, arith, append-nil, append_assoc, eq-eqb, ne_eqb}
 use Rattle.std.specs.List.{AllByRecursion}
 use Rattle.std.specs.Option.{option_map_or}
 use Rattle.std.proofs.lemmas.List.{map-append}
 use Rattle.std.proofs.lemmas.List.Elements.{filter-append}
 use mathlib.Core.Logic.{dite}
-use mathlib.Core.Option.{some, some-injective, some-ne-none}
+use mathlib.Core.Option.{some-ne-none}
 use native.Mathlib.Decide.{ℕ_discrete}
-use lib.ListN.{get_elem?}
 use Rattle.arc_lists.proofs.Tables.{cases_true}
 use Rattle.blk_ptr.specs.Hash.{shard_of}
 use Rattle.blk_ptr.specs.declared.key.Key.{Key}
@@ -19,17 +17,11 @@ use Rattle.arc_core.specs.declared.event.Event.{Event}
 use Rattle.arc_core.specs.declared.event.Event.TheVariants.{Drop, Hand, Release}
 use Rattle.arc_core.specs.Operations.{Moment, event_key, is_pass, moments, number_of, own_events, own_moments}
 use Rattle.arc_core.specs.PlainShard.{PlainShard}
-use Rattle.arc_core.specs.Replay.{replay}
 use Rattle.arc_core.proofs.OwnEvents.{own-events-are}
-use Rattle.turn_table.specs.Places.{IsIn}
-use Rattle.turn_table.specs.declared.standing.Kept.{Kept}
 use Rattle.arc_table.specs.declared.about.About.{About}
-use Rattle.arc_table.specs.declared.item.Item.{Item}
-use Rattle.arc_table.specs.declared.view.Known.{Known}
 use Rattle.arc_table.specs.declared.view.Ledger.{Ledger}
 use Rattle.arc_table.specs.declared.view.Line.{Line}
 use Rattle.arc_table.specs.declared.view.Line.TheVariants as line
-use Rattle.arc_table.specs.Booking.{without_hold}
 use Rattle.arc_table.specs.Both.{Does}
 use Rattle.arc_table.specs.Fronts.{StartsWith, front_of, item_at}
 use Rattle.arc_table.specs.Geometry.{IsCell, parties_of}
@@ -48,7 +40,7 @@ use Rattle.trace_run.specs.Deeds.{events_there}
 use Rattle.trace_run.specs.MadeLines.{made_of}
 use Rattle.trace_run.specs.Making.{HasSeenItsEvents}
 use Rattle.trace_run.proofs.CellsLeft.{LeavesCells, does-leaves, leaves-same, leaves-then}
-use Rattle.trace_run.proofs.deeds.MakesLemmas.{MakesMore, does-long, makes-more}
+use Rattle.trace_run.proofs.deeds.MakesLemmas.{does-long, makes-more}
 
 -- With a cell in hand its party hands a hold of its own to the cell, or drops or releases one with the cell's number c.
 abbrev pub IsTurnEvent : (n c : ℕ) → Event → Type 0

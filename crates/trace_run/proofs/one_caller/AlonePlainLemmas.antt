@@ -1,6 +1,6 @@
 -- The lines of a caller that is alone, over a pool and a cache device that tell their bytes: its report is that of the plain run, but that a block which
 -- did not come from the pool may be another content of its digest.
-use Rattle.std.proofs.Common.{◌≡◌, ℕ, ◌+◌, ◌<◌, ◌&&◌, Bool, true, false, if◌then◌else◌, List, [], ◌∷◌, ◌++◌, length, drop, Option, Some, None, IfSome, inl, inr, refl, sym, ap, subst, ◌∙◌, arith}
+use Rattle.std.proofs.Common.{◌≡◌, ℕ, ◌+◌, ◌<◌, Bool, true, false, if◌then◌else◌, List, [], ◌∷◌, ◌++◌, length, drop, Option, Some, None, IfSome, inl, inr, refl, sym, ap, subst, ◌∙◌, arith}
 use Rattle.std.specs.Prelude.{nat_le, option_and_then, slice_get}
 use Rattle.std.specs.List.{AllByRecursion}
 use Rattle.std.specs.Option.{option_map_or}
@@ -17,7 +17,6 @@ use Rattle.arc_core.specs.declared.config.Config.{Config}
 use Rattle.arc_core.specs.declared.entry.Entry.{Entry}
 use Rattle.arc_core.specs.declared.served.Restored.{Restored}
 use Rattle.arc_core.specs.declared.served.Served.{Served}
-use Rattle.arc_core.specs.declared.served.Served.TheVariants as served
 use Rattle.arc_core.specs.PlainShard.{PlainShard, entry_of}
 use Rattle.arc_core.specs.Replay.{replay}
 use Rattle.arc_table.specs.Seen.{HasAll}
@@ -32,7 +31,7 @@ use Rattle.trace_text.specs.declared.trace.Trace.{Trace}
 use Rattle.dbuf_state.specs.declared.window.Window.{Window}
 use Rattle.trace_run.specs.one_caller.Access as access
 use Rattle.trace_run.specs.one_caller.Access.{Access, access_of}
-use Rattle.trace_run.specs.one_caller.Asking.{AsksBlock, AsksLine, AsksLines, AsksRead, CameFromDevice, NamesServed, answered_all, asked_by, asked_by_read, next_call, place_asked, place_in, place_on, place_to_ask, read_on, serves, source_at, source_of}
+use Rattle.trace_run.specs.one_caller.Asking.{AsksBlock, AsksLine, AsksLines, AsksRead, CameFromDevice, NamesServed, answered_all, asked_by, asked_by_read, next_call, place_asked, place_in, place_on, read_on, serves, source_at, source_of}
 use Rattle.trace_run.specs.KeptReads.{KeptRead}
 use Rattle.trace_run.specs.Answering.{IsReadOfImage}
 use Rattle.trace_run.specs.Answers.{AnswersHold, AnswersRead, IsReadRefusal, IsWindowRefusal}

@@ -17,7 +17,7 @@ use Rattle.trace_text.specs.declared.op.Op.TheVariants as ops
 use Rattle.trace_text.specs.declared.reply.Reply.{Reply}
 use Rattle.trace_text.specs.declared.reply.Reply.TheVariants.{Capped}
 use Rattle.dbuf_state.specs.declared.window.Window.{Window}
-use Rattle.trace_run.specs.callers.CallerLines.{At, DidLine, DidLines, HasFed, HasResized}
+use Rattle.trace_run.specs.callers.CallerLines.{At, DidLines, HasFed, HasResized}
 use Rattle.trace_run.specs.Effects.{effect_of}
 use Rattle.trace_run.specs.KeptReads.{KeptRead}
 use Rattle.trace_run.specs.Lines.{shard_of_line}

@@ -1,6 +1,6 @@
 -- The feeder syncs while all other parties have joined it: what it and they are then. No line makes a block dirty yet, so nothing is written.
-use Rattle.std.proofs.Common.{◌≡◌, ◌≢◌, ◌⊎◌, ℕ, zero, suc, ◌+◌, ◌<◌, ◌≤◌, Bool, true, false, if◌then◌else◌, not, List, [], ◌∷◌, ◌++◌, length, map, Option, Some, None, Result, Ok, Err, refl, sym, ap, ◌∙◌, subst, inl, inr, arith, append-nil}
-use Rattle.std.specs.Prelude.{IsPermutation, slice_get, slice_index_or}
+use Rattle.std.proofs.Common.{◌≡◌, ◌≢◌, ◌⊎◌, ℕ, zero, suc, ◌+◌, ◌<◌, ◌≤◌, true, List, [], ◌∷◌, ◌++◌, length, map, Option, Some, None, Result, Ok, Err, refl, sym, ap, ◌∙◌, subst, inl, inr, arith, append-nil}
+use Rattle.std.specs.Prelude.{slice_get, slice_index_or}
 use Rattle.std.specs.List.{AllByRecursion}
 use Rattle.std.proofs.lemmas.Option.{slice_get_within}
 use mathlib.Core.Option.{some}
@@ -20,13 +20,11 @@ use Rattle.dbuf_state.specs.Dbufs.{dirty_oids, is_clean, plain_block, plain_dbuf
 use Rattle.dbuf_state.specs.History.{Leads}
 use Rattle.dbuf_state.specs.Objects.{PlainCell, PlainDbuf, opened, opening_cell}
 use Rattle.dbuf_state.specs.Objects.{Uncached}
-use Rattle.dbuf_state.specs.Oids.{oid_eq}
 use Rattle.dbuf_state.specs.Soundness.{IsSound, plain_cell}
 use Rattle.dbuf_state.specs.declared.dbuf.Content.{Content}
 use Rattle.dbuf_state.specs.declared.dbuf.Content.TheVariants.{Clean, Dirty}
 use Rattle.dbuf_state.specs.declared.dbuf.Dbuf.{Dbuf}
 use Rattle.dbuf_state.specs.declared.event.CellEvent.{CellEvent}
-use Rattle.dbuf_state.specs.declared.oid.Oid.{Oid}
 use Rattle.dbuf_state.specs.declared.state.DbState.{DbState}
 use Rattle.dbuf_state.specs.declared.state.Mapping.{Mapping}
 use Rattle.txg_sync.specs.Items.{SyncItem, due_in, dues_from, items_from, need_of, tells_written}
@@ -39,7 +37,7 @@ use Rattle.trace_run.specs.callers.Group.{LeavesPool}
 use Rattle.txg_sync.specs.Turns.{GivesFrom, SyncsCells}
 use Rattle.txg_sync.specs.declared.due.Due.{Due}
 use Rattle.trace_run.specs.KeptBlocks.{AllQuiet, Stands, times}
-use Rattle.trace_run.specs.Making.{AreNoEntries, MadeItsOwn}
+use Rattle.trace_run.specs.Making.{AreNoEntries}
 use Rattle.trace_run.specs.Meeting.{AreLast, IsApart, JoinAll, MadeJoined, PartAll}
 use Rattle.trace_run.specs.Syncing.{SyncedJoined, SyncsJoined, inserts_in, lines_of}
 use Rattle.trace_run.proofs.CellEnds.{IsUntouched, nothing-from}

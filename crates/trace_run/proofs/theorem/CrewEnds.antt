@@ -1,5 +1,5 @@
 -- The parties of several callers behind the ends of all cells: what they did is told, and all have seen the same, whatever was done to cells.
-use Rattle.std.proofs.Common.{◌≡◌, ℕ, zero, suc, ◌+◌, ◌<◌, ◌==◌, List, [], ◌∷◌, ◌++◌, length, length-append, map, refl, sym, ap, ◌∙◌, subst, inl, inr, arith}
+use Rattle.std.proofs.Common.{◌≡◌, ℕ, zero, suc, ◌<◌, ◌==◌, List, [], ◌∷◌, ◌++◌, length, map, refl, sym, ap, ◌∙◌, subst, inl, inr, arith}
 use Rattle.std.specs.Prelude.{filter}
 use Rattle.std.specs.List.{AllByRecursion}
 use mathlib.Core.Option.{some, some-injective, some-ne-none}
@@ -13,7 +13,6 @@ use Rattle.turn_table.specs.Places.{Place}
 use Rattle.arc_table.specs.declared.view.Known.{Known}
 use Rattle.arc_table.specs.declared.view.Line.{Line}
 use Rattle.arc_table.specs.Cache.{Cache}
-use Rattle.arc_table.specs.Geometry.{parties_of}
 use Rattle.arc_table.specs.Seen.{events_in, seen_of}
 use Rattle.arc_table.specs.Telling.{opening_of}
 use Rattle.arc_table.specs.TableLaws.{get_front, within}

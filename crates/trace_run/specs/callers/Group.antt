@@ -1,5 +1,5 @@
 -- The work of several callers at once, each by its own lines, with its own party and its own fork of the pool.
-use Rattle.std.specs.Prelude.{◌≡◌, ◌<◌, ◌≤◌, ◌+◌, ℕ, List, filter, length, map, min, ◌++◌}
+use Rattle.std.specs.Prelude.{◌≡◌, ◌<◌, ◌≤◌, ℕ, List, filter, length, map, min, ◌++◌}
 use mathlib.Core.Option.{some}
 use lib.ListN.{get_elem?}
 use Rattle.blk_ptr.specs.declared.ptr.Ptr.{Ptr}
