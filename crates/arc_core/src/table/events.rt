@@ -17,7 +17,6 @@ use crate::event::{FailedAt, Origin};
 use crate::holds::Holds;
 use arc_lists::Ghost;
 use blk_ptr::{Digest, Key, State};
-use key_table::NO_PLACE;
 
 // The state of an entry whose bytes have arrived.
 fn arrived_state(state: State) -> State
@@ -73,15 +72,6 @@ fn read_state(was_there: bool) -> State
 }
 
 impl Table {
-    /// A hit of `n` at tick `t`.
-    pub fn hit(&mut self, n: u32, key: Key, t: u64)
-        requires legal { IsTrue (legal self.old.shard (Event.Hit n key t)) }
-        requires counts { owed_of self.old.shard + 1 < 2 ^ 32 }
-        ensures { self.new ≡ record self.old { shard = effect self.old.shard (Event.Hit n key t) } }
-    {
-        self.hit_near(NO_PLACE, n, key, t);
-    }
-
     /// A hit of `n` at tick `t`. `near` is where the entry stood, and may be any number.
     #[inline(always)]
     pub fn hit_near(&mut self, near: usize, n: u32, key: Key, t: u64)
