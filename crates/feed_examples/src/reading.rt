@@ -82,6 +82,33 @@ pub fn read_back<R: Wait, D: CacheDev>(
     Some(ReadBack { from, bytes })
 }
 
+/// Reads a block where this device stands in the place of the scene's, and gives it back. None where the read is refused, or memory for its bytes.
+pub fn read_back_over<R: Wait, D: CacheDev, E: CacheDev>(
+    rt: &R,
+    alloc: Global,
+    scene: &mut FeedScene<D>,
+    ptr: &Ptr,
+    tick: u64,
+    device: &mut E,
+) -> Option<ReadBack>
+    requires { IsScene scene.old.arcs scene.old.feeder scene.old.one (D.size scene.old.l2.dev) scene.old.l2.cursor }
+    ensures { IsScene scene.new.arcs scene.new.feeder scene.new.one (D.size scene.new.l2.dev) scene.new.l2.cursor }
+{
+    let (hold, from) = get(
+        rt,
+        &scene.arcs,
+        &mut scene.one,
+        ptr,
+        tick,
+        &mut scene.pool,
+        device,
+    )?;
+    let bytes = hold.block().bytes().to_vec(alloc);
+    give_back(rt, &scene.arcs, &mut scene.one, hold);
+    let bytes = bytes.ok()?;
+    Some(ReadBack { from, bytes })
+}
+
 /// Reads and feeds the first so many blocks of the soak one by one, from a pool that has them. Answers how many feeds were done and gave one place.
 pub fn fed_blocks<R: Wait, D: CacheDev>(
     rt: &R,
