@@ -10,6 +10,7 @@ use Rattle.l2_ring.specs.declared.live.Written.{Written}
 use Rattle.l2_ring.specs.declared.plan.Plan.{Plan}
 use Rattle.l2_ring.specs.Stays.{stays}
 use Rattle.l2_dev.specs.declared.stop.Stop.{Stop}
+use Rattle.l2_dev.specs.declared.stop.Stop.TheVariants.{Zero, Short, Header, Outside, Evicted, Block, Length, DevFault}
 use Rattle.l2_dev.specs.declared.walk.WalkEnd.{WalkEnd}
 use Rattle.l2_dev.specs.declared.walk.WalkEnd.TheVariants as ends
 use Rattle.l2_dev.specs.Chain.{Visit, IsChain, IsPassed, IsHeld, IsLinked, pointer_behind, numbers_in}
@@ -23,6 +24,17 @@ visit_of ptr block = record { ptr = ptr; block = block }
 abbrev pub EndsWith : (Stop → Type 0) → WalkEnd → Type 0
 EndsWith P (ends.Stop why) = P why
 EndsWith P ends.NoMemory = Unit {0}
+
+-- a rebuild of a device that is long enough may end for this reason
+abbrev pub IsOfRebuild : Stop → Type 0
+IsOfRebuild Zero = Unit {0}
+IsOfRebuild (Short len) = ⊥
+IsOfRebuild (Header fault) = Unit {0}
+IsOfRebuild (Outside place) = Unit {0}
+IsOfRebuild (Evicted place) = Unit {0}
+IsOfRebuild (Block fault) = Unit {0}
+IsOfRebuild (Length walked) = Unit {0}
+IsOfRebuild DevFault = Unit {0}
 
 -- an entry that may be live: it lies in the part that its lap asks for, and its key is one of a block
 pub record IsFit (numbers : Plan) (written : Written) : Type 0 where

@@ -1,6 +1,6 @@
 //! What is found on a device again: its header, and the entries that the walk restores (`l2arc_rebuild`, `l2arc_dev_hdr_read` and
 //! `l2arc_log_blk_restore` of OpenZFS's `arc.c`).
-ghost use Rattle.std.specs.Prelude.{◌≡◌, ◌<◌, ◌≤◌, ◌⊎◌, ◌++◌, ◌∷◌, ℕ, [], List, length, map, reverse, Option, None, Some, IfOk, OnOk, OnErr, IsErrOf, MatchResult};
+ghost use Rattle.std.specs.Prelude.{◌≡◌, ◌<◌, ◌≤◌, ◌⊎◌, ◌++◌, ◌∷◌, ℕ, [], List, length, map, reverse, Option, None, Some, IfOk, IfErr, OnOk, OnErr, IsErrOf, MatchResult};
 ghost use Rattle.std.specs.List.{All};
 ghost use Rattle.vdev_io.specs.Calls.{DeviceCall, Gave, MakesDeviceCalls};
 ghost use Rattle.vdev_io.specs.Faults.{HasCause, Rose};
@@ -11,7 +11,7 @@ ghost use Rattle.l2_dev.specs.Chain.{numbers_in};
 ghost use Rattle.l2_dev.specs.Restoring.{IsHeaderOf, IsUnread, first_sector, firsts, restored_of};
 ghost use Rattle.l2_dev.specs.Reading.{OnlyRead};
 ghost use Rattle.l2_dev.specs.Rebuilding.{HaveKeys, IsBuilt, IsOpened, IsFresh, IsStarted};
-ghost use Rattle.l2_dev.specs.Walking.{IsFit};
+ghost use Rattle.l2_dev.specs.Walking.{IsFit, IsOfRebuild};
 ghost use Rattle.l2_dev.specs.declared.stop.Stop.TheVariants as why;
 
 use crate::cursor::Cursor;
@@ -40,6 +40,7 @@ fn read_header<D: CacheDev>(dev: &mut D, end: u64) -> Result<DevHeader, Stop>
     ensures told { (image : List ℕ) → D.told dev.old ≡ Some image → MatchResult result (λ header. IsHeaderOf end (first_sector image) header) (λ stop. IsUnread end image stop) }
     ensures read { OnlyRead D.size D.told D.has_sectors D.may_leave D.moment D.left_since D.faults dev.old dev.new }
     ensures cause { IsErrOf result why.DevFault → Rose (D.faults dev.old) (D.faults dev.new) }
+    ensures kind { IfErr result IsOfRebuild }
     ensures call { MatchResult result (λ _. MakesDeviceCalls D.CacheDev (header_read Gave ∷ []) dev.old dev.new) (λ stop. MakesDeviceCalls D.CacheDev (header_read (unread_answer stop) ∷ []) dev.old dev.new) }
 {
     let mut sector = [0; HEADER_LEN];
@@ -149,6 +150,7 @@ pub(crate) fn rebuild<D: CacheDev>(
     ensures refused { OnErr result ((reads : List DeviceCall) × MakesDeviceCalls D.CacheDev reads dev.old dev.new × AreReads reads) }
     ensures read { OnlyRead D.size D.told D.has_sectors D.may_leave D.moment D.left_since D.faults dev.old dev.new }
     ensures cause { IfOk result (λ r. r.stop ≡ why.DevFault → Rose (D.faults dev.old) (D.faults dev.new)) }
+    ensures kind { IfOk result (λ r. IsOfRebuild r.stop) }
 {
     let header = match read_header(dev, end) {
         Ok(header) => header,

@@ -40,6 +40,7 @@ impl<D: CacheDev> L2Dev<D> {
     ghost use Rattle.l2_dev.specs.Reading.{OnlyRead};
     ghost use Rattle.l2_dev.specs.Restoring.{IsRebuilt};
     ghost use Rattle.l2_dev.specs.Rebuilding.{HaveKeys, IsOpened, IsStarted, ring_end_of};
+    ghost use Rattle.l2_dev.specs.Walking.{IsOfRebuild};
     ghost use Rattle.l2_dev.specs.Starting.{OnReady, OnShort, OnRefused, IsShort, StartKeeps};
 
     /// Reads the header and walks along the chain of log blocks, each of which is read once. Nothing is written. Where the
@@ -53,6 +54,7 @@ impl<D: CacheDev> L2Dev<D> {
         ensures keys { OnReady result (λ l2 restored stop. HaveKeys restored) }
         ensures started { OnReady result (λ l2 restored stop. (reads : List DeviceCall) × MakesDeviceCalls D.CacheDev reads dev l2.dev
             × ((image : List ℕ) → D.told dev ≡ Some image → IsStarted (ring_end_of (D.size dev)) image reads l2.cursor restored stop)) }
+        ensures kind { OnReady result (λ l2 restored stop. IsOfRebuild stop) }
         ensures rebuilt { OnReady result (λ l2 restored stop. (image : List ℕ) → D.told dev ≡ Some image → IsRebuilt (ring_end_of (D.size dev)) image restored stop) }
         ensures cause { OnReady result (λ l2 restored stop. stop ≡ why.DevFault → Rose (D.faults dev) (D.faults l2.dev)) }
         ensures crash { OnReady result (λ l2 restored stop. StartKeeps D.told D.has_sectors D.may_leave (ring_end_of (D.size dev)) dev l2.dev l2.cursor restored stop) }

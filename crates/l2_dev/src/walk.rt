@@ -11,7 +11,7 @@ ghost use Rattle.l2_dev.specs.Asking.{AreReads, end_reads, last_read, visit_read
 ghost use Rattle.l2_dev.specs.Chain.{Visit, IsInPart, IsInRing, IsReached, IsStop, IsBlockFault, IsMisfit, IsPassed, bytes_at, numbers_in, ring_len};
 ghost use Rattle.l2_dev.specs.Restoring.{is_valid, valid_of, written_in};
 ghost use Rattle.l2_dev.specs.Reading.{OnlyRead};
-ghost use Rattle.l2_dev.specs.Walking.{EndsWith, HasWalked, IsFit, IsVisited, visit_of};
+ghost use Rattle.l2_dev.specs.Walking.{EndsWith, HasWalked, IsFit, IsOfRebuild, IsVisited, visit_of};
 ghost use Rattle.l2_dev.specs.declared.stop.Stop.TheVariants as why;
 ghost use Rattle.l2_dev.specs.declared.walk.WalkEnd.TheVariants as ends;
 
@@ -73,6 +73,7 @@ fn reach(header: &DevHeader, walked: u64, ptr: LogPtr) -> Result<(), Stop>
     ensures stop { MatchResult result (λ _. IsReached header.now walked ptr) (λ stop. (image : List ℕ) → IsStop image header.now walked (Some ptr) stop) }
     ensures well { ¬ IsErrOf result why.DevFault }
     ensures unread { IfErr result (λ stop. last_read stop (Some ptr) ≡ []) }
+    ensures kind { IfErr result IsOfRebuild }
 {
     let place = ptr.place;
     let last = header.end - LOG_LEN as u64;
@@ -93,6 +94,7 @@ fn read_block(alloc: Global, bytes: &[u8], ptr: LogPtr) -> Result<LogBlock, Walk
     ensures block { IfOk result (λ block. (sha256_of bytes.now ≡ ptr.digest) × IsLogBlock bytes.now block) }
     ensures stop { MatchResult result (λ _. Unit {0}) (EndsWith (λ stop. (fault : _) × (stop ≡ why.Block fault) × ((header : Header) → IsBlockFault header ptr bytes.now fault))) }
     ensures well { ¬ IsErrOf result (ends.Stop why.DevFault) }
+    ensures kind { IfErr result (EndsWith IsOfRebuild) }
 {
     let found = digest_of(bytes);
     if found != ptr.digest {
@@ -155,6 +157,7 @@ fn visit<D: CacheDev>(
         (EndsWith (IsStop image header.now walked (Some ptr))) }
     ensures read { OnlyRead D.size D.told D.has_sectors D.may_leave D.moment D.left_since D.faults dev.old dev.new }
     ensures cause { IsErrOf result (ends.Stop why.DevFault) → Rose (D.faults dev.old) (D.faults dev.new) }
+    ensures kind { IfErr result (EndsWith IsOfRebuild) }
 {
     reach(header, walked, ptr)?;
     let Ok(()) = read_at(dev, ptr.place, buf) else {
@@ -229,6 +232,7 @@ pub(crate) fn walk<D: CacheDev>(
     ensures fit { IfOk result (λ walked. All (IsFit (numbers_in header.now)) walked.found.items) }
     ensures read { OnlyRead D.size D.told D.has_sectors D.may_leave D.moment D.left_since D.faults dev.old dev.new }
     ensures cause { IfOk result (λ walked. walked.stop ≡ why.DevFault → Rose (D.faults dev.old) (D.faults dev.new)) }
+    ensures kind { IfOk result (λ walked. IsOfRebuild walked.stop) }
 {
     let plan = plan_of(header);
     // The end is below 2^64, and so are the bytes walked; a proof knows it of a number that was read.

@@ -15,7 +15,7 @@ use Rattle.l2_dev.specs.Asking.{end_reads, visit_read}
 use Rattle.l2_dev.specs.Chain.{IsHeld, IsStop, numbers_in}
 use Rattle.l2_dev.proofs.ListLaws.{all_append}
 use Rattle.l2_dev.specs.Restoring.{valid_of}
-use Rattle.l2_dev.specs.Walking.{EndsWith, IsFit, visit_of}
+use Rattle.l2_dev.specs.Walking.{EndsWith, IsFit, IsOfRebuild, visit_of}
 use Rattle.l2_dev.proofs.Walks.{come_nowhere, come_further, come_to_end, end_are_reads, ended_chain, ended_reads, fit_more, reads_err, same_len, rose_from, not_read, read_twice, visit_behind, visits_are_reads, whole_reads}
 use Rattle.l2_dev.proofs.walk.walk.Goals as goal
 
@@ -85,6 +85,10 @@ returns-in-Err-clause-refused g c =
 pub returns-in-Err-clause-fit : goal.returns-in-Err-clause-fit
 returns-in-Err-clause-fit g c =
     IfOk-weaker c.ended.result _ _ (λ w h. All-same (IsFit (numbers_in c.args.header.now)) w.found.items c.loop-next.found.items h.1 c.loop-next.invariant.fit) c.ended.ensures
+
+pub returns-in-Err-clause-kind : goal.returns-in-Err-clause-kind
+returns-in-Err-clause-kind g c =
+    IfOk-weaker c.ended.result _ _ (λ w h. subst (EndsWith IsOfRebuild) h.0 c.in-Err.ensures.kind) c.ended.ensures
 
 pub returns-in-Err-clause-read : goal.returns-in-Err-clause-read
 returns-in-Err-clause-read g c =
