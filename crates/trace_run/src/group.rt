@@ -24,7 +24,7 @@ use crate::device::Device;
 use crate::device_forks::{device_forks, take_fork_back};
 use crate::feeder::{feed_lines, has_feed};
 use crate::kept_blocks::KeptBlocks;
-use crate::lines::{all_lines, has_objects};
+use crate::lines::all_lines;
 use arc_core::Keeps;
 use arc_table::Party;
 use blk_ptr::{NoMemory, Ptr};
@@ -170,10 +170,6 @@ fn lines_over<P: Pool, D: CacheDev, G: Gate>(
         (at party.old (map read_of kept.old) pool.old) (at party.new (map read_of kept.new) pool.new)) }
     ensures asked { IfOk result (λ replies. AsksGiven D.CacheDev blocks.now (filter (is_of_caller party.old.number) ops.now) replies.items device.old device.new) }
 {
-    // A trace with a line on an object is refused before it is run.
-    if has_objects(ops) {
-        return Err(NoMemory);
-    }
     match device {
         Some(device) => all_lines(
             alloc, rt, arcs, party, kept, pool, device, blocks, ops, first, gate,

@@ -16,6 +16,7 @@ mod in_order;
 mod kept_blocks;
 mod lines;
 mod objects;
+mod one_caller;
 mod opening;
 mod paper;
 mod ran;

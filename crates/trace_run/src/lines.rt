@@ -231,13 +231,6 @@ pub(crate) fn is_on_object(op: &Op) -> bool
     }
 }
 
-/// Whether one of the operations is on an object.
-pub(crate) fn has_objects(ops: &[Op]) -> bool
-    ensures { result ≡ list_any (λ op. is_some (on_object op)) ops.now }
-{
-    ops.iter().any(|op| is_on_object(op))
-}
-
 /// The caller of an operation, where it is a caller's.
 pub(crate) fn caller_of(op: &Op) -> Option<u32>
     ensures { result ≡ caller_of op.now }

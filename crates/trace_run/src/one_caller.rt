@@ -1,0 +1,280 @@
+//! One caller and every line: its own lines on the pool and the cache device that were handed in, and between them those that the feeder does.
+
+use crate::device::Device;
+use crate::ending::{join_all, numbers_of, part_all};
+use crate::feeder::feed_line;
+use crate::groups::{Came, Crew, Syncs, append, crew_of, end_line, first_place, goes_on};
+use crate::kept_blocks::KeptBlocks;
+use crate::lines::{all_lines, caller_of};
+use crate::opening::open_cache;
+use crate::ran::{Ending, Ran};
+use crate::together::{close_crew, restore_crew};
+use arc_core::Restored;
+use arc_table::Party;
+use blk_ptr::{NoMemory, Ptr};
+use dbuf_cells::{Cells, HeapCell};
+use std::alloc::Global;
+use std::sync::Wait;
+use trace_text::{Op, Reply, Trace};
+use vdev_io::{CacheDev, Gate, NoCache, Pool};
+
+/// The number of the first of these lines from this one on that is no caller's, or how many lines there are.
+fn own_end(ops: &[Op], from: usize) -> usize {
+    for to in from..ops.len() {
+        if caller_of(&ops[to]).is_none() {
+            return to;
+        }
+    }
+    ops.len()
+}
+
+/// Does the lines of the caller over the cache device, where one was started, or over none.
+fn lines_on<P: Pool, D: CacheDev, G: Gate>(
+    alloc: Global,
+    rt: &impl Wait,
+    arcs: &Cells,
+    party: &mut Party<HeapCell>,
+    kept: &mut KeptBlocks,
+    pool: &mut P,
+    device: &mut Device<D>,
+    blocks: &[Ptr],
+    ops: &[Op],
+    first: u32,
+    gate: &G,
+) -> Result<Vec<Reply>, NoMemory> {
+    match device {
+        Device::Ready(l2) => all_lines(
+            alloc,
+            rt,
+            arcs,
+            party,
+            kept,
+            pool,
+            l2.device(),
+            blocks,
+            ops,
+            first,
+            gate,
+        ),
+        Device::None | Device::Short(_) => all_lines(
+            alloc,
+            rt,
+            arcs,
+            party,
+            kept,
+            pool,
+            &mut NoCache::new(),
+            blocks,
+            ops,
+            first,
+            gate,
+        ),
+    }
+}
+
+/// The caller does these lines, which are its own, one after another. The feeder joins it before, and parts from it behind.
+fn own_lines<P: Pool, D: CacheDev, G: Gate>(
+    alloc: Global,
+    rt: &impl Wait,
+    arcs: &Cells,
+    crew: Crew<HeapCell>,
+    pool: &mut P,
+    device: &mut Device<D>,
+    blocks: &[Ptr],
+    ops: &[Op],
+    first: u32,
+    gate: &G,
+) -> Result<(Crew<HeapCell>, Vec<Reply>), NoMemory> {
+    let Crew {
+        feeder,
+        mut parties,
+        mut kept,
+    } = crew;
+    let Some(mut party) = parties.pop() else {
+        unreachable!()
+    };
+    let Some(mut reads) = kept.pop() else {
+        unreachable!()
+    };
+    arcs.join(&mut party, feeder);
+    let replies = lines_on(
+        alloc, rt, arcs, &mut party, &mut reads, pool, device, blocks, ops, first, gate,
+    )?;
+    let feeder = arcs.part(&mut party, 1);
+    parties.push(party)?;
+    kept.push(reads)?;
+    let crew = Crew {
+        feeder,
+        parties,
+        kept,
+    };
+    Ok((crew, replies))
+}
+
+/// Does a line `feed`. The caller joins the feeder before, and parts from it behind.
+fn feed_joined<D: CacheDev>(
+    alloc: Global,
+    rt: &impl Wait,
+    arcs: &Cells,
+    crew: Crew<HeapCell>,
+    device: &mut Device<D>,
+) -> Result<(Crew<HeapCell>, Reply), NoMemory> {
+    let Crew {
+        mut feeder,
+        parties,
+        kept,
+    } = crew;
+    let numbers = numbers_of(alloc, &parties)?;
+    join_all(arcs, &mut feeder, parties);
+    let reply = feed_line(alloc, rt, arcs, &mut feeder, device);
+    let parties = part_all(alloc, arcs, &mut feeder, numbers)?;
+    let crew = Crew {
+        feeder,
+        parties,
+        kept,
+    };
+    Ok((crew, reply))
+}
+
+/// Does a line that is no caller's. The lines end here where a sync stopped.
+fn other_line<P: Pool, D: CacheDev>(
+    alloc: Global,
+    rt: &impl Wait,
+    arcs: &Cells,
+    crew: Crew<HeapCell>,
+    op: &Op,
+    syncs: Syncs,
+    pool: &mut P,
+    device: &mut Device<D>,
+) -> Result<(Crew<HeapCell>, Syncs, Result<Reply, Ending>), NoMemory> {
+    match op {
+        Op::Feed => {
+            let (crew, reply) = feed_joined(alloc, rt, arcs, crew, device)?;
+            Ok((crew, syncs, Ok(reply)))
+        }
+        Op::Txg { .. } | Op::Cap { .. } => end_line(alloc, rt, arcs, crew, op, syncs, pool),
+        Op::Read { .. } | Op::Hold { .. } | Op::Drop { .. } => unreachable!(),
+        Op::Get { .. } | Op::Put { .. } | Op::Patch { .. } | Op::Pin { .. } | Op::Unpin { .. } => {
+            unreachable!()
+        }
+    }
+}
+
+/// Does the caller's next lines, up to one that is no caller's, and then that one. The lines end there where a sync stopped.
+fn next_lines<P: Pool, D: CacheDev, G: Gate>(
+    alloc: Global,
+    rt: &impl Wait,
+    arcs: &Cells,
+    trace: &Trace,
+    crew: Crew<HeapCell>,
+    syncs: Syncs,
+    replies: &mut Vec<Reply>,
+    pool: &mut P,
+    device: &mut Device<D>,
+    gate: &G,
+) -> Result<(Crew<HeapCell>, Syncs, Ending), NoMemory> {
+    let blocks = trace.blocks.as_slice();
+    let ops = trace.ops.as_slice();
+    let first = replies.len();
+    let to = own_end(ops, first);
+    let (crew, answered) = own_lines(
+        alloc,
+        rt,
+        arcs,
+        crew,
+        pool,
+        device,
+        blocks,
+        &ops[first..to],
+        first as u32,
+        gate,
+    )?;
+    append(replies, answered)?;
+    let Some(op) = ops.get(to) else {
+        return Ok((crew, syncs, Ending::Whole));
+    };
+    let (crew, syncs, came) = other_line(alloc, rt, arcs, crew, op, syncs, pool, device)?;
+    match came {
+        Ok(reply) => {
+            replies.push(reply)?;
+            Ok((crew, syncs, Ending::Whole))
+        }
+        Err(ending) => Ok((crew, syncs, ending)),
+    }
+}
+
+/// Does all lines of a trace of one caller, one after another, up to a sync that stops.
+fn all_in_turn<P: Pool, D: CacheDev, G: Gate>(
+    alloc: Global,
+    rt: &impl Wait,
+    arcs: &Cells,
+    trace: &Trace,
+    crew: Crew<HeapCell>,
+    syncs: Syncs,
+    pool: &mut P,
+    device: &mut Device<D>,
+    gate: &G,
+) -> Result<Came<HeapCell>, NoMemory> {
+    let mut crew = crew;
+    let mut syncs = syncs;
+    let mut replies = Vec::new(alloc);
+    while replies.len() < trace.ops.as_slice().len() {
+        let (after, later, ending) = next_lines(
+            alloc,
+            rt,
+            arcs,
+            trace,
+            crew,
+            syncs,
+            &mut replies,
+            pool,
+            device,
+            gate,
+        )?;
+        crew = after;
+        syncs = later;
+        if !goes_on(ending) {
+            return Ok(Came {
+                crew,
+                replies,
+                ending,
+            });
+        }
+    }
+    Ok(Came {
+        crew,
+        replies,
+        ending: Ending::Whole,
+    })
+}
+
+/// Runs a trace of one caller with any lines: one after another, over the pool and the cache device that are handed in, once these keys are
+/// restored. Where a sync stops, no line behind it is done.
+pub(crate) fn run_one<P: Pool, D: CacheDev, G: Gate>(
+    alloc: Global,
+    rt: &impl Wait,
+    trace: &Trace,
+    restored: &[Restored],
+    pool: &mut P,
+    device: &mut Device<D>,
+    gate: &G,
+) -> Result<Ran, NoMemory> {
+    let (arcs, parties) = open_cache(alloc, trace)?;
+    let crew = crew_of(alloc, parties)?;
+    let crew = restore_crew(alloc, rt, &arcs, crew, restored)?;
+    let syncs = Syncs {
+        group: 1,
+        next: first_place(trace.blocks.as_slice(), pool.len()),
+    };
+    let Came {
+        crew,
+        replies,
+        ending,
+    } = all_in_turn(alloc, rt, &arcs, trace, crew, syncs, pool, device, gate)?;
+    let closed = close_crew(alloc, rt, arcs, crew)?;
+    Ok(Ran {
+        replies,
+        closed,
+        ending,
+    })
+}
