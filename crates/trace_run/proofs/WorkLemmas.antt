@@ -24,7 +24,7 @@ use Rattle.trace_text.specs.declared.op.Op.TheVariants as ops
 use Rattle.trace_text.specs.declared.reply.Reply.{Reply}
 use Rattle.trace_run.specs.Acts.{acts_of}
 use Rattle.trace_run.specs.callers.CallerLines.{At, DidLine, DidLines, at}
-use Rattle.trace_run.specs.callers.WorkLines.{AnswersLine, AnswersLines, AreLinesOf, AtWork, DidAll, DidLineBy, DidOps, DidWith, DidWorkLine, acts_of_work, acts_with, at_work, calls_of_lines, effect_with, noted_of_work}
+use Rattle.trace_run.specs.callers.WorkLines.{AnswersLine, AnswersLines, AreLinesOf, AtWork, CameTo, DidAll, DidLineBy, DidOps, DidWith, DidWorkLine, acts_of_work, acts_with, at_work, calls_of_lines, effect_with, noted_of_work}
 use Rattle.trace_run.specs.Deeds.{HasToldAll, KeepsCells, Noted}
 use Rattle.trace_run.specs.Effects.{calls_of}
 use Rattle.trace_run.specs.DeviceReads.{LineAsks, LinesAsk}
@@ -33,7 +33,7 @@ use Rattle.trace_run.specs.Lines.{caller_of, is_of_caller}
 use Rattle.trace_run.specs.ObjectLines.{DidObjectLine, OnObject, cell_lines, on_object}
 use Rattle.trace_run.specs.ObjectReplies.{AnswersFrom}
 use Rattle.trace_run.specs.Objects.{Line, Work, no_work}
-use Rattle.trace_run.specs.one_caller.OneCaller.{kept_after}
+use Rattle.trace_run.specs.one_caller.OneCaller.{kept_after, kept_after_all}
 use Rattle.trace_run.specs.one_caller.OverShards.{AreNamed}
 use Rattle.trace_run.proofs.CapLemmas.{his-some}
 use Rattle.trace_run.proofs.callers.CallerActLemmas.{his-is}
@@ -289,3 +289,31 @@ module _ {P D : Type 0} (pools : PoolGhosts P) (devices : DeviceGhosts D) (g : C
         subst (λ (x : ℕ × Option (List ℕ) × List (List ℕ)). AnswersLine g x.0 x.1 blocks x.2 b.party.own.seen a.kept o l) (λ i. (size i, told i, opens i)) here,
         subst (λ (ks : List KeptRead). AnswersLines g len image blocks openings b.party.own.seen ks ls) (by-kept o l a next refl d.1) rest,
       )
+
+  -- the reads that are kept behind all of them
+  all-kept : (os : List Op) (rs : List Reply) (ls : List Line) (a b : AtWork P D) → AreLinesOf os rs ls → DidAll pools devices g blocks ls a b → b.kept ≡ kept_after_all blocks a.kept os rs
+  all-kept [] [] [] a b are d = ap (λ (x : AtWork P D). x.kept) d
+  all-kept [] [] (l ∷ ls) a b are d = absurd are
+  all-kept [] (r ∷ rs) ls a b are d = absurd are
+  all-kept (o ∷ os) [] ls a b are d = absurd are
+  all-kept (o ∷ os) (r ∷ rs) [] a b are d = absurd are
+  all-kept (o ∷ os) (r ∷ rs) (l ∷ ls) a b are d =
+      all-kept os rs ls d.0 b are.2 d.2
+      ∙ ((λ i. kept_after_all blocks (by-kept (on_object l.op) l a d.0 refl d.1 i) os rs) ∙ (λ i. kept_after_all blocks (kept_after blocks (are.0 i) (are.1 i) a.kept) os rs))
+
+  -- what a caller's operations came to, whatever device was asked
+  pub came-to : (valid : IsConfig g) (os : List Op) (rs : List Reply) (a b : AtWork P D) → AllByRecursion (λ op. caller_of op ≡ Some a.party.number) os → (did : DidOps pools devices g blocks os rs a b)
+      → CameTo pools g blocks os rs did.lines (plainly pools devices g blocks a) (plainly pools devices g blocks b)
+  came-to valid os rs a b own did =
+      let his = his-lines a.party.number os rs did.lines own did.are in
+      let keeps = all-keeps a.party.number did.lines a b his did.did in
+      record {
+        are = did.are;
+        number = all-number did.lines a b did.did;
+        joined = keeps.1;
+        keeps = keeps.0;
+        kept = all-kept os rs did.lines a b did.are did.did;
+        told = all-told did.lines a b did.did;
+        answers = all-answers valid a.party.number did.lines a b (pools.size a.outside.pool) (pools.told a.outside.pool) a.party.own.about.openings refl refl refl refl his did.did;
+        calls = all-calls did.lines a b did.did;
+      }
