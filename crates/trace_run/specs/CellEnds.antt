@@ -22,7 +22,7 @@ use Rattle.dbuf_state.specs.Objects.{PlainCell}
 use Rattle.dbuf_state.specs.declared.event.CellEvent.{CellEvent}
 use Rattle.dbuf_state.specs.declared.event.CellEvent.TheVariants.{End}
 use Rattle.trace_text.specs.declared.trace.Trace.{Trace}
-use Rattle.trace_run.specs.Deeds.{HasAct, Noted, acts_of_events, events_of_cell, events_there, lines_of_cell, with_number}
+use Rattle.trace_run.specs.Deeds.{HasToldOthers, Noted, acts_of_events, events_of_cell, events_there}
 use Rattle.trace_run.specs.KeptBlocks.{Stands}
 use Rattle.trace_run.specs.MadeLines.{made_in, made_of}
 use Rattle.trace_run.specs.Making.{AreEventsSeen, AreNoEntries}
@@ -37,13 +37,6 @@ end_entry n i = line.Entry (event_numbers (End n)) ∷ []
 abbrev pub ends_from : (n i count : ℕ) → List Noted
 ends_from n i zero = []
 ends_from n i (suc count) = record { cell = i; event = End n } ∷ ends_from n (suc i) count
-
-module _ {C : Type 0} where
-  -- What the party made with other numbers than its own, those of cells, are these acts, each once; and what it did to each cell is this.
-  pub record HasToldOthers (g : Config) (did : List Act) (noted : List Noted) (p : Place (Known C)) : Type 0 where
-    pub cells : (shard c : ℕ) → c ≢ p.number → acts_in (shard_of g.shards) shard c did ≡ acts_of_events (with_number c (made_in g shard p))
-    pub kinds : (shard c : ℕ) → c ≢ p.number → AllByRecursion HasAct (with_number c (made_in g shard p))
-    pub entries : (i : ℕ) → IsCell g i → made_of i p ≡ lines_of_cell i noted
 
 module _ {C : Type 0} where
   -- What it comes to where nobody had done anything to a cell: no event of a shard was made, and the party has seen just its ends.

@@ -77,6 +77,13 @@ module _ {D : Type 0} (devices : Ghosts D) where
   AsksForFeeds [] was now = now ≡ was
   AsksForFeeds (feed ∷ feeds) was now = (next : D) × MakesDeviceCalls devices feed.calls was next × AsksForFeeds feeds next now
 
+  -- so it was, where there is a device
+  abbrev pub AsksOfFeeds : List FeedDone → (was now : Option D) → Type 0
+  AsksOfFeeds feeds None None = feeds ≡ []
+  AsksOfFeeds feeds None (Some now) = ⊥
+  AsksOfFeeds feeds (Some was) None = ⊥
+  AsksOfFeeds feeds (Some was) (Some now) = AsksForFeeds feeds was now
+
 -- The feeder's party between its lines: it stands by itself, keeps nothing, made events of its own number alone, and has settled all that it picked.
 pub record IsIdleFeeder {C : Type 0} (cache : Cache) (p : Place (Known C)) : Type 0 where
   pub number : p.number ≡ cache.config.callers

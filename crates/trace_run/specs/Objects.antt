@@ -48,6 +48,13 @@ pub record Line : Type 0 where
   pub reply : Reply
   pub work : Work
 
+-- the operations of these lines, and their replies
+abbrev pub ops_of : List Line → List Op
+ops_of = map (λ l. l.op)
+
+abbrev pub replies_of : List Line → List Reply
+replies_of = map (λ l. l.reply)
+
 -- ---- which go together
 
 -- an answer says nothing of a block that was refused

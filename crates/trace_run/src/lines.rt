@@ -1,6 +1,5 @@
 //! One caller's lines over the shared cache.
 ghost use Rattle.std.specs.Prelude.{◌≡◌, ◌≢◌, ◌<◌, ◌+◌, ◌^◌, [], IfOk, IfSome, List, None, OnErr, filter, is_some, length, map, true};
-ghost use Rattle.std.specs.List.{list_any};
 ghost use Rattle.arc_table.specs.Reading.{KeepsDevice, outside};
 ghost use Rattle.arc_table.specs.Seen.{HasAll};
 ghost use Rattle.blk_ptr.specs.Hash.{shard_of};
