@@ -1,7 +1,6 @@
 //! One caller and every line: its own lines on the pool and the cache device that were handed in, and between them those that the feeder does.
 
 use crate::device::Device;
-use crate::ending::{join_all, numbers_of, part_all};
 use crate::feeder::feed_line;
 use crate::groups::{Came, Crew, Syncs, append, crew_of, end_line, first_place, goes_on};
 use crate::kept_blocks::KeptBlocks;
@@ -72,7 +71,7 @@ fn lines_on<P: Pool, D: CacheDev, G: Gate>(
     }
 }
 
-/// The caller does these lines, which are its own, one after another. The feeder joins it before, and parts from it behind.
+/// The caller does these lines, which are its own, one after another, on the pool and the cache device that were handed in.
 fn own_lines<P: Pool, D: CacheDev, G: Gate>(
     alloc: Global,
     rt: &impl Wait,
@@ -96,11 +95,9 @@ fn own_lines<P: Pool, D: CacheDev, G: Gate>(
     let Some(mut reads) = kept.pop() else {
         unreachable!()
     };
-    arcs.join(&mut party, feeder);
     let replies = lines_on(
         alloc, rt, arcs, &mut party, &mut reads, pool, device, blocks, ops, first, gate,
     )?;
-    let feeder = arcs.part(&mut party, 1);
     parties.push(party)?;
     kept.push(reads)?;
     let crew = Crew {
@@ -111,29 +108,26 @@ fn own_lines<P: Pool, D: CacheDev, G: Gate>(
     Ok((crew, replies))
 }
 
-/// Does a line `feed`. The caller joins the feeder before, and parts from it behind.
-fn feed_joined<D: CacheDev>(
+/// Does a line `feed`.
+fn feed_alone<D: CacheDev>(
     alloc: Global,
     rt: &impl Wait,
     arcs: &Cells,
     crew: Crew<HeapCell>,
     device: &mut Device<D>,
-) -> Result<(Crew<HeapCell>, Reply), NoMemory> {
+) -> (Crew<HeapCell>, Reply) {
     let Crew {
         mut feeder,
         parties,
         kept,
     } = crew;
-    let numbers = numbers_of(alloc, &parties)?;
-    join_all(arcs, &mut feeder, parties);
     let reply = feed_line(alloc, rt, arcs, &mut feeder, device);
-    let parties = part_all(alloc, arcs, &mut feeder, numbers)?;
     let crew = Crew {
         feeder,
         parties,
         kept,
     };
-    Ok((crew, reply))
+    (crew, reply)
 }
 
 /// Does a line that is no caller's. The lines end here where a sync stopped.
@@ -149,7 +143,7 @@ fn other_line<P: Pool, D: CacheDev>(
 ) -> Result<(Crew<HeapCell>, Syncs, Result<Reply, Ending>), NoMemory> {
     match op {
         Op::Feed => {
-            let (crew, reply) = feed_joined(alloc, rt, arcs, crew, device)?;
+            let (crew, reply) = feed_alone(alloc, rt, arcs, crew, device);
             Ok((crew, syncs, Ok(reply)))
         }
         Op::Txg { .. } | Op::Cap { .. } => end_line(alloc, rt, arcs, crew, op, syncs, pool),
@@ -160,7 +154,7 @@ fn other_line<P: Pool, D: CacheDev>(
     }
 }
 
-/// Does the caller's next lines, up to one that is no caller's, and then that one. The lines end there where a sync stopped.
+/// Does the caller's next lines, up to one that is no caller's; or that one, where it is the next. The lines end there where a sync stopped.
 fn next_lines<P: Pool, D: CacheDev, G: Gate>(
     alloc: Global,
     rt: &impl Wait,
@@ -173,27 +167,28 @@ fn next_lines<P: Pool, D: CacheDev, G: Gate>(
     device: &mut Device<D>,
     gate: &G,
 ) -> Result<(Crew<HeapCell>, Syncs, Ending), NoMemory> {
-    let blocks = trace.blocks.as_slice();
     let ops = trace.ops.as_slice();
     let first = replies.len();
     let to = own_end(ops, first);
-    let (crew, answered) = own_lines(
-        alloc,
-        rt,
-        arcs,
-        crew,
-        pool,
-        device,
-        blocks,
-        &ops[first..to],
-        first as u32,
-        gate,
-    )?;
-    append(replies, answered)?;
-    let Some(op) = ops.get(to) else {
+    if first < to {
+        let blocks = trace.blocks.as_slice();
+        let lines = &ops[first..to];
+        let (crew, answered) = own_lines(
+            alloc,
+            rt,
+            arcs,
+            crew,
+            pool,
+            device,
+            blocks,
+            lines,
+            first as u32,
+            gate,
+        )?;
+        append(replies, answered)?;
         return Ok((crew, syncs, Ending::Whole));
-    };
-    let (crew, syncs, came) = other_line(alloc, rt, arcs, crew, op, syncs, pool, device)?;
+    }
+    let (crew, syncs, came) = other_line(alloc, rt, arcs, crew, &ops[first], syncs, pool, device)?;
     match came {
         Ok(reply) => {
             replies.push(reply)?;
