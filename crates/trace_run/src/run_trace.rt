@@ -17,7 +17,7 @@ ghost use Rattle.trace_run.specs.declared.words.Command.TheVariants as command;
 
 use crate::alone::{is_plain, run_alone};
 use crate::device::Device;
-use crate::one_caller::run_one;
+use crate::in_turn::run_one;
 use crate::ran::Reported;
 use crate::together::run_together;
 use crate::zero_pool::ZeroPool;

@@ -1,4 +1,18 @@
 //! One caller and every line: its own lines on the pool and the cache device that were handed in, and between them those that the feeder does.
+ghost use Rattle.std.specs.Prelude.{◌≡◌, ◌≢◌, ℕ, ◌<◌, ◌≤◌, ◌+◌, ◌^◌, ◌∷◌, [], IfOk, None, Some, filter, length, map, slice_get, vec_len};
+ghost use Rattle.vdev_io.specs.Calls.{KeepsPool};
+ghost use Rattle.dbuf_cells.specs.Turns.{dbuf_meanings};
+ghost use Rattle.trace_text.specs.declared.op.Op.{Op};
+ghost use Rattle.trace_text.specs.declared.op.Op.TheVariants as ops;
+ghost use Rattle.trace_run.specs.Devices.{WasLent, lent_in};
+ghost use Rattle.trace_run.specs.Feeds.{DoesFeeds, IsIdleFeeder, MayBeFed};
+ghost use Rattle.trace_run.specs.KeptBlocks.{Stands, read_of};
+ghost use Rattle.trace_run.specs.Lines.{caller_of, is_of_caller};
+ghost use Rattle.trace_run.specs.Tally.{AreDeclared};
+ghost use Rattle.trace_run.specs.callers.CallerLines.{at};
+ghost use Rattle.trace_run.specs.callers.Callers.{AreAtStart, CameTo};
+ghost use Rattle.trace_run.specs.one_caller.InTurn.{AreOwn, DidOwnLines};
+ghost use Rattle.trace_run.specs.one_caller.OverShards.{AreNamed};
 
 use crate::device::Device;
 use crate::feeder::feed_line;
@@ -18,7 +32,12 @@ use trace_text::{Op, Reply, Trace};
 use vdev_io::{CacheDev, Gate, NoCache, Pool};
 
 /// The number of the first of these lines from this one on that is no caller's, or how many lines there are.
-fn own_end(ops: &[Op], from: usize) -> usize {
+fn own_end(ops: &[Op], from: usize) -> usize
+    requires { from ≤ length ops.now }
+    ensures range { (from ≤ result) × (result ≤ length ops.now) }
+    ensures own { (k : ℕ) (op : Op) → from ≤ k → k < result → slice_get ops.now k ≡ Some op → caller_of op ≢ None }
+    ensures end { (op : Op) → slice_get ops.now result ≡ Some op → caller_of op ≡ None }
+{
     for to in from..ops.len() {
         if caller_of(&ops[to]).is_none() {
             return to;
@@ -40,7 +59,17 @@ fn lines_on<P: Pool, D: CacheDev, G: Gate>(
     ops: &[Op],
     first: u32,
     gate: &G,
-) -> Result<Vec<Reply>, NoMemory> {
+) -> Result<Vec<Reply>, NoMemory>
+    requires stands { Stands arcs.now party.old kept.old }
+    requires declared { AreDeclared (length blocks.now) ops.now }
+    requires named { AreNamed blocks.now (map read_of kept.old) }
+    requires few { first + length ops.now < 2 ^ 32 }
+    ensures stands { IfOk result (λ replies. Stands arcs.now party.new kept.new) }
+    ensures did { IfOk result (λ replies. CameTo P.Pool D.CacheDev arcs.now.config blocks.now (filter (is_of_caller party.old.number) ops.now) replies.items
+        (at party.old (map read_of kept.old) pool.old) (at party.new (map read_of kept.new) pool.new) (lent_in device.old) (lent_in device.new)) }
+    ensures pool { KeepsPool P.Pool pool.old pool.new }
+    ensures device { WasLent D.CacheDev device.old device.new }
+{
     match device {
         Device::Ready(l2) => all_lines(
             alloc,
@@ -83,7 +112,16 @@ fn own_lines<P: Pool, D: CacheDev, G: Gate>(
     ops: &[Op],
     first: u32,
     gate: &G,
-) -> Result<(Crew<HeapCell>, Vec<Reply>), NoMemory> {
+) -> Result<(Crew<HeapCell>, Vec<Reply>), NoMemory>
+    requires start { AreAtStart arcs.now blocks.now 0 crew.kept.items crew.parties.items }
+    requires one { vec_len crew.parties ≡ 1 }
+    requires declared { AreDeclared (length blocks.now) ops.now }
+    requires own { AreOwn ops.now }
+    requires few { first + length ops.now < 2 ^ 32 }
+    ensures did { IfOk result (λ done. DidOwnLines arcs.now P.Pool D.CacheDev blocks.now ops.now pool.old pool.new (lent_in device.old) (lent_in device.new) crew done.0 done.1.items) }
+    ensures pool { KeepsPool P.Pool pool.old pool.new }
+    ensures device { WasLent D.CacheDev device.old device.new }
+{
     let Crew {
         feeder,
         mut parties,
@@ -115,7 +153,14 @@ fn feed_alone<D: CacheDev>(
     arcs: &Cells,
     crew: Crew<HeapCell>,
     device: &mut Device<D>,
-) -> (Crew<HeapCell>, Reply) {
+) -> (Crew<HeapCell>, Reply)
+    requires feeder { IsIdleFeeder arcs.now crew.feeder }
+    requires device { MayBeFed D.CacheDev arcs.now.config device.old }
+    ensures fed { DoesFeeds dbuf_meanings D.CacheDev arcs.now (ops.Feed ∷ []) (result.1 ∷ []) device.old device.new crew.feeder result.0.feeder }
+    ensures callers { (result.0.parties ≡ crew.parties) × (result.0.kept ≡ crew.kept) }
+    ensures feeder { IsIdleFeeder arcs.now result.0.feeder }
+    ensures device { MayBeFed D.CacheDev arcs.now.config device.new }
+{
     let Crew {
         mut feeder,
         parties,
