@@ -239,7 +239,7 @@ module _ {P D : Type 0} (pools : PoolGhosts P) (devices : DeviceGhosts D) (g : C
     (object-answers pools devices g a.outside b.outside a.party b.party l.op l.reply his d.1.came),
   )
 
-  still-answers : (valid : IsConfig g) (len : ℕ) (image : Option (List ℕ)) (place : ℕ) (o : Option OnObject) (l : Line) (kept : List KeptRead) (p q r : PartyPlace) → KeepsCells g q r
+  pub still-answers : (valid : IsConfig g) (len : ℕ) (image : Option (List ℕ)) (place : ℕ) (o : Option OnObject) (l : Line) (kept : List KeptRead) (p q r : PartyPlace) → KeepsCells g q r
       → AnswersLine g len image place blocks p.own.about.openings q.own.seen kept o l → AnswersLine g len image place blocks p.own.about.openings r.own.seen kept o l
   still-answers valid len image place None l kept p q r keeps answer = answer
   still-answers valid len image place (Some on) l kept p q r keeps answer = (answer.0, answer.1, still-from len answer.0 on.at l.op l.reply p q r (cell-there g valid on.at) keeps answer.2)
