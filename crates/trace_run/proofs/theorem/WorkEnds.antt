@@ -44,8 +44,7 @@ use Rattle.arc_table.proofs.TableLaws.{there}
 use Rattle.arc_check.specs.Judging.{end_of}
 use Rattle.trace_text.specs.declared.op.Op.{Op}
 use Rattle.trace_text.specs.declared.reply.Reply.{Reply}
-use Rattle.trace_run.specs.CellEnds.{HasToldOthers}
-use Rattle.trace_run.specs.Deeds.{HasAct, Noted, acts_of_events, events_there, with_number}
+use Rattle.trace_run.specs.Deeds.{HasAct, HasToldOthers, Noted, acts_of_events, events_there, with_number}
 use Rattle.trace_run.specs.Explaining.{BeginsWith, EndsWith, Explain, drops_at_end}
 use Rattle.trace_run.specs.KeptBlocks.{IsIdle}
 use Rattle.trace_run.specs.Making.{AreEventsSeen}
