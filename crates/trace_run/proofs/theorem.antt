@@ -2,7 +2,6 @@ pub mod CellActs
 pub mod CellRun
 pub mod CloseLemmas
 pub mod CrewEnds
-pub mod EachLemmas
 pub mod EndLemmas
 pub mod GenLemmas
 pub mod HistoryLemmas

@@ -234,7 +234,7 @@ module _ (cache : Cache) (olds news : List PartyPlace) (c : EndedCrew cache olds
       }
 
   shown : (n : ℕ) (x : PartyPlace) → get_elem? news n ≡ some x → x.number ≡ n → get_elem? ends.views n ≡ some x.own
-  shown n x at number = subst (λ (k : ℕ). get_elem? ends.views k ≡ some x.own) number (shown-at g ends.views news n x at ends.shown)
+  shown n x at number = subst (λ (k : ℕ). get_elem? ends.views k ≡ some x.own) number (shown-at ends.views news n x at ends.shown)
 
   last-at : get_elem? news (length c.parted) ≡ some z
   last-at = ap (λ (l : List PartyPlace). get_elem? l (length c.parted)) c.then ∙ get_last c.parted z
