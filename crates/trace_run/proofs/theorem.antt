@@ -3,8 +3,10 @@ pub mod CellRun
 pub mod CloseLemmas
 pub mod CrewEnds
 pub mod EndLemmas
+pub mod FeederKinds
 pub mod GenLemmas
 pub mod HistoryLemmas
+pub mod LineActs
 pub mod OutcomeLemmas
 pub mod PlacedLemmas
 pub mod RanLemmas
