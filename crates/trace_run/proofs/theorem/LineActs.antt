@@ -27,6 +27,7 @@ use Rattle.trace_text.specs.declared.reply.Refusal.TheVariants as refusals
 use Rattle.trace_text.specs.declared.reply.Reply.{Reply}
 use Rattle.trace_text.specs.declared.reply.Reply.TheVariants as replies
 use Rattle.trace_run.specs.Acts.{acts_of, acts_of_drops}
+use Rattle.trace_run.specs.Deeds.{Noted}
 use Rattle.trace_run.specs.Effects.{calls_from, calls_of, effect_of}
 use Rattle.trace_run.specs.KeptReads.{KeptRead}
 use Rattle.trace_run.specs.Lines.{caller_of, is_of_caller}
@@ -103,36 +104,36 @@ got-brings (replies.Synced group blocks bytes) b is n t cell = absurd is
 got-brings (replies.Capped c) b is n t cell = absurd is
 
 -- a line that asks for no bytes reads nothing of the pool
-put-quiet : (len : ℕ) (now : Option (List ℕ)) (limit : ℕ) (opening : List Mapping) (front : List CellEvent) (m t : ℕ) (at : Oid) (size fill : ℕ) (reply : Reply) → AnswersObject len now limit opening front (ops.Put m t at size fill) reply → length (calls_of (effect_of reply)) ≡ 0
-put-quiet len now limit opening front m t at size fill replies.Done answer = refl
-put-quiet len now limit opening front m t at size fill (replies.Refused r) answer = absurd answer
-put-quiet len now limit opening front m t at size fill (replies.Got size_got shown) answer = absurd answer
-put-quiet len now limit opening front m t at size fill (replies.Read served digest shown) answer = absurd answer
-put-quiet len now limit opening front m t at size fill (replies.Kept served) answer = absurd answer
-put-quiet len now limit opening front m t at size fill replies.Dropped answer = absurd answer
-put-quiet len now limit opening front m t at size fill (replies.Fed report) answer = absurd answer
-put-quiet len now limit opening front m t at size fill replies.FedNone answer = absurd answer
-put-quiet len now limit opening front m t at size fill (replies.Synced group blocks bytes) answer = absurd answer
-put-quiet len now limit opening front m t at size fill (replies.Capped c) answer = absurd answer
+put-quiet : (len : ℕ) (now : Option (List ℕ)) (limit : ℕ) (opening : List Mapping) (front : List CellEvent) (brought : Brought) (m t : ℕ) (at : Oid) (size fill : ℕ) (reply : Reply) → AnswersObject len now limit opening front brought (ops.Put m t at size fill) reply → length (calls_of (effect_of reply)) ≡ 0
+put-quiet len now limit opening front brought m t at size fill replies.Done answer = refl
+put-quiet len now limit opening front brought m t at size fill (replies.Refused r) answer = absurd answer
+put-quiet len now limit opening front brought m t at size fill (replies.Got size_got shown) answer = absurd answer
+put-quiet len now limit opening front brought m t at size fill (replies.Read served digest shown) answer = absurd answer
+put-quiet len now limit opening front brought m t at size fill (replies.Kept served) answer = absurd answer
+put-quiet len now limit opening front brought m t at size fill replies.Dropped answer = absurd answer
+put-quiet len now limit opening front brought m t at size fill (replies.Fed report) answer = absurd answer
+put-quiet len now limit opening front brought m t at size fill replies.FedNone answer = absurd answer
+put-quiet len now limit opening front brought m t at size fill (replies.Synced group blocks bytes) answer = absurd answer
+put-quiet len now limit opening front brought m t at size fill (replies.Capped c) answer = absurd answer
 
-unpin-quiet : (len : ℕ) (now : Option (List ℕ)) (limit : ℕ) (opening : List Mapping) (front : List CellEvent) (m : ℕ) (at : Oid) (reply : Reply) → AnswersObject len now limit opening front (ops.Unpin m at) reply → length (calls_of (effect_of reply)) ≡ 0
-unpin-quiet len now limit opening front m at replies.Done answer = refl
-unpin-quiet len now limit opening front m at (replies.Refused (refusals.NoPin named)) answer = refl
-unpin-quiet len now limit opening front m at (replies.Refused refusals.PoolFault) answer = absurd answer
-unpin-quiet len now limit opening front m at (replies.Refused (refusals.Mismatch found)) answer = absurd answer
-unpin-quiet len now limit opening front m at (replies.Refused (refusals.Key why)) answer = absurd answer
-unpin-quiet len now limit opening front m at (replies.Refused (refusals.Range end size)) answer = absurd answer
-unpin-quiet len now limit opening front m at (replies.Refused (refusals.NoBlock named)) answer = absurd answer
-unpin-quiet len now limit opening front m at (replies.Refused (refusals.NoHold block)) answer = absurd answer
-unpin-quiet len now limit opening front m at (replies.Refused refusals.NoMemory) answer = absurd answer
-unpin-quiet len now limit opening front m at (replies.Got size shown) answer = absurd answer
-unpin-quiet len now limit opening front m at (replies.Read served digest shown) answer = absurd answer
-unpin-quiet len now limit opening front m at (replies.Kept served) answer = absurd answer
-unpin-quiet len now limit opening front m at replies.Dropped answer = absurd answer
-unpin-quiet len now limit opening front m at (replies.Fed report) answer = absurd answer
-unpin-quiet len now limit opening front m at replies.FedNone answer = absurd answer
-unpin-quiet len now limit opening front m at (replies.Synced group blocks bytes) answer = absurd answer
-unpin-quiet len now limit opening front m at (replies.Capped c) answer = absurd answer
+unpin-quiet : (len : ℕ) (now : Option (List ℕ)) (limit : ℕ) (opening : List Mapping) (front : List CellEvent) (brought : Brought) (m : ℕ) (at : Oid) (reply : Reply) → AnswersObject len now limit opening front brought (ops.Unpin m at) reply → length (calls_of (effect_of reply)) ≡ 0
+unpin-quiet len now limit opening front brought m at replies.Done answer = refl
+unpin-quiet len now limit opening front brought m at (replies.Refused (refusals.NoPin named)) answer = refl
+unpin-quiet len now limit opening front brought m at (replies.Refused refusals.PoolFault) answer = absurd answer
+unpin-quiet len now limit opening front brought m at (replies.Refused (refusals.Mismatch found)) answer = absurd answer
+unpin-quiet len now limit opening front brought m at (replies.Refused (refusals.Key why)) answer = absurd answer
+unpin-quiet len now limit opening front brought m at (replies.Refused (refusals.Range end size)) answer = absurd answer
+unpin-quiet len now limit opening front brought m at (replies.Refused (refusals.NoBlock named)) answer = absurd answer
+unpin-quiet len now limit opening front brought m at (replies.Refused (refusals.NoHold block)) answer = absurd answer
+unpin-quiet len now limit opening front brought m at (replies.Refused refusals.NoMemory) answer = absurd answer
+unpin-quiet len now limit opening front brought m at (replies.Got size shown) answer = absurd answer
+unpin-quiet len now limit opening front brought m at (replies.Read served digest shown) answer = absurd answer
+unpin-quiet len now limit opening front brought m at (replies.Kept served) answer = absurd answer
+unpin-quiet len now limit opening front brought m at replies.Dropped answer = absurd answer
+unpin-quiet len now limit opening front brought m at (replies.Fed report) answer = absurd answer
+unpin-quiet len now limit opening front brought m at replies.FedNone answer = absurd answer
+unpin-quiet len now limit opening front brought m at (replies.Synced group blocks bytes) answer = absurd answer
+unpin-quiet len now limit opening front brought m at (replies.Capped c) answer = absurd answer
 
 -- ---- acts of one caller's number
 
@@ -252,33 +253,33 @@ module _ (g : Config) (valid : IsConfig g) (n : ℕ) (few : n < g.callers) where
     bare-own event reply work none quiet notes =
         subst (Own work.acts) (sym (ap (λ (b : Brought). length (calls_of (effect_with b reply))) none ∙ quiet)) (noted-own event work reply notes)
 
-    pub line-own : (kept : List KeptRead) (op : Op) (reply : Reply) (work : Work) → caller_of op ≡ Some n → IsWorkOf g n (record { op = op; reply = reply; work = work })
-        → AnswersLine g len image place blocks openings seen kept (on_object op) (record { op = op; reply = reply; work = work }) → Own (acts_with_op g blocks kept op reply work) (length (calls_of (effect_with work.brought reply)))
-    line-own kept (ops.Read m t x window) reply work his fits answer = plain-own kept (ops.Read m t x window) reply work his fits.notes answer
-    line-own kept (ops.Hold m t x) reply work his fits answer = plain-own kept (ops.Hold m t x) reply work his fits.notes answer
-    line-own kept (ops.Drop m x) reply work his fits answer = plain-own kept (ops.Drop m x) reply work his fits.notes answer
-    line-own kept (ops.Get m t at window) reply work his fits answer = object-own m t at _ reply work (some-is m n his) (got-brings reply work.brought fits.together) fits.notes
-    line-own kept (ops.Patch m t at from bytes) reply work his fits answer = object-own m t at _ reply work (some-is m n his) (done-brings reply work.brought fits.together) fits.notes
-    line-own kept (ops.Pin m t at) reply work his fits answer = object-own m t at _ reply work (some-is m n his) (done-brings reply work.brought fits.together) fits.notes
-    line-own kept (ops.Put m t at size fill) reply work his fits answer = bare-own _ reply work fits.together (put-quiet len answer.0 answer.2.cell.value.limit answer.2.cell.value.opening answer.2.cell.value.history m t at size fill reply answer.2.answer) fits.notes
-    line-own kept (ops.Unpin m at) reply work his fits answer = bare-own _ reply work fits.together (unpin-quiet len answer.0 answer.2.cell.value.limit answer.2.cell.value.opening answer.2.cell.value.history m at reply answer.2.answer) fits.notes
-    line-own kept ops.Feed reply work his fits answer = cc
-    line-own kept (ops.Txg t) reply work his fits answer = cc
-    line-own kept (ops.Cap c) reply work his fits answer = cc
+    pub line-own : (had : List Noted) (kept : List KeptRead) (op : Op) (reply : Reply) (work : Work) → caller_of op ≡ Some n → IsWorkOf g n (record { op = op; reply = reply; work = work })
+        → AnswersLine g len image place blocks openings seen n had kept (on_object op) (record { op = op; reply = reply; work = work }) → Own (acts_with_op g blocks kept op reply work) (length (calls_of (effect_with work.brought reply)))
+    line-own had kept (ops.Read m t x window) reply work his fits answer = plain-own kept (ops.Read m t x window) reply work his fits.notes answer
+    line-own had kept (ops.Hold m t x) reply work his fits answer = plain-own kept (ops.Hold m t x) reply work his fits.notes answer
+    line-own had kept (ops.Drop m x) reply work his fits answer = plain-own kept (ops.Drop m x) reply work his fits.notes answer
+    line-own had kept (ops.Get m t at window) reply work his fits answer = object-own m t at _ reply work (some-is m n his) (got-brings reply work.brought fits.together) fits.notes
+    line-own had kept (ops.Patch m t at from bytes) reply work his fits answer = object-own m t at _ reply work (some-is m n his) (done-brings reply work.brought fits.together) fits.notes
+    line-own had kept (ops.Pin m t at) reply work his fits answer = object-own m t at _ reply work (some-is m n his) (done-brings reply work.brought fits.together) fits.notes
+    line-own had kept (ops.Put m t at size fill) reply work his fits answer = bare-own _ reply work fits.together (put-quiet len answer.0 answer.2.cell.value.limit answer.2.cell.value.opening answer.2.cell.value.history work.brought m t at size fill reply answer.2.answer) fits.notes
+    line-own had kept (ops.Unpin m at) reply work his fits answer = bare-own _ reply work fits.together (unpin-quiet len answer.0 answer.2.cell.value.limit answer.2.cell.value.opening answer.2.cell.value.history work.brought m at reply answer.2.answer) fits.notes
+    line-own had kept ops.Feed reply work his fits answer = cc
+    line-own had kept (ops.Txg t) reply work his fits answer = cc
+    line-own had kept (ops.Cap c) reply work his fits answer = cc
 
-    pub lines-own : (kept : List KeptRead) (ls : List Line) → AllByRecursion (λ l. (caller_of l.op ≡ Some n) × IsWorkOf g n l) ls → AnswersLines g len image place blocks openings seen kept ls
+    pub lines-own : (had : List Noted) (kept : List KeptRead) (ls : List Line) → AllByRecursion (λ l. (caller_of l.op ≡ Some n) × IsWorkOf g n l) ls → AnswersLines g len image place blocks openings seen n had kept ls
         → Own (acts_of_work g blocks kept ls) (length (calls_of_lines ls))
-    lines-own kept [] fits answers = record { kinds = tt; count = refl }
-    lines-own kept (l ∷ ls) fits answers =
+    lines-own had kept [] fits answers = record { kinds = tt; count = refl }
+    lines-own had kept (l ∷ ls) fits answers =
         subst (Own (acts_of_work g blocks kept (l ∷ ls))) (sym (length-append (calls_of (effect_with l.work.brought l.reply)) (calls_of_lines ls)))
-        (own-two (acts_with g blocks kept l) (acts_of_work g blocks (kept_after blocks l.op l.reply kept) ls) _ _ (line-own kept l.op l.reply l.work fits.0.0 fits.0.1 answers.0) (lines-own (kept_after blocks l.op l.reply kept) ls fits.1 answers.1))
+        (own-two (acts_with g blocks kept l) (acts_of_work g blocks (kept_after blocks l.op l.reply kept) ls) _ _ (line-own had kept l.op l.reply l.work fits.0.0 fits.0.1 answers.0) (lines-own (had ++ l.work.noted) (kept_after blocks l.op l.reply kept) ls fits.1 answers.1))
 
     -- and what it still keeps is dropped
-    pub caller-own : (ls : List Line) → AllByRecursion (λ l. (caller_of l.op ≡ Some n) × IsWorkOf g n l) ls → AnswersLines g len image place blocks openings seen [] ls
+    pub caller-own : (ls : List Line) → AllByRecursion (λ l. (caller_of l.op ≡ Some n) × IsWorkOf g n l) ls → AnswersLines g len image place blocks openings seen n [] [] ls
         → Own (acts_of_caller_lines g blocks n ls) (length (calls_of_lines ls))
     caller-own ls fits answers =
         subst (Own (acts_of_caller_lines g blocks n ls)) (add-zero (length (calls_of_lines ls)))
-        (own-two (acts_of_work g blocks [] ls) (acts_of_drops n (kept_after_lines blocks [] ls)) _ 0 (lines-own [] ls fits answers)
+        (own-two (acts_of_work g blocks [] ls) (acts_of_drops n (kept_after_lines blocks [] ls)) _ 0 (lines-own [] [] ls fits answers)
         (all-own (acts_of_drops n (kept_after_lines blocks [] ls)) 0 (act-drops n (kept_after_lines blocks [] ls)) (stand-drops len image blocks n (kept_after_lines blocks [] ls))))
       where
         add-zero : (k : ℕ) → k + 0 ≡ k
