@@ -7,6 +7,7 @@ pub mod FeederKinds
 pub mod GenLemmas
 pub mod HistoryLemmas
 pub mod LineActs
+pub mod LineAnswers
 pub mod OutcomeLemmas
 pub mod PlacedLemmas
 pub mod RanLemmas
