@@ -35,7 +35,7 @@ use Rattle.trace_run.specs.callers.Group.{HaveWorked, IsAt, LeavesFront, LeavesP
 use Rattle.trace_run.specs.Feeds.{is_feed}
 use Rattle.trace_run.specs.KeptBlocks.{read_of}
 use Rattle.trace_run.specs.Lines.{caller_of, replies_where}
-use Rattle.trace_run.specs.Meeting.{HasSettled, IsFed, Resized, Waits}
+use Rattle.trace_run.specs.Meeting.{IsFed, Resized, Waits}
 use Rattle.trace_run.specs.Objects.{Line, Work, no_work, replies_of}
 use Rattle.trace_run.specs.Openings.{Knows, openings_of}
 use Rattle.trace_run.specs.one_caller.OverShards.{AreNamed}
@@ -69,7 +69,7 @@ module _ {C : Type 0} where
   pub record HasCome (cache : Cache) (pool_len : ℕ) (image : Option (List ℕ)) (place : ℕ) (blocks : List Ptr) (n : ℕ) (lines : List Line) (kept : List KeptBlock) (p : Place (Known C)) : Type 0 where
     pub waits : Waits cache n (acts_of_work cache.config blocks [] lines) (noted_of_work lines) kept p
     pub keeps : map read_of kept ≡ kept_after_lines blocks [] lines
-    pub answers : AnswersLines cache.config pool_len image place blocks p.own.about.openings p.own.seen [] lines
+    pub answers : AnswersLines cache.config pool_len image place blocks p.own.about.openings p.own.seen n [] [] lines
 
   -- the caller of a number in a crew
   pub record ComesAt (cache : Cache) (pool_len : ℕ) (image : Option (List ℕ)) (place : ℕ) (blocks : List Ptr) (n : ℕ) (lines : List Line) (crew : Crew C) : Type 0 where
@@ -78,7 +78,7 @@ module _ {C : Type 0} where
     pub at : IsAt n crew.kept.items crew.parties.items reads party
     pub come : HasCome cache pool_len image place blocks n lines reads party
 
-  -- All callers and the feeder have come to this by these lines, with this work beside their replies, where these keys were restored. The feeder has settled all that it picked. What it
+  -- All callers and the feeder have come to this by these lines, with this work beside their replies, where these keys were restored. What the feeder
   -- has seen of each shard begins with the restores, and is cut by the lines that end groups.
   pub record HaveCome (cache : Cache) (restored : List Restored) (pool_len : ℕ) (image : Option (List ℕ)) (place : ℕ) (blocks : List Ptr) (ops : List Op) (replies : List Reply) (work : RunWork) (crew : Crew C) : Type 0 where
     pub did : IsRunWork cache.config ops replies work
@@ -87,7 +87,6 @@ module _ {C : Type 0} where
     pub parties : length crew.parties.items ≡ cache.config.callers
     pub each : (n : ℕ) → n < cache.config.callers → ComesAt cache pool_len image place blocks n (lines_of_caller n work.lines) crew
     pub ended : AreEndLines ops replies
-    pub settled : HasSettled crew.feeder
     pub feeder : IsFed cache crew.feeder.own.about.openings (events_by_feeder cache.config restored ops replies work.feeds) (λ shard. seen_of cache.config shard crew.feeder)
         (acts_of_syncs cache.config blocks work) (noted_of_syncs work) crew.feeder
     pub begun : (shard : ℕ) → shard < cache.config.shards → StartsWith (seen_of cache.config shard crew.feeder) (restores_in cache.config restored shard)

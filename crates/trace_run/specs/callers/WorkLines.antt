@@ -154,17 +154,18 @@ at_work party kept outside = record { party = party; kept = kept; outside = outs
 abbrev pub HasFront : (place : ℕ) → (first now : Option (List ℕ)) → Type 0
 HasFront place first now = option_map (take place) now ≡ option_map (take place) first
 
--- A line has its answer, where its caller keeps these reads: one on an object by how its cell was found, from which what is seen now goes on, and over what the pool told
--- then. Behind a sync that differs from what it told at first from the place of the first sync on.
-abbrev pub AnswersLine : Config → (pool_len : ℕ) → Option (List ℕ) → (place : ℕ) → List Ptr → (openings : List (List ℕ)) → (seen : List (List Seen)) → List KeptRead → Option OnObject → Line → Type 0
-AnswersLine g pool_len image place blocks openings seen kept None l = AnswersNow pool_len image blocks kept l.op l.reply
-AnswersLine g pool_len image place blocks openings seen kept (Some on) l = (now : Option (List ℕ)) × HasFront place image now × AnswersFrom g pool_len now openings seen on.at l.op l.reply
+-- A line of the caller n has its answer, where the caller had done this to cells and keeps these reads: one on an object by how its cell was found, from which what is seen now goes
+-- on, and over what the pool told then. Behind a sync that differs from what it told at first from the place of the first sync on.
+abbrev pub AnswersLine : Config → (pool_len : ℕ) → Option (List ℕ) → (place : ℕ) → List Ptr → (openings : List (List ℕ)) → (seen : List (List Seen)) → (n : ℕ) → List Noted → List KeptRead → Option OnObject → Line → Type 0
+AnswersLine g pool_len image place blocks openings seen n had kept None l = AnswersNow pool_len image blocks kept l.op l.reply
+AnswersLine g pool_len image place blocks openings seen n had kept (Some on) l = (now : Option (List ℕ)) × HasFront place image now × AnswersFrom g pool_len now openings seen n had on.at l
 
 -- each has, one after another
-abbrev pub AnswersLines : Config → (pool_len : ℕ) → Option (List ℕ) → (place : ℕ) → List Ptr → (openings : List (List ℕ)) → (seen : List (List Seen)) → List KeptRead → List Line → Type 0
-AnswersLines g pool_len image place blocks openings seen kept [] = Unit {0}
-AnswersLines g pool_len image place blocks openings seen kept (l ∷ ls) =
-    AnswersLine g pool_len image place blocks openings seen kept (on_object l.op) l × AnswersLines g pool_len image place blocks openings seen (kept_after blocks l.op l.reply kept) ls
+abbrev pub AnswersLines : Config → (pool_len : ℕ) → Option (List ℕ) → (place : ℕ) → List Ptr → (openings : List (List ℕ)) → (seen : List (List Seen)) → (n : ℕ) → List Noted → List KeptRead → List Line → Type 0
+AnswersLines g pool_len image place blocks openings seen n had kept [] = Unit {0}
+AnswersLines g pool_len image place blocks openings seen n had kept (l ∷ ls) =
+    AnswersLine g pool_len image place blocks openings seen n had kept (on_object l.op) l
+    × AnswersLines g pool_len image place blocks openings seen n (had ++ l.work.noted) (kept_after blocks l.op l.reply kept) ls
 
 -- the lines of these operations with these replies, each with some work
 abbrev pub AreLinesOf : List Op → List Reply → List Line → Type 0
