@@ -1,5 +1,5 @@
 -- How a run's answered lines on objects are answered: by the cells of the closed cache.
-use Rattle.std.specs.Prelude.{◌≡◌, ℕ, List, ◌++◌, Option, Some, None, slice_get, Unit}
+use Rattle.std.specs.Prelude.{◌≡◌, ℕ, List, ◌++◌, Option, Some, None, slice_get}
 use Rattle.arc_core.specs.declared.config.Config.{Config}
 use Rattle.dbuf_cells.specs.Places.{cell_of}
 use Rattle.dbuf_cells.specs.Turns.{OnHeap}

@@ -20,7 +20,7 @@ use Rattle.trace_text.specs.declared.op.Op.TheVariants as ops
 use Rattle.trace_text.specs.declared.reply.Reply.{Reply}
 use Rattle.trace_text.specs.declared.reply.Reply.TheVariants as replies
 use Rattle.trace_run.specs.Acts.{acts_of}
-use Rattle.trace_run.specs.callers.CallerLines.{At, DidLine, at}
+use Rattle.trace_run.specs.callers.CallerLines.{DidLine, at}
 use Rattle.trace_run.specs.Deeds.{HasToldAll, KeepsCells, Noted}
 use Rattle.trace_run.specs.Effects.{Effect, Answered, calls_of, effect_of}
 use Rattle.trace_run.specs.KeptReads.{KeptRead}
@@ -28,7 +28,7 @@ use Rattle.trace_run.specs.DeviceReads.{AsksFor, LineAsks, size_asked}
 use Rattle.trace_run.specs.ObjectLines.{DidObjectLine, OnObject, on_object}
 use Rattle.trace_run.specs.ObjectReplies.{AnswersFrom}
 use Rattle.trace_run.specs.Objects.{Brought, GoesTogether, Line, Loaded, NotesNothing, NotesOwn, Nothing, OwnEvent, Refused, Work, acts_of_bringing, no_work, own_event}
-use Rattle.trace_run.specs.one_caller.OneCaller.{kept_after, kept_after_all}
+use Rattle.trace_run.specs.one_caller.OneCaller.{kept_after}
 use Rattle.trace_run.specs.Tally.{AnswersNow}
 
 -- what a reply says was done, where this was brought for its line: a block that was brought was read, whatever the line did with it then
@@ -180,18 +180,6 @@ pub record DidOps {P D : Type 0} (pools : PoolGhosts P) (devices : DeviceGhosts 
   pub lines : List Line
   pub are : AreLinesOf ops_done replied lines
   pub did : DidAll pools devices g blocks lines old new
-
--- What a caller's operations came to, whatever cache device it asked: they have these lines with their replies. What these did is told, each has its answer, and the pool was
--- read as they say and in no other way.
-pub record CameTo {P : Type 0} (pools : PoolGhosts P) (g : Config) (blocks : List Ptr) (ops_done : List Op) (replied : List Reply) (lines : List Line) (old new : At OnHeap P) : Type 0 where
-  pub are : AreLinesOf ops_done replied lines
-  pub number : new.party.number ≡ old.party.number
-  pub joined : new.party.joined ≡ old.party.joined
-  pub keeps : KeepsCells g old.party new.party
-  pub kept : new.kept ≡ kept_after_all blocks old.kept ops_done replied
-  pub told : (did : List Act) (had : List Noted) → HasToldAll g did had old.party → HasToldAll g (did ++ acts_of_work g blocks old.kept lines) (had ++ noted_of_work lines) new.party
-  pub answers : (place : ℕ) → AnswersLines g (pools.size old.pool) (pools.told old.pool) place blocks old.party.own.about.openings new.party.own.seen old.kept lines
-  pub calls : MakesCalls pools (calls_of_lines lines) old.pool new.pool
 
 -- ---- what lines ask of the cache device
 
