@@ -236,7 +236,7 @@ module _ {P D : Type 0} (pools : PoolGhosts P) (devices : DeviceGhosts D) (g : C
     pools.told a.outside.pool,
     refl,
     subst (λ (o : Option OnObject). IfSome o (λ on. AnswersFrom g (pools.size a.outside.pool) (pools.told a.outside.pool) a.party.own.about.openings b.party.own.seen on.at l.op l.reply)) is
-    (object-answers pools devices g a.outside b.outside a.party b.party l.op l.reply his d.1.came),
+        (object-answers pools devices g a.outside b.outside a.party b.party l.op l.reply his d.1.came),
   )
 
   still-answers : (valid : IsConfig g) (len : ℕ) (image : Option (List ℕ)) (place : ℕ) (o : Option OnObject) (l : Line) (kept : List KeptRead) (p q r : PartyPlace) → KeepsCells g q r
