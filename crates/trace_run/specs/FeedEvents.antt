@@ -8,6 +8,7 @@ use Rattle.l2_feed.specs.Alone.{events_at}
 use Rattle.trace_text.specs.declared.op.Op.{Op}
 use Rattle.trace_text.specs.declared.reply.Reply.{Reply}
 use Rattle.trace_text.specs.declared.reply.Reply.TheVariants as replies
+use Rattle.trace_text.specs.declared.reply.Reply.TheVariants.{Fed}
 use Rattle.trace_run.specs.Acts.{events_of_feeder}
 use Rattle.trace_run.specs.Feeds.{FeedDone, IsFeedOf, is_feed}
 use Rattle.trace_run.specs.Lines.{replies_where}
@@ -59,5 +60,5 @@ events_of_made g shard (feed ∷ feeds) = events_at g g.callers shard feed.acts 
 
 -- These feeds are those that the lines are answered with, in their order, and the acts of each are those of a feed that its reply sums up.
 pub record AreFeedsTold (config : Config) (ops : List Op) (replies : List Reply) (feeds : List FeedDone) : Type 0 where
-  pub told : filter is_fed (replies_where is_feed ops replies) ≡ map (λ feed. replies.Fed feed.report) feeds
+  pub told : filter is_fed (replies_where is_feed ops replies) ≡ map (λ feed. Fed feed.report) feeds
   pub shapes : AllByRecursion (IsFeedOf config.shards) feeds

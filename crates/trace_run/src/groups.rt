@@ -14,11 +14,10 @@ ghost use Rattle.trace_text.specs.declared.reply.Reply.{Reply};
 ghost use Rattle.trace_run.specs.Devices.{WasLent, lent_in};
 ghost use Rattle.trace_run.specs.callers.Callers.{AreAtStart};
 ghost use Rattle.trace_run.specs.Feeds.{IsIdleFeeder, MayBeFed};
-ghost use Rattle.trace_run.specs.callers.Beside.{TriesBeside, WorksInOrder};
-ghost use Rattle.trace_run.specs.callers.DeviceForks.{HaveReadSoFar, ReadAtOnce, these};
+ghost use Rattle.trace_run.specs.callers.Beside.{TriesBeside};
 ghost use Rattle.trace_run.specs.callers.InOrder.{AreInGroup};
 ghost use Rattle.trace_run.specs.callers.Group.{IsFork, LeavesPool};
-ghost use Rattle.trace_run.specs.callers.Groups.{AreBetween, AreOfCallers, DidEndLine, DidLinesAtOnce, AreDone, KeepNothing, MaySync, StepsOn};
+ghost use Rattle.trace_run.specs.callers.Groups.{AreBetween, DidEndLine, DidLinesAtOnce, AreDone, KeepNothing, MaySync, StepsOn};
 ghost use Rattle.trace_run.specs.Making.{AreNoEntries};
 ghost use Rattle.trace_run.specs.Meeting.{MayGoOn};
 ghost use Rattle.trace_run.specs.Tally.{AreDeclared};
@@ -147,8 +146,7 @@ fn lines_at_once<R: Threads + Wait + Sync, P: Pool, D: CacheDev, G: Gate>(
     requires feeder { IsIdleFeeder arcs.now crew.feeder }
     requires device { MayBeFed D.CacheDev arcs.now.config device.old }
     requires few { first + length ops.now < 2 ^ 32 }
-    ensures did { IfOk result (λ done. DidLinesAtOnce arcs.now P.Pool blocks.now ops.now pool.old pool.new crew done.0 done.1.items) }
-    ensures beside { IfOk result (λ done. WorksInOrder dbuf_meanings D.CacheDev arcs.now blocks.now ops.now (vec_len crew.parties) done.1.items device.old device.new crew.feeder done.0.feeder) }
+    ensures did { IfOk result (λ done. DidLinesAtOnce dbuf_meanings arcs.now P.Pool D.CacheDev blocks.now ops.now pool.old pool.new device.old device.new crew done.0 done.1.items) }
     ensures tried { (p : Place (Known OnHeap)) × TriesBeside dbuf_meanings D.CacheDev arcs.now ops.now device.old device.new crew.feeder p }
     ensures feeder { IfOk result (λ done. IsIdleFeeder arcs.now done.0.feeder) }
     ensures device { MayBeFed D.CacheDev arcs.now.config device.new }

@@ -1,8 +1,9 @@
 -- What callers that work at once are between the steps of their work.
-use Rattle.std.specs.Prelude.{◌≡◌, ℕ, suc, List, [], ◌∷◌, filter, map, IfOk, Vec, Ok, ◌++◌}
+use Rattle.std.specs.Prelude.{◌≡◌, ℕ, suc, List, [], ◌∷◌, filter, map, IfOk, Option, Vec, Ok, ◌++◌}
 use Rattle.std.specs.declared.alloc.Global.{Global}
 use Rattle.std.specs.List.{AllByRecursion}
 use Rattle.blk_ptr.specs.declared.ptr.Ptr.{Ptr}
+use Rattle.arc_core.specs.declared.config.Config.{Config}
 use Rattle.arc_core.specs.Operations.{Act}
 use Rattle.arc_table.specs.Cache.{Cache}
 use Rattle.vdev_io.specs.Calls.{MakesCalls}
@@ -15,6 +16,7 @@ use Rattle.vdev_io.specs.declared.pool.Pool.{Ghosts}
 use Rattle.vdev_io.specs.Faults.{sum_of_counts}
 use Rattle.trace_run.specs.declared.group.Caller.{Caller}
 use Rattle.trace_run.specs.declared.kept_blocks.KeptBlock.{KeptBlock}
+use Rattle.trace_run.specs.callers.CallerLines.{At}
 use Rattle.trace_run.specs.Deeds.{HasToldAll, KeepsCells, Noted}
 use Rattle.trace_run.specs.KeptBlocks.{Stands, read_of}
 use Rattle.trace_run.specs.Lines.{is_of_caller}
@@ -37,6 +39,24 @@ module _ {P : Type 0} (pools : Ghosts P) where
   abbrev pub AbsorbsAll : List P → (old new : P) → Type 0
   AbsorbsAll [] old new = new ≡ old
   AbsorbsAll (fork ∷ forks) old new = (next : P) × Absorbs fork old next × AbsorbsAll forks next new
+
+-- ---- a caller's operations
+
+-- What a caller's operations came to, over the cache device that it was given: they have these lines with their replies, each with its work. What these did is told, each has its answer,
+-- and the pool and the device were read as they say and in no other way.
+pub record CameTo {C P D : Type 0} (pools : Ghosts P) (devices : Devices D) (g : Config) (blocks : List Ptr) (ops_done : List Op) (replied : List Reply) (old new : At C P) (was now : Option D) : Type 0 where
+  pub lines : List Line
+  pub are : AreLinesOf ops_done replied lines
+  pub fits : AllByRecursion (IsWorkOf g old.party.number) lines
+  pub number : new.party.number ≡ old.party.number
+  pub joined : new.party.joined ≡ old.party.joined
+  pub cells : KeepsCells g old.party new.party
+  pub kept : new.kept ≡ kept_after_lines blocks old.kept lines
+  pub told : (did : List Act) (had : List Noted) → HasToldAll g did had old.party → HasToldAll g (did ++ acts_of_work g blocks old.kept lines) (had ++ noted_of_work lines) new.party
+  pub answers : (did : List Act) (had : List Noted) → HasToldAll g did had old.party
+      → (place : ℕ) → AnswersLines g (pools.size old.pool) (pools.told old.pool) place blocks old.party.own.about.openings new.party.own.seen old.party.number had old.kept lines
+  pub calls : MakesCalls pools (calls_of_lines lines) old.pool new.pool
+  pub asked : AsksGiven devices blocks lines was now
 
 -- ---- before the lines
 

@@ -66,9 +66,9 @@ module _ {D : Type 0} (devices : Ghosts D) where
   -- Each caller, by its number from this one on, asked what it was given for the reads of its own lines, and left it so.
   abbrev pub AllAsk : List Ptr → (own : ℕ → List Line) → (n : ℕ) → (given left : List (Option D)) → Type 0
   AllAsk blocks own n [] [] = Unit {0}
-  AllAsk blocks own n [] (done ∷ dones) = ⊥
+  AllAsk blocks own n [] (last ∷ lasts) = ⊥
   AllAsk blocks own n (fork ∷ forks) [] = ⊥
-  AllAsk blocks own n (fork ∷ forks) (done ∷ dones) = AsksGiven devices blocks (own n) fork done × AllAsk blocks own (suc n) forks dones
+  AllAsk blocks own n (fork ∷ forks) (last ∷ lasts) = AsksGiven devices blocks (own n) fork last × AllAsk blocks own (suc n) forks lasts
 
   -- Each caller was given a fork of the device as a group began, or none where it was refused: then the device was as lent. Its lines asked its fork for their
   -- reads, and the device, as it was later, took each back.

@@ -1,11 +1,12 @@
 -- A caller's lines, those on objects among them, each with what it did beside its reply; and what such lines come to, one after another.
-use Rattle.std.specs.Prelude.{◌≡◌, ◌≢◌, ℕ, List, [], ◌∷◌, ◌++◌, Option, Some, None, take}
+use Rattle.std.specs.Prelude.{◌≡◌, ◌≢◌, ℕ, List, [], ◌∷◌, ◌++◌, Option, Some, None, IfSome, take}
 use Rattle.std.specs.Option.{option_map}
 use Rattle.std.specs.List.{AllByRecursion}
 use Rattle.blk_ptr.specs.declared.ptr.Ptr.{Ptr}
 use Rattle.vdev_io.specs.declared.device.CacheDev.{Ghosts as DeviceGhosts}
 use Rattle.vdev_io.specs.declared.pool.Pool.{Ghosts as PoolGhosts}
 use Rattle.vdev_io.specs.Calls.{Call, KeepsPool, MakesCalls}
+use Rattle.arc_core.specs.Config.{IsConfig}
 use Rattle.arc_core.specs.declared.config.Config.{Config}
 use Rattle.arc_core.specs.declared.served.Served.TheVariants as served
 use Rattle.arc_core.specs.Operations.{Act}
@@ -20,7 +21,7 @@ use Rattle.trace_text.specs.declared.op.Op.TheVariants as ops
 use Rattle.trace_text.specs.declared.reply.Reply.{Reply}
 use Rattle.trace_text.specs.declared.reply.Reply.TheVariants as replies
 use Rattle.trace_run.specs.Acts.{acts_of}
-use Rattle.trace_run.specs.callers.CallerLines.{At, DidLine, at}
+use Rattle.trace_run.specs.callers.CallerLines.{DidLine, at}
 use Rattle.trace_run.specs.Deeds.{HasToldAll, KeepsCells, Noted}
 use Rattle.trace_run.specs.Effects.{Effect, Answered, calls_of, effect_of}
 use Rattle.trace_run.specs.KeptReads.{KeptRead}
@@ -28,7 +29,7 @@ use Rattle.trace_run.specs.DeviceReads.{AsksFor, LineAsks, size_asked}
 use Rattle.trace_run.specs.ObjectLines.{DidObjectLine, OnObject, on_object}
 use Rattle.trace_run.specs.ObjectReplies.{AnswersFrom}
 use Rattle.trace_run.specs.Objects.{Brought, GoesTogether, Line, Loaded, NotesNothing, NotesOwn, Nothing, OwnEvent, Refused, Work, acts_of_bringing, no_work, own_event}
-use Rattle.trace_run.specs.one_caller.OneCaller.{kept_after, kept_after_all}
+use Rattle.trace_run.specs.one_caller.OneCaller.{kept_after}
 use Rattle.trace_run.specs.Tally.{AnswersNow}
 
 -- what a reply says was done, where this was brought for its line: a block that was brought was read, whatever the line did with it then
@@ -107,10 +108,12 @@ size_brought Nothing = 0
 size_brought (Loaded ptr from) = ptr.key.size
 size_brought (Refused ptr) = ptr.key.size
 
--- The line came to this, by what the contract of its call says; its work fits it; its acts and its entries of cells are told; and the pool and the cache device were
+-- The line came to this, by what the contract of its call says; it has its answer, by how its cell was found; its work fits it; its acts and its entries of cells are told; and the pool and the cache device were
 -- read for what was brought, and for nothing else.
 pub record DidWorkLine {P D : Type 0} (pools : PoolGhosts P) (devices : DeviceGhosts D) (g : Config) (blocks : List Ptr) (kept : List KeptRead) (before now : Outside P D) (p q : PartyPlace) (l : Line) : Type 0 where
   pub came : DidObjectLine pools devices g before now p q l.op l.reply
+  pub answers : IsConfig g → (did : List Act) (had : List Noted) → HasToldAll g did had p
+      → IfSome (on_object l.op) (λ on. AnswersFrom g (pools.size before.pool) (pools.told before.pool) p.own.about.openings q.own.seen p.number had on.at l)
   pub fits : IsWorkOf g p.number l
   pub number : q.number ≡ p.number
   pub told : (did : List Act) (had : List Noted) → HasToldAll g did had p → HasToldAll g (did ++ acts_with g blocks kept l) (had ++ l.work.noted) q
@@ -181,19 +184,6 @@ pub record DidOps {P D : Type 0} (pools : PoolGhosts P) (devices : DeviceGhosts 
   pub lines : List Line
   pub are : AreLinesOf ops_done replied lines
   pub did : DidAll pools devices g blocks lines old new
-
--- What a caller's operations came to, whatever cache device it asked: they have these lines with their replies. What these did is told, each has its answer, and the pool was
--- read as they say and in no other way.
-pub record CameTo {P : Type 0} (pools : PoolGhosts P) (g : Config) (blocks : List Ptr) (ops_done : List Op) (replied : List Reply) (lines : List Line) (old new : At OnHeap P) : Type 0 where
-  pub are : AreLinesOf ops_done replied lines
-  pub number : new.party.number ≡ old.party.number
-  pub joined : new.party.joined ≡ old.party.joined
-  pub keeps : KeepsCells g old.party new.party
-  pub kept : new.kept ≡ kept_after_all blocks old.kept ops_done replied
-  pub told : (did : List Act) (had : List Noted) → HasToldAll g did had old.party → HasToldAll g (did ++ acts_of_work g blocks old.kept lines) (had ++ noted_of_work lines) new.party
-  pub answers : (did : List Act) (had : List Noted) → HasToldAll g did had old.party
-      → (place : ℕ) → AnswersLines g (pools.size old.pool) (pools.told old.pool) place blocks old.party.own.about.openings new.party.own.seen old.party.number had old.kept lines
-  pub calls : MakesCalls pools (calls_of_lines lines) old.pool new.pool
 
 -- ---- what lines ask of the cache device
 
