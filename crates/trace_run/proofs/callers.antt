@@ -10,6 +10,7 @@ pub mod GroupRunLemmas
 pub mod GroupsLemmas
 pub mod InOrderLemmas
 pub mod MeetLemmas
+pub mod MergedLines
 pub mod PlaceLemmas
 pub mod StepLemmas
 pub mod SyncRun
