@@ -68,7 +68,7 @@ module _ {C : Type 0} where
   pub record HasCome (cache : Cache) (pool_len : ℕ) (image : Option (List ℕ)) (place : ℕ) (blocks : List Ptr) (n : ℕ) (lines : List Line) (kept : List KeptBlock) (p : Place (Known C)) : Type 0 where
     pub waits : Waits cache n (acts_of_work cache.config blocks [] lines) (noted_of_work lines) kept p
     pub keeps : map read_of kept ≡ kept_after_lines blocks [] lines
-    pub answers : AnswersLines cache.config pool_len image place blocks p.own.about.openings p.own.seen [] lines
+    pub answers : AnswersLines cache.config pool_len image place blocks p.own.about.openings p.own.seen n [] [] lines
 
   -- the caller of a number in a crew
   pub record ComesAt (cache : Cache) (pool_len : ℕ) (image : Option (List ℕ)) (place : ℕ) (blocks : List Ptr) (n : ℕ) (lines : List Line) (crew : Crew C) : Type 0 where
