@@ -62,9 +62,9 @@ use Rattle.dbuf_state.specs.Soundness.{IsSound, plain_cell}
 use Rattle.dbuf_state.specs.declared.event.CellEvent.{CellEvent}
 use Rattle.dbuf_state.specs.declared.event.CellEvent.TheVariants.{End}
 use Rattle.dbuf_state.specs.declared.state.Mapping.{Mapping}
-use Rattle.trace_run.specs.CellEnds.{HasToldOthers, end_entry, ends_from}
+use Rattle.trace_run.specs.CellEnds.{end_entry, ends_from}
 use Rattle.trace_run.specs.DbufTurns.{CellsDone}
-use Rattle.trace_run.specs.Deeds.{Noted, acts_of_events, events_there, noted_in}
+use Rattle.trace_run.specs.Deeds.{HasToldOthers, Noted, acts_of_events, events_there, noted_in}
 use Rattle.trace_run.specs.Making.{HasSeenItsEvents}
 use Rattle.trace_run.proofs.deeds.CellsDone.{turn-done}
 use Rattle.trace_run.proofs.deeds.DeedLemmas.{events-acts}

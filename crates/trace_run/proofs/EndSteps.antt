@@ -18,8 +18,8 @@ use Rattle.arc_table.specs.Seen.{AreEntriesSeen, AreSeen, HasAll, events_in, see
 use Rattle.arc_table.specs.Telling.{opening_of}
 use Rattle.dbuf_cells.specs.Ending.{EndsFrom}
 use Rattle.dbuf_cells.specs.Turns.{KeepsClaims, OnHeap, PartyPlace, dbuf_meanings}
-use Rattle.trace_run.specs.CellEnds.{EndedCells, EndedIdle, HasToldOthers, end_entry, ends_from}
-use Rattle.trace_run.specs.Deeds.{Noted, acts_of_events, events_there}
+use Rattle.trace_run.specs.CellEnds.{EndedCells, EndedIdle, end_entry, ends_from}
+use Rattle.trace_run.specs.Deeds.{HasToldOthers, Noted, acts_of_events, events_there}
 use Rattle.trace_run.specs.KeptBlocks.{Stands, times}
 use Rattle.trace_run.specs.Making.{AreEventsSeen, AreNoEntries}
 use Rattle.trace_run.specs.Meeting.{AreLast, HasLearned, HaveParted, IsApart, JoinAll, Joins, MayPart, PartAll}
@@ -27,7 +27,7 @@ use Rattle.trace_run.proofs.CellsLeft.{entries-more}
 use Rattle.trace_run.proofs.CellEnds.{HasEndedFrom, HasEndedSome, IsUntouched, NoneFrom, all-ended, cell-drops-there, drops-unmade}
 use Rattle.trace_run.proofs.callers.MeetLemmas.{HaveJoined, all-parted, are-last, joined-front, joined_of, left_alone, own-seen-more, parted-then, parted_from, starts-then}
 use Rattle.trace_run.proofs.deeds.MakesLemmas.{grown-same}
-use Rattle.trace_run.proofs.theorem.ToldLemmas.{others-still}
+use Rattle.trace_run.proofs.deeds.DeedLemmas.{others-still}
 use Rattle.trace_run.proofs.callers.TurnLemmas.{joined, joined-all, joined-stands}
 
 module _ (cache : Cache) (p : PartyPlace) (others : List PartyPlace) (stands : Stands cache p []) (alone : p.joined ≡ [])

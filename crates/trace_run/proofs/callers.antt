@@ -9,6 +9,7 @@ pub mod GroupLemmas
 pub mod GroupRunLemmas
 pub mod GroupsLemmas
 pub mod InOrderLemmas
+pub mod LineLists
 pub mod MeetLemmas
 pub mod MergedLines
 pub mod PlaceLemmas

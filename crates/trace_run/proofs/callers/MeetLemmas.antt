@@ -38,7 +38,7 @@ use Rattle.trace_run.specs.declared.kept_blocks.KeptBlock.{KeptBlock}
 use Rattle.trace_run.specs.Deeds.{Noted}
 use Rattle.trace_run.specs.Meeting.{AreLast, HasLearned, HasParted, HasSameOwn, IsFed, IsLevel, JoinAll, Joins, MayJoin, PartAll, Waits}
 use Rattle.trace_run.proofs.CellsLeft.{CellsGrow, all-entries-more, entries-more}
-use Rattle.trace_run.proofs.deeds.DeedLemmas.{told-still}
+use Rattle.trace_run.proofs.deeds.DeedLemmas.{others-still, told-still}
 use Rattle.trace_run.proofs.deeds.MakesLemmas.{grown-same}
 
 -- ---- lists that begin alike
@@ -484,8 +484,9 @@ parted-waits cache lines old new parted n acts noted kept waits = record {
 }
 
 -- and the feeder's has made what it had
-pub parted-fed : {C : Type 0} (cache : Cache) (lines : ℕ → List Line) (old new : Place (Known C)) → HasParted cache lines old new → (openings : List (List ℕ)) (fed since : (shard : ℕ) → List Event) → IsFed cache openings fed since old → IsFed cache openings fed since new
-parted-fed cache lines old new parted openings fed since is = record {
+pub parted-fed : {C : Type 0} (cache : Cache) (lines : ℕ → List Line) (old new : Place (Known C)) → HasParted cache lines old new → (openings : List (List ℕ)) (fed since : (shard : ℕ) → List Event) (acts : List Act) (noted : List Noted) → IsFed cache openings fed since acts noted old
+    → IsFed cache openings fed since acts noted new
+parted-fed cache lines old new parted openings fed since acts noted is = record {
   number = parted.number ∙ is.number;
   alone = parted.alone;
   stands = parted.stands [] is.stands;
@@ -494,7 +495,7 @@ parted-fed cache lines old new parted openings fed since is = record {
       ap (λ (k : ℕ). own_events k (seen_of cache.config shard new)) parted.number
       ∙ (same-own-events cache.config old.number (seen_of cache.config shard old) (seen_of cache.config shard new) (parted.own shard) ∙ is.fed shard below);
   since = λ shard. starts-then (seen_of cache.config shard new) (seen_of cache.config shard old) (since shard) (parted.starts shard) (is.since shard);
-  only = parted.only is.only;
+  told = others-still cache.config acts noted old new (parted.same [] is.stands) is.told;
 }
 
 -- ---- lists by their ends

@@ -17,13 +17,14 @@ use Rattle.arc_table.specs.Seen.{events_in, seen_of}
 use Rattle.arc_table.specs.Telling.{opening_of}
 use Rattle.arc_table.specs.TableLaws.{get_front, within}
 use Rattle.arc_table.proofs.TableLaws.{get_last, get_more}
-use Rattle.trace_run.specs.CellEnds.{EndedCrew, HasToldOthers, ends_from}
-use Rattle.trace_run.specs.Deeds.{HasToldAll, Noted, acts_of_events, events_there}
+use Rattle.trace_run.specs.CellEnds.{EndedCrew, ends_from}
+use Rattle.trace_run.specs.Deeds.{HasToldAll, HasToldOthers, Noted, acts_of_events, events_there}
 use Rattle.trace_run.specs.Meeting.{HasParted, HaveParted, IsLevel}
 use Rattle.trace_run.specs.callers.GroupRun.{HaveStopped}
 use Rattle.trace_run.proofs.callers.AfterEnds.{same-long}
 use Rattle.trace_run.proofs.theorem.EndLemmas.{stands-idle}
-use Rattle.trace_run.proofs.theorem.ToldLemmas.{others-still, others-told}
+use Rattle.trace_run.proofs.theorem.ToldLemmas.{others-told}
+use Rattle.trace_run.proofs.deeds.DeedLemmas.{others-still}
 use Rattle.trace_run.proofs.theorem.WorkEnds.{HasEndedWork, IsCallersAct}
 
 module _ {C : Type 0} (cache : Cache) (olds news : List (Place (Known C))) (c : EndedCrew cache olds news) (stopped : HaveStopped cache olds) (many : length c.callers ≡ cache.config.callers) where

@@ -44,7 +44,7 @@ use Rattle.trace_run.specs.RunWork.{AllFit, IsRunWork, RunWork, acts_of_syncs, k
 use Rattle.trace_run.specs.callers.Beside.{WorksBeside}
 use Rattle.trace_run.specs.callers.DeviceForks.{UsedInGroups}
 use Rattle.trace_run.specs.callers.WorkLines.{AnswersLines, AreLinesOf, acts_of_work, calls_of_lines, noted_of_work}
-use Rattle.trace_run.specs.callers.Together.{AreCut, BeginsGroup, BetweenGroups, StopsSync, WorkInGroups, between_groups, groups_of, over_callers}
+use Rattle.trace_run.specs.callers.Together.{AreCut, BeginsGroup, BetweenGroups, StopsSync, WorkInGroups, between_groups, groups_done, over_callers}
 
 -- the line gave a capacity, and is answered so; or it is a sync that is answered; or it asked for a feed, and is answered by its report, or by none
 abbrev pub IsEndLine : Op → Reply → Type 0
@@ -116,19 +116,19 @@ pub record MaySync {P : Type 0} (pools : Ghosts P) (lines : ℕ) (now : BetweenG
   pub inside : now.next ≤ pools.size now.pool
 
 -- What the callers, the pool and the cache device have come to by the groups of a trace that were done, of which so many lines are answered. Before them these were so; the first sync
--- writes from the place `before.next` on.
-pub record HaveReached {P D : Type 0} (cache : Cache) (restored : List Restored) (pools : Ghosts P) (devices : Devices D) (trace : Trace) (before now : BetweenGroups P) (was is : Option D) (replies : List Reply) (work : RunWork) (crew : Crew OnHeap) : Type 0 where
+-- writes from the place `before.next` on; and so the lines ended, or they go on.
+pub record HaveReached {P D : Type 0} (cache : Cache) (restored : List Restored) (pools : Ghosts P) (devices : Devices D) (trace : Trace) (before now : BetweenGroups P) (was is : Option D) (ending : Ending) (replies : List Reply) (work : RunWork) (crew : Crew OnHeap) : Type 0 where
   pub few : length replies ≤ length trace.ops
   pub come : HaveCome cache restored (pools.size before.pool) (pools.told before.pool) before.next trace.blocks (take (length replies) trace.ops) replies work crew
   -- the feeder knows how the cells began
   pub knows : Knows (openings_of trace) crew.feeder
   pub counted : HaveCounted pools cache.config.callers work.lines before.pool now.pool
-  pub groups : WorkInGroups pools cache.config (StoodFresh (openings_of trace) cache.config.cells) (groups_of work.lines) before now
-  pub used : UsedInGroups devices trace.blocks cache.config.callers (groups_of work.lines) work.feeds was is
+  pub groups : WorkInGroups pools cache.config (StoodFresh (openings_of trace) cache.config.cells) (groups_done ending work.lines) before now
+  pub used : UsedInGroups devices trace.blocks cache.config.callers (groups_done ending work.lines) work.feeds was is
 
 -- The callers stand between two groups of a trace.
 pub record AreBetween {P D : Type 0} (cache : Cache) (restored : List Restored) (pools : Ghosts P) (devices : Devices D) (trace : Trace) (before now : BetweenGroups P) (was is : Option D) (replies : List Reply) (work : RunWork) (crew : Crew OnHeap) : Type 0 where
-  pub reached : HaveReached cache restored pools devices trace before now was is replies work crew
+  pub reached : HaveReached cache restored pools devices trace before now was is Whole replies work crew
   pub begins : length replies < length trace.ops → BeginsGroup trace.ops (length replies)
   pub goes_on : work.stopped ≡ no_work
   pub may_sync : MaySync pools (length replies) now
@@ -177,7 +177,7 @@ EndsLines pools cache trace replies stopped (Full need left) reached after = Sto
 -- All lines of the trace were done; or a fork of the pool failed before the group of the first line that isn't answered; or a sync stopped at that line.
 pub record AreDone {P D : Type 0} (cache : Cache) (restored : List Restored) (pools : Ghosts P) (devices : Devices D) (trace : Trace) (before : BetweenGroups P) (after : P) (was is : Option D) (ending : Ending) (replies : List Reply) (work : RunWork) (crew : Crew OnHeap) : Type 0 where
   pub now : BetweenGroups P
-  pub reached : HaveReached cache restored pools devices trace before now was is replies work crew
+  pub reached : HaveReached cache restored pools devices trace before now was is ending replies work crew
   pub ended : EndsLines pools cache trace replies work.stopped ending now after
 
 -- the lines go on behind a group that came to this
