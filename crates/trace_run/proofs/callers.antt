@@ -15,6 +15,7 @@ pub mod InOrderLemmas
 pub mod InUse
 pub mod LineLists
 pub mod MeetLemmas
+pub mod MergedLines
 pub mod MoreLemmas
 pub mod PlaceLemmas
 pub mod StepLemmas

@@ -151,7 +151,7 @@ module _ {P D : Type 0} (pools : Ghosts P) (devices : Devices D) (cache : Cache)
           come = record {
             waits = parted-waits cache made.lines b.party x.0 x.2 n (acts_of_work g blocks [] (lines_of_caller n w.lines)) (noted_of_work (lines_of_caller n w.lines)) b.reads b.come.waits;
             keeps = b.come.keeps;
-            answers = answers-grown pools devices g b.come.waits.stands.valid blocks len image place b.party x.0 same.keeps (lines_of_caller n w.lines) b.come.answers;
+            answers = answers-grown pools devices g b.come.waits.stands.valid blocks len image place b.party x.0 same.keeps n (lines_of_caller n w.lines) b.come.answers;
           };
         }
 
@@ -179,6 +179,7 @@ module _ {P D : Type 0} (pools : Ghosts P) (devices : Devices D) (cache : Cache)
             ∙ ((λ i. front-own shard below i ++ feeds shard below i) ∙ sym (grows shard))));
         since = λ shard. starts_whole (seen_of g shard new.feeder);
         told = told_then;
+        settled = made.settled before.feeder.settled;
       }
 
   -- ---- a sync that stopped
@@ -203,7 +204,6 @@ module _ {P D : Type 0} (pools : Ghosts P) (devices : Devices D) (cache : Cache)
       parties = parted-length cache so.made.lines old.parties.items new.parties.items so.made.parted ∙ before.parties;
       each = behind-come work so.made;
       ended = before.ended;
-      settled = so.made.settled before.settled;
       feeder = behind-fed work so.made (λ shard. []) so.none os rs (λ shard. sym (append-nil (events_by_feeder g restored os rs w.feeds shard))) (acts_of_syncs g blocks stopped) (noted_of_syncs stopped) stopped-told;
       begun = λ shard below. starts-then (seen_of g shard new.feeder) (seen_of g shard old.feeder) (restores_in g restored shard) (grown work so.made shard) (before.begun shard below);
       cut = λ shard below. cuts-more g restored blocks shard w.lines w.feeds (seen_of g shard old.feeder) (seen_of g shard new.feeder) (grown work so.made shard) (before.cut shard below);
@@ -313,7 +313,6 @@ module _ {P D : Type 0} (pools : Ghosts P) (devices : Devices D) (cache : Cache)
       parties = parted-length cache so.made.lines old.parties.items new.parties.items so.made.parted ∙ before.parties;
       each = λ n below. subst (λ (ls : List Line). ComesAt cache len image place blocks n ls new) (sym (lines-same n)) (behind-come l.work so.made n below);
       ended = ends-append os (l.op ∷ []) rs (l.reply ∷ []) long before.ended one-ended;
-      settled = so.made.settled before.settled;
       feeder = behind-fed l.work so.made (λ shard. asked) so.feeds (os ++ l.op ∷ []) (rs ++ l.reply ∷ []) feeds-more (acts_of_syncs g blocks answered) (noted_of_syncs answered) answered-told;
       begun = λ shard below. starts-then (seen_of g shard new.feeder) (seen_of g shard old.feeder) (restores_in g restored shard) (grown l.work so.made shard) (before.begun shard below);
       cut = all-cut;

@@ -1,5 +1,5 @@
 -- A pool that tells what it told up to a place: calls one after another, and answers over what it told at first.
-use Rattle.std.proofs.Common.{◌≡◌, ◌≤◌, ℕ, List, [], ◌∷◌, Option, Some, None, refl, sym, ap, ◌∙◌, arith}
+use Rattle.std.proofs.Common.{◌≡◌, ◌≤◌, ℕ, List, [], ◌∷◌, ◌++◌, Option, Some, None, refl, sym, ap, ◌∙◌, arith}
 use Rattle.std.specs.Prelude.{take}
 use Rattle.std.specs.Option.{option_map}
 use Rattle.blk_ptr.specs.declared.ptr.Ptr.{Ptr}
@@ -8,6 +8,7 @@ use Rattle.arc_core.specs.declared.config.Config.{Config}
 use Rattle.arc_table.specs.declared.view.Line.{Line as Seen}
 use Rattle.trace_text.specs.declared.op.Op.{Op}
 use Rattle.trace_text.specs.declared.reply.Reply.{Reply}
+use Rattle.trace_run.specs.Deeds.{Noted}
 use Rattle.trace_run.specs.KeptReads.{KeptRead}
 use Rattle.trace_run.specs.ObjectLines.{OnObject, on_object}
 use Rattle.trace_run.specs.Objects.{Line}
@@ -55,12 +56,12 @@ module _ {P : Type 0} (pools : Ghosts P) where
 now-front : (len : ℕ) (image now : Option (List ℕ)) (place : ℕ) (blocks : List Ptr) → IsFirstPlace len blocks place → HasFront place image now → (kept : List KeptRead) (op : Op) (reply : Reply) → AnswersNow len now blocks kept op reply → AnswersNow len image blocks kept op reply
 now-front len image now place blocks first front kept op reply answer = ?
 
-module _ (g : Config) (len : ℕ) (image now : Option (List ℕ)) (place : ℕ) (blocks : List Ptr) (first : IsFirstPlace len blocks place) (front : HasFront place image now) (openings : List (List ℕ)) (seen : List (List Seen)) where
-  one-front : (o : Option OnObject) (l : Line) (kept : List KeptRead) → AnswersLine g len now place blocks openings seen kept o l → AnswersLine g len image place blocks openings seen kept o l
-  one-front None l kept answer = now-front len image now place blocks first front kept l.op l.reply answer
-  one-front (Some on) l kept answer = (answer.0, answer.1 ∙ front, answer.2)
+module _ (g : Config) (len : ℕ) (image now : Option (List ℕ)) (place : ℕ) (blocks : List Ptr) (first : IsFirstPlace len blocks place) (front : HasFront place image now) (openings : List (List ℕ)) (seen : List (List Seen)) (n : ℕ) where
+  one-front : (o : Option OnObject) (l : Line) (had : List Noted) (kept : List KeptRead) → AnswersLine g len now place blocks openings seen n had kept o l → AnswersLine g len image place blocks openings seen n had kept o l
+  one-front None l had kept answer = now-front len image now place blocks first front kept l.op l.reply answer
+  one-front (Some on) l had kept answer = (answer.0, answer.1 ∙ front, answer.2)
 
   -- lines that were answered over what is told now have their answers over what was told at first
-  pub answers-front : (kept : List KeptRead) (ls : List Line) → AnswersLines g len now place blocks openings seen kept ls → AnswersLines g len image place blocks openings seen kept ls
-  answers-front kept [] answers = tt
-  answers-front kept (l ∷ ls) answers = (one-front (on_object l.op) l kept answers.0, answers-front (kept_after blocks l.op l.reply kept) ls answers.1)
+  pub answers-front : (had : List Noted) (kept : List KeptRead) (ls : List Line) → AnswersLines g len now place blocks openings seen n had kept ls → AnswersLines g len image place blocks openings seen n had kept ls
+  answers-front had kept [] answers = tt
+  answers-front had kept (l ∷ ls) answers = (one-front (on_object l.op) l had kept answers.0, answers-front (had ++ l.work.noted) (kept_after blocks l.op l.reply kept) ls answers.1)

@@ -98,7 +98,6 @@ module _ {C : Type 0} (cache : Cache) (whole : List (Place (Known C))) (crew : C
           come = record { waits = record { number = h.number; alone = h.joined; stands = h.new.stands; told = h.new.told }; keeps = refl; answers = tt };
         };
     ended = λ k op at none. let inside = slice_get_within {A = Op} [] k op at in absurd (omega (arith, inside));
-    settled = λ i. ap (λ (l : Ledger). list_at i l.picked) feeder-new.new.begun;
     feeder = record {
       number = feeder-new.number;
       alone = feeder-new.joined;
@@ -107,6 +106,7 @@ module _ {C : Type 0} (cache : Cache) (whole : List (Place (Known C))) (crew : C
       fed = λ shard below. none-own shard;
       since = λ shard. starts_whole (seen_of cache.config shard crew.feeder);
       told = others-told cache.config [] [] crew.feeder feeder-new.new.told;
+      settled = λ i. ap (λ (l : Ledger). list_at i l.picked) feeder-new.new.begun;
     };
     begun = λ shard below. (seen_of cache.config shard crew.feeder, refl);
     cut = λ shard below k l at ends. absurd (none-cut k at);
@@ -175,7 +175,6 @@ module _ {C : Type 0} (cache : Cache) (restored : List Restored) (len : ℕ) (im
     parties = parted-length cache made.lines old.parties.items new.parties.items made.parted ∙ before.parties;
     each = restored-come;
     ended = before.ended;
-    settled = made.settled before.feeder.number before.settled;
     feeder = record {
       number = made.number ∙ before.feeder.number;
       alone = made.alone;
@@ -186,6 +185,7 @@ module _ {C : Type 0} (cache : Cache) (restored : List Restored) (len : ℕ) (im
           ∙ (own-restores cache.config new.feeder.number (sym (made.number ∙ before.feeder.number)) restored shard ∙ sym (append-nil (restores_in cache.config restored shard)));
       since = λ shard. starts_whole (seen_of cache.config shard new.feeder);
       told = others-still cache.config [] [] old.feeder new.feeder made.made before.feeder.told;
+      settled = made.settled before.feeder.number before.feeder.settled;
     };
     begun = λ shard below. subst (λ (es : List Event). StartsWith es (restores_in cache.config restored shard)) (sym (restores-seen shard)) (starts_whole (restores_in cache.config restored shard));
     cut = λ shard below k l at ends. absurd (none-cut k at);

@@ -1,5 +1,5 @@
 -- Lines with their work, one behind the other: what they come to together, and what the lines of a group ask of the feeder.
-use Rattle.std.proofs.Common.{◌≡◌, ◌⊎◌, ℕ, zero, suc, ◌+◌, ◌<◌, ◌≤◌, ◌==◌, Bool, true, false, cond, List, [], ◌∷◌, ◌++◌, Option, Some, None, length, map, refl, sym, ap, ◌∙◌, subst, inl, inr, arith, append_assoc, length-append}
+use Rattle.std.proofs.Common.{◌≡◌, ◌⊎◌, ℕ, zero, suc, ◌+◌, ◌<◌, ◌≤◌, ◌==◌, Bool, true, false, cond, List, [], ◌∷◌, ◌++◌, Option, Some, None, length, map, refl, sym, ap, ◌∙◌, subst, inl, inr, arith, append-nil, append_assoc, length-append}
 use Rattle.std.specs.Prelude.{count_by, filter, slice_get}
 use Rattle.std.specs.List.{AllByRecursion}
 use Rattle.std.specs.Option.{option_map_or}
@@ -93,17 +93,21 @@ module _ (g : Config) (blocks : List Ptr) where
       ap (λ (rest : List Act). acts_with g blocks kept l ++ rest) (acts-lines next ls ms)
       ∙ sym (append_assoc (acts_with g blocks kept l) (acts_of_work g blocks next ls) (acts_of_work g blocks (kept_after_lines blocks next ls) ms))
 
-  module _ (len : ℕ) (image : Option (List ℕ)) (place : ℕ) (openings : List (List ℕ)) where
-    pub answers-lines : (seen : List (List Seen)) (kept : List KeptRead) (ls ms : List Line) → AnswersLines g len image place blocks openings seen kept ls → AnswersLines g len image place blocks openings seen (kept_after_lines blocks kept ls) ms
-        → AnswersLines g len image place blocks openings seen kept (ls ++ ms)
-    answers-lines seen kept [] ms first rest = rest
-    answers-lines seen kept (l ∷ ls) ms first rest = (first.0, answers-lines seen (kept_after blocks l.op l.reply kept) ls ms first.1 rest)
+  module _ (len : ℕ) (image : Option (List ℕ)) (place : ℕ) (openings : List (List ℕ)) (n : ℕ) where
+    pub answers-lines : (seen : List (List Seen)) (had : List Noted) (kept : List KeptRead) (ls ms : List Line) → AnswersLines g len image place blocks openings seen n had kept ls
+        → AnswersLines g len image place blocks openings seen n (had ++ noted_of_work ls) (kept_after_lines blocks kept ls) ms → AnswersLines g len image place blocks openings seen n had kept (ls ++ ms)
+    answers-lines seen had kept [] ms first rest = subst (λ (ns : List Noted). AnswersLines g len image place blocks openings seen n ns kept ms) (append-nil had) rest
+    answers-lines seen had kept (l ∷ ls) ms first rest = (
+      first.0,
+      answers-lines seen (had ++ l.work.noted) (kept_after blocks l.op l.reply kept) ls ms first.1
+          (subst (λ (ns : List Noted). AnswersLines g len image place blocks openings seen n ns (kept_after_lines blocks (kept_after blocks l.op l.reply kept) ls) ms) (sym (append_assoc had l.work.noted (noted_of_work ls))) rest),
+    )
 
     -- where each stands while more is seen
-    pub lines-still : (s t : List (List Seen)) → ((l : Line) (kept : List KeptRead) → AnswersLine g len image place blocks openings s kept (on_object l.op) l → AnswersLine g len image place blocks openings t kept (on_object l.op) l)
-        → (kept : List KeptRead) (ls : List Line) → AnswersLines g len image place blocks openings s kept ls → AnswersLines g len image place blocks openings t kept ls
-    lines-still s t one kept [] answers = tt
-    lines-still s t one kept (l ∷ ls) answers = (one l kept answers.0, lines-still s t one (kept_after blocks l.op l.reply kept) ls answers.1)
+    pub lines-still : (s t : List (List Seen)) → ((l : Line) (had : List Noted) (kept : List KeptRead) → AnswersLine g len image place blocks openings s n had kept (on_object l.op) l → AnswersLine g len image place blocks openings t n had kept (on_object l.op) l)
+        → (had : List Noted) (kept : List KeptRead) (ls : List Line) → AnswersLines g len image place blocks openings s n had kept ls → AnswersLines g len image place blocks openings t n had kept ls
+    lines-still s t one had kept [] answers = tt
+    lines-still s t one had kept (l ∷ ls) answers = (one l had kept answers.0, lines-still s t one (had ++ l.work.noted) (kept_after blocks l.op l.reply kept) ls answers.1)
 
 -- ---- the lines of a group
 

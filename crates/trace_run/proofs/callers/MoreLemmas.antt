@@ -44,6 +44,7 @@ use Rattle.trace_run.specs.callers.InOrder.{AreInGroup}
 use Rattle.trace_run.specs.callers.Together.{AreCut, IsCut, IsFirstPlace, ends_group}
 use Rattle.trace_run.specs.callers.WorkLines.{AnswersLines, AreLinesOf, HasFront, acts_of_work, noted_of_work}
 use Rattle.trace_run.proofs.WorkLemmas.{still-answers}
+use Rattle.trace_run.proofs.callers.BesideLemmas.{fed-idle}
 use Rattle.trace_run.proofs.callers.FrontLemmas.{answers-front}
 use Rattle.trace_run.proofs.callers.GroupLists.{Cuts, cut-before, cuts-more, get-left, get-right}
 use Rattle.trace_run.proofs.callers.LineLists.{AreInside, acts-lines, all-inside, answers-lines, are-append, kept-lines, lines-long, lines-still, noted-append}
@@ -84,18 +85,15 @@ inside-at (m ∷ ms) inside (suc k) l at = inside-at ms inside.1 k l at
 
 -- a caller's lines have their answers still, where its party has seen more
 module _ {P D : Type 0} (pools : Ghosts P) (devices : Devices D) (g : Config) (valid : IsConfig g) (blocks : List Ptr) (len : ℕ) (image : Option (List ℕ)) (place : ℕ) where
-  pub answers-grown : (p q : PartyPlace) → KeepsCells g p q → (ls : List Line) → AnswersLines g len image place blocks p.own.about.openings p.own.seen [] ls → AnswersLines g len image place blocks q.own.about.openings q.own.seen [] ls
-  answers-grown p q keeps ls answers =
-      subst (λ (os : List (List ℕ)). AnswersLines g len image place blocks os q.own.seen [] ls) (sym (ap (λ (a : About). a.openings) keeps.about))
-      (lines-still g blocks len image place p.own.about.openings p.own.seen q.own.seen (λ l kept answer. still-answers pools devices g blocks valid len image place (on_object l.op) l kept p p q keeps answer) [] ls answers)
+  pub answers-grown : (p q : PartyPlace) → KeepsCells g p q → (n : ℕ) (ls : List Line) → AnswersLines g len image place blocks p.own.about.openings p.own.seen n [] [] ls → AnswersLines g len image place blocks q.own.about.openings q.own.seen n [] [] ls
+  answers-grown p q keeps n ls answers =
+      subst (λ (os : List (List ℕ)). AnswersLines g len image place blocks os q.own.seen n [] [] ls) (sym (ap (λ (a : About). a.openings) keeps.about))
+      (lines-still g blocks len image place p.own.about.openings n p.own.seen q.own.seen (λ l had kept answer. still-answers pools devices g blocks valid place len image n had (on_object l.op) l kept p p q keeps answer) [] [] ls answers)
 
 -- the feeder knows what it knew
 pub fed-about : {D : Type 0} (m : Meanings OnHeap) (devices : Devices D) (cache : Cache) (blocks : List Ptr) (qs : List Op) (callers : ℕ) (own : ℕ → List Line) (ss : List Reply) (a b : Device D) (p q : PartyPlace) → WorksBeside m devices cache blocks qs callers own (replies_where is_feed qs ss) a b p q
     → IsIdleFeeder cache p → IsIdleFeeder cache q → q.own.about ≡ p.own.about
 fed-about m devices cache blocks qs callers own ss a b p q works idle again = (fed-beside m devices cache blocks qs callers own ss a b p q works idle again).same.keeps.about
-
-pub fed-before : {len : ℕ} {image : Option (List ℕ)} {place : ℕ} {blocks : List Ptr} {os : List Op} {rs : List Reply} {w : RunWork} (cache : Cache) (restored : List Restored) (crew : Crew OnHeap) → HaveCome cache restored len image place blocks os rs w crew → IsIdleFeeder cache crew.feeder
-fed-before cache restored crew come = record { number = come.feeder.number; alone = come.feeder.alone; stands = come.feeder.stands; settled = come.settled }
 
 -- ---- the lines of a group
 
@@ -125,7 +123,7 @@ module _ {P D : Type 0} (m : Meanings OnHeap) (cache : Cache) (restored : List R
 
   -- the feeder's feeds
   idle : IsIdleFeeder cache old.feeder
-  idle = fed-before cache restored old before
+  idle = fed-idle cache old.feeder.own.about.openings _ _ _ _ old.feeder before.feeder
 
   fed : HasFedMore cache did.beside.feeds old.feeder new.feeder
   fed = fed-beside m devices cache blocks qs (length old.parties.items) (λ n. lines_of_caller n did.lines) ss a b old.feeder new.feeder did.beside idle again
@@ -169,11 +167,11 @@ module _ {P D : Type 0} (m : Meanings OnHeap) (cache : Cache) (restored : List R
                 ))
                 (worked.waits (acts_of_work g blocks [] l0) (noted_of_work l0) c.come.waits);
             keeps = worked.keeps ∙ (ap (λ (ks : List KeptRead). kept_after_lines blocks ks l1) left ∙ sym (kept-lines g blocks [] l0 l1));
-            answers = answers-lines g blocks len image place h.to.own.about.openings h.to.own.seen [] l0 l1
-                (answers-grown pools devices g c.come.waits.stands.valid blocks len image place c.party h.to worked.cells l0 c.come.answers)
-                (answers-front g len image (pools.told from) place blocks first front h.to.own.about.openings h.to.own.seen (kept_after_lines blocks [] l0) l1
-                (subst (λ (x : ℕ × Option (List ℕ) × List KeptRead × List (List ℕ)). AnswersLines g x.0 x.1 place blocks x.3 h.to.own.seen x.2 l1)
-                (λ i. ((fork.size ∙ size) i, fork.told i, left i, sym (ap (λ (x : About). x.openings) worked.cells.about) i)) (worked.answers place)));
+            answers = answers-lines g blocks len image place h.to.own.about.openings n h.to.own.seen [] [] l0 l1
+                (answers-grown pools devices g c.come.waits.stands.valid blocks len image place c.party h.to worked.cells n l0 c.come.answers)
+                (answers-front g len image (pools.told from) place blocks first front h.to.own.about.openings h.to.own.seen n (noted_of_work l0) (kept_after_lines blocks [] l0) l1
+                (subst (λ (x : ℕ × Option (List ℕ) × List KeptRead × List (List ℕ)). AnswersLines g x.0 x.1 place blocks x.3 h.to.own.seen n (noted_of_work l0) x.2 l1)
+                (λ i. ((fork.size ∙ size) i, fork.told i, left i, sym (ap (λ (x : About). x.openings) worked.cells.about) i)) (worked.answers (acts_of_work g blocks [] l0) (noted_of_work l0) c.come.waits.told place)));
           };
         }
 
@@ -239,7 +237,6 @@ module _ {P D : Type 0} (m : Meanings OnHeap) (cache : Cache) (restored : List R
     each = come-at;
     ended = ends-append os qs rs ss long.0 before.ended
         (ends-beside m devices cache blocks qs (length old.parties.items) (λ n. lines_of_caller n did.lines) ss a b old.feeder new.feeder did.beside (subst (λ (k : ℕ). AreInGroup k qs) (sym callers-are) own) same-length.0);
-    settled = again.settled;
     feeder = feeder-more;
     begun = λ shard below. starts-then (seen_of g shard new.feeder) (seen_of g shard old.feeder) (restores_in g restored shard) (fed.starts shard) (before.begun shard below);
     cut = cut-lines;

@@ -49,6 +49,7 @@ use Rattle.trace_run.specs.callers.InOrder.{AreInGroup}
 use Rattle.trace_run.specs.callers.Together.{BeginsGroup, EndsGroup, GroupLines, IsFirstPlace, OfCells, BetweenGroups, WorkAtOnce, WorkInGroups, between_groups, ends_group, groups_done, groups_of, over_callers}
 use Rattle.trace_run.specs.callers.WorkLines.{HasFront, calls_of_lines}
 use Rattle.trace_run.proofs.callers.AbsorbLemmas.{over-few}
+use Rattle.trace_run.proofs.callers.BesideLemmas.{fed-idle}
 use Rattle.trace_run.proofs.callers.CallerActLemmas.{line-kind}
 use Rattle.trace_run.proofs.callers.EndLineLemmas.{Halted, IsUnused, Turned, end-halted, end-turned}
 use Rattle.trace_run.proofs.callers.EndedLemmas.{have-come-ended, have-come-stopped, with_end, with_stop}
@@ -58,7 +59,7 @@ use Rattle.trace_run.proofs.callers.GroupLists.{EndsWhole, begun-append, group-b
 use Rattle.trace_run.proofs.callers.GroupRunLemmas.{all-callers, all-declared, may-resize}
 use Rattle.trace_run.proofs.callers.GroupsLemmas.{have-restored, have-started}
 use Rattle.trace_run.proofs.callers.LineLists.{AreInside, all-inside, calls-append, calls-few, ends-nobody, lines-failed, lines-long, nobody-callers}
-use Rattle.trace_run.proofs.callers.MoreLemmas.{fed-about, fed-before, have-come-more, with_lines}
+use Rattle.trace_run.proofs.callers.MoreLemmas.{fed-about, have-come-more, with_lines}
 use Rattle.trace_run.proofs.feeds.FedLemmas.{ops-are, used-more, used-once}
 use Rattle.trace_run.proofs.RunLemmas.{calls-faults, calls-reads}
 
@@ -303,7 +304,7 @@ module _ {P D : Type 0} (m : Meanings OnHeap) (cache : Cache) (restored : List R
   knows-new = same ∙ reached.knows
     where
       same : new.feeder.own.about.openings ≡ old.feeder.own.about.openings
-      same = ap (λ (x : About). x.openings) (fed-about m devices cache trace.blocks qs (length old.parties.items) (λ n. lines_of_caller n did.lines) ss a b old.feeder new.feeder did.beside (fed-before cache restored old reached.come) again)
+      same = ap (λ (x : About). x.openings) (fed-about m devices cache trace.blocks qs (length old.parties.items) (λ n. lines_of_caller n did.lines) ss a b old.feeder new.feeder did.beside (fed-idle cache old.feeder.own.about.openings _ _ _ _ old.feeder reached.come.feeder) again)
 
   -- ---- the trace ends with these lines
 
