@@ -11,17 +11,17 @@ ghost use Rattle.blk_ptr.specs.Size.{sector};
 ghost use Rattle.trace_text.specs.Grammar.{IsFormed, IsOperation};
 ghost use Rattle.trace_text.specs.declared.op.Op.{Op};
 ghost use Rattle.trace_text.specs.declared.reply.Reply.{Reply};
-ghost use Rattle.trace_run.specs.Devices.{WasLent, lent_in};
+ghost use Rattle.trace_run.specs.Devices.{lent_in};
 ghost use Rattle.trace_run.specs.callers.Callers.{AreAtStart};
 ghost use Rattle.trace_run.specs.Feeds.{IsIdleFeeder, MayBeFed};
-ghost use Rattle.trace_run.specs.callers.Beside.{TriesBeside};
+ghost use Rattle.trace_run.specs.RunWork.{RunWork};
+ghost use Rattle.trace_run.specs.callers.Beside.{TriesBeside, WasInUse};
 ghost use Rattle.trace_run.specs.callers.InOrder.{AreInGroup};
-ghost use Rattle.trace_run.specs.callers.Group.{IsFork, LeavesPool};
+ghost use Rattle.trace_run.specs.callers.Group.{IsFork, LeavesFront, LeavesPool};
 ghost use Rattle.trace_run.specs.callers.Groups.{AreBetween, DidEndLine, DidLinesAtOnce, AreDone, KeepNothing, MaySync, StepsOn, goes_on};
-ghost use Rattle.trace_run.specs.Making.{AreNoEntries};
 ghost use Rattle.trace_run.specs.Meeting.{MayGoOn};
 ghost use Rattle.trace_run.specs.Tally.{AreDeclared};
-ghost use Rattle.trace_run.specs.callers.Together.{BeginsGroup, IsFirstPlace, BetweenGroups, ends_group, between_groups};
+ghost use Rattle.trace_run.specs.callers.Together.{IsFirstPlace, BetweenGroups, ends_group, between_groups};
 
 use crate::device::Device;
 use crate::group::{Worked, forks, run_group};
@@ -101,11 +101,10 @@ fn ends_group(op: &Op) -> bool
     ensures { result ≡ ends_group op.now }
 {
     match *op {
-        Op::Read { .. } | Op::Hold { .. } | Op::Drop { .. } => false,
+        Op::Read { .. } | Op::Hold { .. } | Op::Drop { .. } | Op::Feed => false,
         Op::Get { .. } | Op::Put { .. } | Op::Patch { .. } | Op::Pin { .. } | Op::Unpin { .. } => {
             false
         }
-        Op::Feed => false,
         Op::Txg { .. } | Op::Cap { .. } => true,
     }
 }
@@ -233,11 +232,11 @@ pub(crate) fn end_line<P: Pool>(
 ) -> Result<(Crew<HeapCell>, Syncs, Result<Reply, Ending>), NoMemory>
     requires may { MayGoOn arcs.now [] crew.feeder crew.parties.items }
     requires feeder { crew.feeder.number ≡ arcs.now.config.callers }
-    requires unwritten { AllByRecursion (λ o. AreNoEntries arcs.now.config o.own.mine) (crew.feeder ∷ crew.parties.items) }
     requires possible { IsOperation arcs.now.config.callers arcs.now.config.shards op.now }
+    requires ends { ends_group op.now ≡ true }
     requires sync { (lines : ℕ) × (lines < 2 ^ 32) × MaySync P.Pool lines (between_groups pool.old syncs.group syncs.next) }
     ensures did { IfOk result (λ done. DidEndLine arcs.now P.Pool op.now (between_groups pool.old syncs.group syncs.next) (between_groups pool.new done.1.group done.1.next) crew done.0 done.2) }
-    ensures pool { LeavesPool P.Pool pool.old pool.new }
+    ensures pool { LeavesFront P.Pool syncs.next pool.old pool.new }
 {
     let Crew {
         feeder,
@@ -325,14 +324,16 @@ fn next_group<R: Threads + Wait + Sync, P: Pool, D: CacheDev, G: Gate>(
     requires config { arcs.now.config ≡ trace.now.config }
     requires rows { arcs.now.row.parties ≡ parties_of arcs.now.config }
     requires device { MayBeFed D.CacheDev arcs.now.config device.old }
-    requires between { (start : BetweenGroups P) × (restored : List Restored) × AreBetween arcs.now restored P.Pool trace.now start (between_groups pool.old syncs.group syncs.next) replies.old.items crew }
+    requires between { (start : BetweenGroups P) × (restored : List Restored) × (was : Option D) × (work : RunWork)
+        × AreBetween arcs.now restored P.Pool D.CacheDev trace.now start (between_groups pool.old syncs.group syncs.next) was (lent_in device.old) replies.old.items work crew }
     requires more { vec_len replies.old < length trace.now.ops }
-    ensures steps { (start : BetweenGroups P) (restored : List Restored) → AreBetween arcs.now restored P.Pool trace.now start (between_groups pool.old syncs.group syncs.next) replies.old.items crew
-        → IfOk result (λ done. StepsOn arcs.now restored P.Pool trace.now start (between_groups pool.old syncs.group syncs.next) (between_groups pool.new done.1.group done.1.next) replies.old.items replies.new.items done.2 crew done.0) }
-    ensures read { (start : Option D) → HaveReadSoFar D.CacheDev trace.now replies.old.items start (lent_in device.old)
-        → IfOk result (λ done. HaveReadSoFar D.CacheDev trace.now replies.new.items start (lent_in device.new)) }
-    ensures pool { LeavesPool P.Pool pool.old pool.new }
-    ensures device { WasLent D.CacheDev device.old device.new }
+    ensures did { (start : BetweenGroups P) (restored : List Restored) (was : Option D) (work : RunWork)
+        → AreBetween arcs.now restored P.Pool D.CacheDev trace.now start (between_groups pool.old syncs.group syncs.next) was (lent_in device.old) replies.old.items work crew
+        → IfOk result (λ done. StepsOn arcs.now restored P.Pool D.CacheDev trace.now start (between_groups pool.new done.1.group done.1.next) was (lent_in device.new) replies.old.items replies.new.items done.2 done.0) }
+    ensures later { IfOk result (λ done. syncs.next ≤ done.1.next) }
+    ensures pool { LeavesFront P.Pool syncs.next pool.old pool.new }
+    ensures used { WasInUse D.CacheDev device.old device.new }
+    ensures device { MayBeFed D.CacheDev arcs.now.config device.new }
 {
     let blocks = trace.blocks.as_slice();
     let ops = trace.ops.as_slice();
@@ -396,12 +397,13 @@ pub(crate) fn all_groups<R: Threads + Wait + Sync, P: Pool, D: CacheDev, G: Gate
     requires config { arcs.now.config ≡ trace.now.config }
     requires rows { arcs.now.row.parties ≡ parties_of arcs.now.config }
     requires device { MayBeFed D.CacheDev arcs.now.config device.old }
-    requires between { (restored : List Restored) × AreBetween arcs.now restored P.Pool trace.now (between_groups pool.old syncs.group syncs.next) (between_groups pool.old syncs.group syncs.next) [] crew }
-    ensures stopped { (restored : List Restored) → AreBetween arcs.now restored P.Pool trace.now (between_groups pool.old syncs.group syncs.next) (between_groups pool.old syncs.group syncs.next) [] crew
-        → IfOk result (λ came. AreDone arcs.now restored P.Pool trace.now (between_groups pool.old syncs.group syncs.next) pool.new came.ending came.replies.items came.crew) }
-    ensures read { IfOk result (λ came. HaveReadSoFar D.CacheDev trace.now came.replies.items (lent_in device.old) (lent_in device.new)) }
-    ensures pool { LeavesPool P.Pool pool.old pool.new }
-    ensures device { WasLent D.CacheDev device.old device.new }
+    requires between { (restored : List Restored) × (work : RunWork)
+        × AreBetween arcs.now restored P.Pool D.CacheDev trace.now (between_groups pool.old syncs.group syncs.next) (between_groups pool.old syncs.group syncs.next) (lent_in device.old) (lent_in device.old) [] work crew }
+    ensures done { (restored : List Restored) (work : RunWork)
+        → AreBetween arcs.now restored P.Pool D.CacheDev trace.now (between_groups pool.old syncs.group syncs.next) (between_groups pool.old syncs.group syncs.next) (lent_in device.old) (lent_in device.old) [] work crew
+        → IfOk result (λ came. (all : RunWork) × AreDone arcs.now restored P.Pool D.CacheDev trace.now (between_groups pool.old syncs.group syncs.next) pool.new (lent_in device.old) (lent_in device.new) came.ending came.replies.items all came.crew) }
+    ensures pool { LeavesFront P.Pool syncs.next pool.old pool.new }
+    ensures used { WasInUse D.CacheDev device.old device.new }
 {
     let mut crew = crew;
     let mut syncs = syncs;

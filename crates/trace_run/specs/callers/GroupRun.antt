@@ -1,6 +1,5 @@
 -- The run of a trace with several callers over the shared cache.
 use Rattle.std.specs.Prelude.{◌≡◌, ◌<◌, ◌^◌, ◌+◌, ℕ, List, [], Option, length, sum_by}
-use Rattle.std.specs.List.{AllByRecursion}
 use mathlib.Core.Option.{some}
 use lib.ListN.{get_elem?}
 use Rattle.arc_core.specs.declared.event.Event.{Event}
@@ -24,14 +23,14 @@ use Rattle.trace_run.specs.one_caller.Alone.{ends_in, histories_of}
 use Rattle.trace_run.specs.Answers.{AnswersAll}
 use Rattle.trace_run.specs.Explaining.{Explain}
 use Rattle.trace_run.specs.CellEnds.{AreCellsOf, EndedCrew}
-use Rattle.trace_run.specs.ObjectAnswers.{IsAnsweredByCell}
+use Rattle.trace_run.specs.ObjectAnswers.{AreAnsweredByCells}
 use Rattle.trace_run.specs.RunWork.{IsRunWork, RunWork, noted_by}
 use Rattle.trace_run.specs.callers.DeviceForks.{UsedInGroups}
 use Rattle.trace_run.specs.Deeds.{Noted}
 use Rattle.trace_run.specs.KeptBlocks.{Stands}
 use Rattle.trace_run.specs.Meeting.{AreWaiting, HaveGivenBack, IsFed}
 use Rattle.trace_run.specs.Restores.{found_keys}
-use Rattle.trace_run.specs.callers.Together.{RunsTogether, StopsSo, answered_ops, faults_told, groups_of, report_of_closed}
+use Rattle.trace_run.specs.callers.Together.{RunsTogether, StopsSo, answered_ops, faults_told, groups_done, report_of_closed}
 
 -- all parties of a cache, by their numbers, none of which keeps anything
 pub record HaveStopped {C : Type 0} (cache : Cache) (ps : List (Place (Known C))) : Type 0 where
@@ -52,12 +51,12 @@ pub record HaveClosed {C : Type 0} (m : Meanings C) (cache : Cache) (crew : Crew
 pub record RanTogether {P D : Type 0} (pools : Ghosts P) (devices : Devices D) (before after : P) (was is : Option D) (place : ℕ) (trace : Trace) (ending : Ending) (restored : List Restored) (replies : List Reply) (work : RunWork) (closed : Ended OnHeap) : Type 0 where
   pub did : IsRunWork trace.config (answered_ops trace ending replies) replies work
   pub answers : AnswersAll (pools.size before) (pools.told before) trace.blocks (answered_ops trace ending replies) replies
-  pub objects : AllByRecursion (IsAnsweredByCell trace.config (pools.size before) (pools.told before) place closed.cells) work.lines
+  pub objects : AreAnsweredByCells trace.config (pools.size before) (pools.told before) place closed.cells work.lines
   pub config : closed.config ≡ trace.config
   pub explained : Explain trace restored work replies (ends_in closed) (histories_of closed)
   pub cells : AreCellsOf trace (noted_by trace.config work) closed
   pub reads : pools.reads before < 2 ^ 63 → pools.reads after ≡ pools.reads before + sum_by pool_reads (histories_of closed)
   pub faults : pools.faults before < 2 ^ 63 → pools.faults after ≡ pools.faults before + faults_told ending replies
   pub together : (rebuilt : Option Rebuilt) → found_keys rebuilt ≡ restored → RunsTogether pools before after place trace ending work closed.cells (report_of_closed ending rebuilt replies closed)
-  pub used : UsedInGroups devices trace.blocks trace.config.callers (groups_of work.lines) work.feeds was is
+  pub used : UsedInGroups devices trace.blocks trace.config.callers (groups_done ending work.lines) work.feeds was is
   pub stopped : StopsSo pools before after trace replies ending
