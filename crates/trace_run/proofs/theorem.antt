@@ -13,6 +13,7 @@ pub mod PlacedLemmas
 pub mod RanLemmas
 pub mod ReportLemmas
 pub mod RestLemmas
+pub mod RunEnds
 pub mod SourceLemmas
 pub mod ToldLemmas
 pub mod WordLemmas
