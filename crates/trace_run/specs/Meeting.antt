@@ -230,7 +230,8 @@ module _ {C : Type 0} where
     pub others : (shard : ℕ)
         → AllByRecursion (λ o. own_moments o.number (moments (opening_of cache.config) (front shard)) ≡ own_moments o.number (moments (opening_of cache.config) (seen_of cache.config shard o))) olds
     pub since : (shard : ℕ) → StartsWith (front shard) (seen_of cache.config shard p)
-    pub only : MadeItsOwn cache.config p → MadeItsOwn cache.config q
+    -- with other numbers than its own it made nothing more, and nothing of a cell
+    pub made : SameMade cache.config p q
     pub entries : AreNoEntries cache.config p.own.mine → AreNoEntries cache.config q.own.mine
     -- the feeder has settled all that it picked, where it had before
     pub settled : p.number ≡ cache.config.callers → HasSettled p → HasSettled q

@@ -30,7 +30,7 @@ use Rattle.trace_run.specs.Deeds.{Noted}
 use Rattle.trace_run.specs.KeptBlocks.{Stands}
 use Rattle.trace_run.specs.Meeting.{AreWaiting, HaveGivenBack, IsFed}
 use Rattle.trace_run.specs.Restores.{found_keys}
-use Rattle.trace_run.specs.callers.Together.{RunsTogether, StopsSo, answered_ops, faults_told, groups_of, report_of_closed}
+use Rattle.trace_run.specs.callers.Together.{RunsTogether, StopsSo, answered_ops, faults_told, groups_done, report_of_closed}
 
 -- all parties of a cache, by their numbers, none of which keeps anything
 pub record HaveStopped {C : Type 0} (cache : Cache) (ps : List (Place (Known C))) : Type 0 where
@@ -58,5 +58,5 @@ pub record RanTogether {P D : Type 0} (pools : Ghosts P) (devices : Devices D) (
   pub reads : pools.reads before < 2 ^ 63 → pools.reads after ≡ pools.reads before + sum_by pool_reads (histories_of closed)
   pub faults : pools.faults before < 2 ^ 63 → pools.faults after ≡ pools.faults before + faults_told ending replies
   pub together : (rebuilt : Option Rebuilt) → found_keys rebuilt ≡ restored → RunsTogether pools before after place trace ending work closed.cells (report_of_closed ending rebuilt replies closed)
-  pub used : UsedInGroups devices trace.blocks trace.config.callers (groups_of work.lines) work.feeds was is
+  pub used : UsedInGroups devices trace.blocks trace.config.callers (groups_done ending work.lines) work.feeds was is
   pub stopped : StopsSo pools before after trace replies ending

@@ -152,6 +152,18 @@ abbrev pub groups_of : List Line → List GroupLines
 groups_of [] = []
 groups_of (l ∷ ls) = if ends_group l.op then (record { lines = []; end = Some l } ∷ groups_of ls) else with_first l (groups_of ls)
 
+-- The same, and the last is one that no line ended, though it may have no line.
+abbrev pub groups_begun : List Line → List GroupLines
+groups_begun [] = record { lines = []; end = None } ∷ []
+groups_begun (l ∷ ls) = if ends_group l.op then (record { lines = []; end = Some l } ∷ groups_begun ls) else with_first l (groups_begun ls)
+
+-- The groups that were done where the lines ended so. Where a sync stopped, the lines of its group were done, though there may be none; the line of the sync is not answered.
+abbrev pub groups_done : Ending → List Line → List GroupLines
+groups_done Whole ls = groups_of ls
+groups_done Fork ls = groups_of ls
+groups_done Sync ls = groups_begun ls
+groups_done (Full need left) ls = groups_begun ls
+
 -- Callers did their lines of a group at once, each on a fork of the pool as it was then. The pool's counts rose by what the forks counted; a sum past the
 -- last value of a count is that value.
 pub record WorkAtOnce {P : Type 0} (pool : Ghosts P) (callers : ℕ) (group : GroupLines) (before after : P) : Type 0 where
@@ -268,7 +280,7 @@ pub record StoodThen (trace : Trace) (closed : List OnHeap) (tick : ℕ) (work :
 -- pool has only counted that. Where a sync stops, the lines of its group are done, and none behind it is begun.
 pub record RunsTogether {P : Type 0} (pool : Ghosts P) (before after : P) (place : ℕ) (trace : Trace) (ending : Ending) (work : RunWork) (closed : List OnHeap) (report : Report) : Type 0 where
   pub reached : BetweenGroups P
-  pub groups : WorkInGroups pool trace.config (StoodThen trace closed) (groups_of work.lines) (between_groups before 1 place) reached
+  pub groups : WorkInGroups pool trace.config (StoodThen trace closed) (groups_done ending work.lines) (between_groups before 1 place) reached
   pub ended : EndsRun pool trace.config (StoodThen trace closed) trace report.replies work.stopped ending reached after
   -- each caller's reads of its forks are those that its events stand for
   pub counted : (n : ℕ) → n < trace.config.callers → length (calls_of_lines (lines_of_caller n work.lines)) ≡ reads_of_caller n report.histories

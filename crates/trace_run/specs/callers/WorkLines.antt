@@ -1,11 +1,12 @@
 -- A caller's lines, those on objects among them, each with what it did beside its reply; and what such lines come to, one after another.
-use Rattle.std.specs.Prelude.{◌≡◌, ◌≢◌, ℕ, List, [], ◌∷◌, ◌++◌, Option, Some, None, take}
+use Rattle.std.specs.Prelude.{◌≡◌, ◌≢◌, ℕ, List, [], ◌∷◌, ◌++◌, Option, Some, None, IfSome, take}
 use Rattle.std.specs.Option.{option_map}
 use Rattle.std.specs.List.{AllByRecursion}
 use Rattle.blk_ptr.specs.declared.ptr.Ptr.{Ptr}
 use Rattle.vdev_io.specs.declared.device.CacheDev.{Ghosts as DeviceGhosts}
 use Rattle.vdev_io.specs.declared.pool.Pool.{Ghosts as PoolGhosts}
 use Rattle.vdev_io.specs.Calls.{Call, KeepsPool, MakesCalls}
+use Rattle.arc_core.specs.Config.{IsConfig}
 use Rattle.arc_core.specs.declared.config.Config.{Config}
 use Rattle.arc_core.specs.declared.served.Served.TheVariants as served
 use Rattle.arc_core.specs.Operations.{Act}
@@ -107,10 +108,12 @@ size_brought Nothing = 0
 size_brought (Loaded ptr from) = ptr.key.size
 size_brought (Refused ptr) = ptr.key.size
 
--- The line came to this, by what the contract of its call says; its work fits it; its acts and its entries of cells are told; and the pool and the cache device were
+-- The line came to this, by what the contract of its call says; it has its answer, by how its cell was found; its work fits it; its acts and its entries of cells are told; and the pool and the cache device were
 -- read for what was brought, and for nothing else.
 pub record DidWorkLine {P D : Type 0} (pools : PoolGhosts P) (devices : DeviceGhosts D) (g : Config) (blocks : List Ptr) (kept : List KeptRead) (before now : Outside P D) (p q : PartyPlace) (l : Line) : Type 0 where
   pub came : DidObjectLine pools devices g before now p q l.op l.reply
+  pub answers : IsConfig g → (did : List Act) (had : List Noted) → HasToldAll g did had p
+      → IfSome (on_object l.op) (λ on. AnswersFrom g (pools.size before.pool) (pools.told before.pool) p.own.about.openings q.own.seen p.number had on.at l)
   pub fits : IsWorkOf g p.number l
   pub number : q.number ≡ p.number
   pub told : (did : List Act) (had : List Noted) → HasToldAll g did had p → HasToldAll g (did ++ acts_with g blocks kept l) (had ++ l.work.noted) q
