@@ -1,3 +1,4 @@
+pub mod AnsweredCells
 pub mod CellActs
 pub mod CellRun
 pub mod CloseLemmas

@@ -244,12 +244,14 @@ module _ {P D : Type 0} (cache : Cache) (pools : Ghosts P) (devices : Devices D)
       go Sync ends = omega (arith, ends.answer.outside.faults.more (omega (arith, room, reached-faults room, faults-few)), reached-faults room)
       go (Full need left) ends = ends.answer.outside.faults ∙ reached-faults room
 
-  pub group-together : AreAnsweredByCells cache.config (pools.size before) (pools.told before) place closed.cells work.lines → RanTogether pools devices before after was is place trace ending restored rs done-work closed
+  pub group-together : AreAnsweredByCells cache.config (pools.size before) (pools.told before) place closed.cells work.lines → RanTogether pools devices before after was is trace ending restored rs done-work closed
   group-together objects = record {
     did = subst (λ (x : Config × List Op). IsRunWork x.0 x.1 rs done-work) (λ i. (config i, all-are ending d.ended i))
         (did-work cache valid restored (pools.size before) (pools.told before) place trace.blocks os more rs work crew come closed h);
     answers = subst (λ (l : List Op). AnswersAll (pools.size before) (pools.told before) trace.blocks l rs) (all-are ending d.ended)
         (run-answers cache valid restored (pools.size before) (pools.told before) place trace.blocks os more rs work crew come closed h below-all);
+    place = place;
+    first = d.reached.first;
     objects = subst (λ (g : Config). AreAnsweredByCells g (pools.size before) (pools.told before) place closed.cells work.lines) config objects;
     config = h.ends.config ∙ config;
     explained = explained;
