@@ -12,7 +12,7 @@ use Rattle.trace_run.proofs.OpenLemmas.{last-knows}
 use Rattle.trace_run.proofs.callers.GroupRunLemmas.{come-wait, lines-acts, lines-noted, may-resize}
 use Rattle.trace_run.proofs.callers.GroupsLemmas.{crew-rows, have-started}
 use Rattle.trace_run.proofs.callers.StepLemmas.{between-begun, first-may}
-use Rattle.trace_run.proofs.theorem.TogetherRun.{group-together, objects-of}
+use Rattle.trace_run.proofs.theorem.TogetherRun.{group-together}
 use Rattle.trace_run.proofs.together.run_together.Goals as goal
 
 pub crew_of-requires : goal.crew_of-requires
@@ -102,6 +102,4 @@ returns-clause-ran g c =
     let config = c.in_ok-arcs.ensures.config in
     let valid : IsConfig c.in_ok-arcs.arcs.config = subst IsConfig (sym config) c.requires.formed.config in
     (_, group-together c.in_ok-arcs.arcs g.P.Pool g.D.CacheDev c.args.pool.now c.all_groups.new.pool c.first_place.result c.args.trace.now c.requires.formed config valid (lent_in c.args.device.now) (lent_in c.all_groups.new.device) _ c.args.restored.now _ done.0 _ done.1
-    c.in_ok-closed.closed c.in_ok-closed.ensures
-    (objects-of c.in_ok-arcs.arcs g.P.Pool g.D.CacheDev c.args.pool.now c.all_groups.new.pool c.first_place.result c.args.trace.now c.requires.formed config valid (lent_in c.args.device.now) (lent_in c.all_groups.new.device) _ c.args.restored.now _ done.0 _ done.1
-    c.in_ok-closed.closed c.in_ok-closed.ensures))
+    c.in_ok-closed.closed c.in_ok-closed.ensures)
