@@ -4,7 +4,6 @@ pub mod BesideLemmas
 pub mod CallerActLemmas
 pub mod DeviceSteps
 pub mod EndLineLemmas
-pub mod FrontAnswers
 pub mod GroupCounts
 pub mod GroupLemmas
 pub mod GroupRunLemmas
