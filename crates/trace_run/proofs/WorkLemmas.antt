@@ -246,7 +246,7 @@ module _ {P D : Type 0} (pools : PoolGhosts P) (devices : DeviceGhosts D) (g : C
           (d.1.answers valid did had told),
     )
 
-    still-answers : (len : ℕ) (image : Option (List ℕ)) (n : ℕ) (had : List Noted) (o : Option OnObject) (l : Line) (kept : List KeptRead) (p q r : PartyPlace) → KeepsCells g q r
+    pub still-answers : (len : ℕ) (image : Option (List ℕ)) (n : ℕ) (had : List Noted) (o : Option OnObject) (l : Line) (kept : List KeptRead) (p q r : PartyPlace) → KeepsCells g q r
         → AnswersLine g len image place blocks p.own.about.openings q.own.seen n had kept o l → AnswersLine g len image place blocks p.own.about.openings r.own.seen n had kept o l
     still-answers len image n had None l kept p q r keeps answer = answer
     still-answers len image n had (Some on) l kept p q r keeps answer = (answer.0, answer.1, still-from len answer.0 n had on.at l p q r (cell-there g valid on.at) keeps answer.2)

@@ -7,6 +7,7 @@ use Rattle.arc_lists.proofs.Tables.{cases_true}
 use Rattle.blk_ptr.specs.declared.ptr.Ptr.{Ptr}
 use Rattle.vdev_io.specs.declared.device.CacheDev.{Ghosts}
 use Rattle.arc_core.specs.declared.config.Config.{Config}
+use Rattle.arc_core.specs.Operations.{Act}
 use Rattle.arc_core.specs.declared.event.Event.{Event}
 use Rattle.l2_dev.specs.Cursor.{CursorState}
 use Rattle.turn_table.specs.Places.{Place}
@@ -18,9 +19,10 @@ use Rattle.trace_text.specs.declared.op.Op.{Op}
 use Rattle.trace_text.specs.declared.reply.Reply.{Reply}
 use Rattle.trace_run.specs.declared.device.Device.{Device}
 use Rattle.trace_run.specs.declared.device.Device.TheVariants as device
+use Rattle.trace_run.specs.Deeds.{Noted}
 use Rattle.trace_run.specs.Devices.{WasLent, lent_in}
 use Rattle.trace_run.specs.Feeds.{AreFedReplies, DoesFeeds, FeedDone, IsIdleFeeder, MayBeFed, TriesFeeds, is_feed}
-use Rattle.trace_run.specs.Meeting.{HasSettled, IsFed}
+use Rattle.trace_run.specs.Meeting.{IsFed}
 use Rattle.trace_run.specs.callers.Beside.{TriesBeside, WorksBeside}
 use Rattle.trace_run.specs.callers.DeviceForks.{HaveRead}
 use Rattle.trace_run.specs.Objects.{Line}
@@ -51,8 +53,8 @@ module _ {D : Type 0} (devices : Ghosts D) (g : Config) where
   lent-fed (device.Ready a) (device.Ready b) lent may = subst (λ (x : ℕ × CursorState). IsDeviceReady g x.0 x.1) (λ i. (sym lent.2.size i, sym lent.0 i)) may
 
 -- the feeder between groups may do its lines
-pub fed-idle : {C : Type 0} (cache : Cache) (openings : List (List ℕ)) (feeds begun : (shard : ℕ) → List Event) (p : Place (Known C)) → HasSettled p → IsFed cache openings feeds begun p → IsIdleFeeder cache p
-fed-idle cache openings feeds begun p settled fed = record { number = fed.number; alone = fed.alone; stands = fed.stands; only = fed.only; settled = settled }
+pub fed-idle : {C : Type 0} (cache : Cache) (openings : List (List ℕ)) (feeds begun : (shard : ℕ) → List Event) (acts : List Act) (noted : List Noted) (p : Place (Known C)) → IsFed cache openings feeds begun acts noted p → IsIdleFeeder cache p
+fed-idle cache openings feeds begun acts noted p fed = record { number = fed.number; alone = fed.alone; stands = fed.stands; settled = fed.settled }
 
 -- ---- callers and feeder at once
 
