@@ -54,7 +54,7 @@ fn close_crew(
     requires rows { arcs.row.parties ≡ parties_of arcs.config }
     requires count { vec_len crew.kept ≡ arcs.config.callers }
     requires callers { (acts : ℕ → List Act) × (noted : ℕ → List Noted) × AreWaiting arcs acts noted 0 crew.kept.items crew.parties.items }
-    requires feeder { (openings : List (List ℕ)) × (feeds since : (shard : ℕ) → List Event) × IsFed arcs openings feeds since crew.feeder }
+    requires feeder { (openings : List (List ℕ)) × (feeds since : (shard : ℕ) → List Event) × (inserted : List Act) × (synced : List Noted) × IsFed arcs openings feeds since inserted synced crew.feeder }
     ensures { IfOk result (λ closed. HaveClosed ⟦<HeapCell as Keeps>⟧ arcs crew closed) }
 {
     let Crew {

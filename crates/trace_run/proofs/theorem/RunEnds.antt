@@ -190,15 +190,15 @@ module _ (cache : Cache) (valid : IsConfig cache.config) (restored : List Restor
   -- ---- the parties that gave back
 
   gave : HaveGivenBack cache (lines-acts cache restored len image place blocks os rs work crew come) (lines-noted cache restored len image place blocks os rs work crew come) crew.feeder.own.about.openings (events_by_feeder g restored os rs work.feeds)
-      (λ shard. seen_of g shard crew.feeder) (acts_of_syncs g blocks work) (noted_of_syncs work) crew.kept.items h.parties
+      (λ shard. seen_of g shard crew.feeder) (acts_of_syncs g blocks work) (noted_of_syncs work) crew.parties.items crew.feeder crew.kept.items h.parties
   gave = h.gave (lines-acts cache restored len image place blocks os rs work crew come) (lines-noted cache restored len image place blocks os rs work crew come) (come-wait cache restored len image place blocks os rs work crew come)
       crew.feeder.own.about.openings (events_by_feeder g restored os rs work.feeds) (λ shard. seen_of g shard crew.feeder) (acts_of_syncs g blocks work) (noted_of_syncs work) come.feeder
 
   stopped : HaveStopped cache h.parties
-  stopped = gone-stopped cache _ _ _ _ _ _ _ crew.kept.items h.parties come.kepts gave
+  stopped = gone-stopped cache _ _ _ _ _ _ _ _ _ crew.kept.items h.parties come.kepts gave
 
   many-gave : length gave.callers ≡ g.callers
-  many-gave = gone-long cache _ _ _ _ _ _ _ crew.kept.items h.parties come.kepts gave
+  many-gave = gone-long cache _ _ _ _ _ _ _ _ _ crew.kept.items h.parties come.kepts gave
 
   same-parties : (c.callers ≡ gave.callers) × (c.feeder ≡ gave.feeder)
   same-parties = last-same c.callers gave.callers c.feeder gave.feeder (sym c.are ∙ gave.are)
