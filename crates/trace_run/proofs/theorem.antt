@@ -15,6 +15,7 @@ pub mod ReportLemmas
 pub mod RestLemmas
 pub mod RunEnds
 pub mod SourceLemmas
+pub mod TogetherRun
 pub mod ToldLemmas
 pub mod WordLemmas
 pub mod WorkEnds

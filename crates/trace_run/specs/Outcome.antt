@@ -133,7 +133,7 @@ pub record IsReport {P D : Type 0} (pool : Ghosts P) (device : Devices D) (befor
   pub ending : Ending
   -- what the answered lines did beside their replies, and the feeder
   pub work : RunWork
-  pub used : WasUsed device (with_bound trace (device_len device.size before.cache)) work started after.cache
+  pub used : WasUsed device (with_bound trace (device_len device.size before.cache)) ending work started after.cache
   pub did : IsRunWork trace.config (answered_ops trace ending report.replies) report.replies work
   pub run : IsRun pool device before.pool after.pool (usable device started) (usable device after.cache) (with_bound trace (device_len device.size before.cache)) ending work closed report
   -- the cells began with the trace's lines; that was done to them, and they were ended
