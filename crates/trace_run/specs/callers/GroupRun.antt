@@ -42,7 +42,7 @@ pub record HaveClosed {C : Type 0} (m : Meanings C) (cache : Cache) (crew : Crew
   pub parties : List (Place (Known C))
   pub closing : List (Place (Known C))
   pub gave : (acts : ℕ → List Act) (noted : ℕ → List Noted) → AreWaiting cache acts noted 0 crew.kept.items crew.parties.items → (openings : List (List ℕ)) (feeds since : (shard : ℕ) → List Event) (inserted : List Act) (synced : List Noted)
-      → IsFed cache openings feeds since inserted synced crew.feeder → HaveGivenBack cache acts noted openings feeds since inserted synced crew.kept.items parties
+      → IsFed cache openings feeds since inserted synced crew.feeder → HaveGivenBack cache acts noted openings feeds since inserted synced crew.parties.items crew.feeder crew.kept.items parties
   pub ended : EndedCrew cache parties closing
   pub ends : Ends m cache closing closed
 
