@@ -5,6 +5,7 @@ pub mod CloseLemmas
 pub mod CrewEnds
 pub mod EndLemmas
 pub mod FeederKinds
+pub mod FirstPlace
 pub mod GenLemmas
 pub mod HistoryLemmas
 pub mod LineActs

@@ -1,5 +1,5 @@
 -- Where no line did anything to a cell, the histories of a run explain its replies with lines that did nothing beside them.
-use Rattle.std.proofs.Common.{◌≡◌, ◌≢◌, ◌⊎◌, ℕ, zero, suc, ◌+◌, ◌<◌, ◌≤◌, ◌==◌, nat_le, Bool, true, false, if◌then◌else◌, IsTrue, List, [], ◌∷◌, ◌++◌, length, take, Option, refl, sym, ap, ◌∙◌, subst, inl, inr, arith, append-nil, eq-eqb, ne_eqb}
+use Rattle.std.proofs.Common.{◌≡◌, ◌≢◌, ◌⊎◌, ℕ, zero, suc, ◌+◌, ◌<◌, ◌≤◌, ◌==◌, nat_le, Bool, true, false, if◌then◌else◌, IsTrue, List, [], ◌∷◌, ◌++◌, length, take, None, Option, Some, refl, sym, ap, ◌∙◌, subst, inl, inr, arith, append-nil, eq-eqb, ne_eqb}
 use Rattle.std.specs.Prelude.{filter, slice_get, slice_index_or}
 use Rattle.std.specs.List.{AllByRecursion, list_any}
 use Rattle.std.specs.Option.{option_map_or}
@@ -34,6 +34,7 @@ use Rattle.trace_run.specs.Explaining.{EndsWith, Explain, ExplainReads, drops_at
 use Rattle.trace_run.specs.KeptReads.{KeptRead}
 use Rattle.trace_run.specs.Lines.{caller_of, has_undone, is_of_caller, is_undone, replies_where}
 use Rattle.trace_run.specs.MadeLines.{owned_from}
+use Rattle.trace_run.specs.ObjectLines.{on_object}
 use Rattle.trace_run.specs.Objects.{Line, no_work}
 use Rattle.trace_run.specs.Restores.{events_by_feeder}
 use Rattle.trace_run.specs.FeedEvents.{is_fed}
@@ -336,6 +337,28 @@ module _ (g : Config) where
     | inl feeder ↦ rw feeder (feeder-noted os rs)
     | inr other ↦ rw other (feeder-noted os rs)
   ]
+
+  -- none is on an object
+  off : (op : Op) → is_undone g.callers op ≡ false → on_object op ≡ None
+  off (ops.Read n t x window) done = refl
+  off (ops.Hold n t x) done = refl
+  off (ops.Drop n x) done = refl
+  off (ops.Get n t at window) done = absurd (false≢true (sym done))
+  off (ops.Put n t at size fill) done = absurd (false≢true (sym done))
+  off (ops.Patch n t at from bytes) done = absurd (false≢true (sym done))
+  off (ops.Pin n t at) done = absurd (false≢true (sym done))
+  off (ops.Unpin n at) done = absurd (false≢true (sym done))
+  off ops.Feed done = refl
+  off (ops.Txg t) done = refl
+  off (ops.Cap c) done = refl
+
+  pub plain-off : (os : List Op) (rs : List Reply) → list_any (is_undone g.callers) os ≡ false → (k : ℕ) (l : Line) → slice_get (plain_lines os rs) k ≡ Some l → on_object l.op ≡ None
+  plain-off [] rs done k l at = cc
+  plain-off (o ∷ os) [] done k l at = cc
+  plain-off (o ∷ os) (r ∷ rs) done zero l at =
+      let same : record { op = o; reply = r; work = no_work } ≡ l = cc in
+      ap (λ (y : Line). on_object y.op) (sym same) ∙ off o (first-done (is_undone g.callers) o os done).0
+  plain-off (o ∷ os) (r ∷ rs) done (suc k) l at = plain-off os rs (first-done (is_undone g.callers) o os done).1 k l at
 
   plain-noted : (os : List Op) (rs : List Reply) (n : ℕ) → only_ended g n ≡ noted_by g (plain_work os rs) n
   plain-noted os rs n = elim (cases_true (n == g.callers)) [
