@@ -18,7 +18,7 @@ ghost use Rattle.trace_run.specs.callers.Beside.{TriesBeside, WorksInOrder};
 ghost use Rattle.trace_run.specs.callers.DeviceForks.{HaveReadSoFar, ReadAtOnce, these};
 ghost use Rattle.trace_run.specs.callers.InOrder.{AreInGroup};
 ghost use Rattle.trace_run.specs.callers.Group.{IsFork, LeavesPool};
-ghost use Rattle.trace_run.specs.callers.Groups.{AreBetween, AreOfCallers, DidEndLine, DidLinesAtOnce, AreDone, KeepNothing, MaySync, StepsOn};
+ghost use Rattle.trace_run.specs.callers.Groups.{AreBetween, AreOfCallers, DidEndLine, DidLinesAtOnce, AreDone, KeepNothing, MaySync, StepsOn, goes_on};
 ghost use Rattle.trace_run.specs.Making.{AreNoEntries};
 ghost use Rattle.trace_run.specs.Meeting.{MayGoOn};
 ghost use Rattle.trace_run.specs.Tally.{AreDeclared};
@@ -39,6 +39,7 @@ use std::alloc::Global;
 use std::sync::Wait;
 use std::thread::Threads;
 use trace_text::{Op, Reply, Trace};
+use txg_sync::SyncFault;
 use vdev_io::{CacheDev, Gate, IoFault, Pool};
 
 /// Several callers between two groups.
@@ -254,7 +255,7 @@ pub(crate) fn first_place(blocks: &[Ptr], pool_len: u64) -> u64
     place
 }
 
-/// Does the line that ends a group, once all callers have come back.
+/// Does the line that ends a group, once all callers have come back: its reply, or how the lines end where a sync stops.
 fn end_line<P: Pool>(
     alloc: Global,
     rt: &impl Wait,
@@ -263,7 +264,7 @@ fn end_line<P: Pool>(
     op: &Op,
     syncs: Syncs,
     pool: &mut P,
-) -> Result<(Crew<HeapCell>, Syncs, Reply), NoMemory>
+) -> Result<(Crew<HeapCell>, Syncs, Result<Reply, Ending>), NoMemory>
     requires may { MayGoOn arcs.now [] crew.feeder crew.parties.items }
     requires feeder { crew.feeder.number ≡ arcs.now.config.callers }
     requires unwritten { AllByRecursion (λ o. AreNoEntries arcs.now.config o.own.mine) (crew.feeder ∷ crew.parties.items) }
@@ -290,29 +291,38 @@ fn end_line<P: Pool>(
                 group: group + 1,
                 next,
             };
-            Ok((crew, syncs, Reply::Capped { c }))
+            Ok((crew, syncs, Ok(Reply::Capped { c })))
         }
         Op::Txg { t } => {
             let AfterSync {
                 feeder,
                 callers,
-                synced,
+                came,
             } = sync_joined(alloc, rt, arcs, feeder, parties, group, t, pool, next)?;
             let crew = Crew {
                 feeder,
                 parties: callers,
                 kept,
             };
-            let syncs = Syncs {
-                group: group + 1,
-                next: synced.next,
-            };
-            let reply = Reply::Synced {
-                group,
-                blocks: synced.blocks,
-                bytes: synced.bytes,
-            };
-            Ok((crew, syncs, reply))
+            match came {
+                Ok(synced) => {
+                    let syncs = Syncs {
+                        group: group + 1,
+                        next: synced.next,
+                    };
+                    let reply = Reply::Synced {
+                        group,
+                        blocks: synced.blocks,
+                        bytes: synced.bytes,
+                    };
+                    Ok((crew, syncs, Ok(reply)))
+                }
+                Err(SyncFault::PoolFault) => Ok((crew, syncs, Err(Ending::Sync))),
+                Err(SyncFault::PoolFull { need, left }) => {
+                    Ok((crew, syncs, Err(Ending::Full { need, left })))
+                }
+                Err(SyncFault::NoMemory) => Err(NoMemory),
+            }
         }
         // A trace with a line that is not done yet is refused before it is run.
         _ => Err(NoMemory),
@@ -329,8 +339,8 @@ fn append(replies: &mut Vec<Reply>, more: Vec<Reply>) -> Result<(), NoMemory>
     Ok(())
 }
 
-/// Does the next group of a trace, whose lines before it are answered: its lines at once, and then the line that ends it. False where a fork of
-/// the pool failed: then none of it is begun.
+/// Does the next group of a trace, whose lines before it are answered: its lines at once, and then the line that ends it. The lines end here where a fork of
+/// the pool failed, and then none of the group is begun; or where a sync stopped.
 fn next_group<R: Threads + Wait + Sync, P: Pool, D: CacheDev, G: Gate>(
     alloc: Global,
     rt: &R,
@@ -342,7 +352,7 @@ fn next_group<R: Threads + Wait + Sync, P: Pool, D: CacheDev, G: Gate>(
     pool: &mut P,
     device: &mut Device<D>,
     gate: &G,
-) -> Result<(Crew<HeapCell>, Syncs, bool), NoMemory>
+) -> Result<(Crew<HeapCell>, Syncs, Ending), NoMemory>
     requires formed { IsFormed trace.now }
     requires config { arcs.now.config ≡ trace.now.config }
     requires rows { arcs.now.row.parties ≡ parties_of arcs.now.config }
@@ -362,7 +372,7 @@ fn next_group<R: Threads + Wait + Sync, P: Pool, D: CacheDev, G: Gate>(
     let to = group_end(ops, first);
     let forks = match forks(alloc, pool, trace.config.callers) {
         Ok(forks) => forks,
-        Err(IoFault::Failed) => return Ok((crew, syncs, false)),
+        Err(IoFault::Failed) => return Ok((crew, syncs, Ending::Fork)),
         Err(IoFault::NoMemory) => return Err(NoMemory),
     };
     let (crew, answered) = callers_at_once(
@@ -380,14 +390,29 @@ fn next_group<R: Threads + Wait + Sync, P: Pool, D: CacheDev, G: Gate>(
     )?;
     append(replies, answered)?;
     let Some(op) = ops.get(to) else {
-        return Ok((crew, syncs, true));
+        return Ok((crew, syncs, Ending::Whole));
     };
-    let (crew, syncs, reply) = end_line(alloc, rt, arcs, crew, op, syncs, pool)?;
-    replies.push(reply)?;
-    Ok((crew, syncs, true))
+    let (crew, syncs, came) = end_line(alloc, rt, arcs, crew, op, syncs, pool)?;
+    match came {
+        Ok(reply) => {
+            replies.push(reply)?;
+            Ok((crew, syncs, Ending::Whole))
+        }
+        Err(ending) => Ok((crew, syncs, ending)),
+    }
 }
 
-/// Does all groups of a trace, one after another, up to one for which a fork of the pool fails.
+/// Whether the lines go on behind a group that came to this.
+fn goes_on(ending: Ending) -> bool
+    ensures { result ≡ goes_on ending }
+{
+    match ending {
+        Ending::Whole => true,
+        Ending::Fork | Ending::Sync | Ending::Full { .. } => false,
+    }
+}
+
+/// Does all groups of a trace, one after another, up to one for which a fork of the pool fails, or whose sync stops.
 pub(crate) fn all_groups<R: Threads + Wait + Sync, P: Pool, D: CacheDev, G: Gate>(
     alloc: Global,
     rt: &R,
@@ -414,7 +439,7 @@ pub(crate) fn all_groups<R: Threads + Wait + Sync, P: Pool, D: CacheDev, G: Gate
     let mut syncs = syncs;
     let mut replies = Vec::new(alloc);
     while replies.len() < trace.ops.as_slice().len() {
-        let (after, later, done) = next_group(
+        let (after, later, ending) = next_group(
             alloc,
             rt,
             arcs,
@@ -428,11 +453,11 @@ pub(crate) fn all_groups<R: Threads + Wait + Sync, P: Pool, D: CacheDev, G: Gate
         )?;
         crew = after;
         syncs = later;
-        if !done {
+        if !goes_on(ending) {
             return Ok(Came {
                 crew,
                 replies,
-                ending: Ending::Fork,
+                ending,
             });
         }
     }

@@ -1,5 +1,5 @@
 -- One group more of several callers: what their pool counts then, which groups were done, and what stands before the next one.
-use Rattle.std.proofs.Common.{◌≡◌, ℕ, zero, suc, ◌+◌, ◌%◌, ◌^◌, ◌<◌, ◌≤◌, Bool, true, false, Option, List, [], ◌∷◌, ◌++◌, Some, None, length, take, drop, refl, sym, ap, ◌∙◌, subst, arith, append_assoc, length-append, ◌-◌, inl, inr}
+use Rattle.std.proofs.Common.{◌≡◌, ℕ, zero, suc, ◌+◌, ◌%◌, ◌^◌, ◌<◌, ◌≤◌, true, false, Option, Result, Ok, Err, List, [], ◌∷◌, ◌++◌, Some, None, length, take, drop, refl, sym, ap, ◌∙◌, subst, arith, append_assoc, length-append, ◌-◌, inl, inr}
 use Rattle.std.specs.Prelude.{count_by, slice_get, slice_range}
 use Rattle.std.specs.List.{AllByRecursion}
 use Rattle.std.proofs.lemmas.Bool.{false≢true}
@@ -24,18 +24,20 @@ use Rattle.trace_run.specs.Restores.{restores_in}
 use Rattle.trace_text.specs.declared.op.Op.{Op}
 use Rattle.trace_text.specs.declared.op.Op.TheVariants as ops
 use Rattle.trace_text.specs.declared.reply.Reply.{Reply}
+use Rattle.trace_text.specs.declared.reply.Reply.TheVariants.{Capped}
 use Rattle.trace_text.specs.declared.trace.Trace.{Trace}
 use Rattle.trace_text.specs.Grammar.{IsFormed}
 use Rattle.vdev_io.specs.Calls.{MakesCalls}
 use Rattle.vdev_io.specs.Faults.{last_count, sum_of_counts}
 use Rattle.vdev_io.specs.declared.pool.Pool.{Ghosts}
 use Rattle.trace_run.specs.declared.groups.Crew.{Crew}
-use Rattle.trace_run.specs.declared.ran.Ending.TheVariants.{Fork, Whole}
+use Rattle.trace_run.specs.declared.ran.Ending.{Ending}
+use Rattle.trace_run.specs.declared.ran.Ending.TheVariants.{Fork, Full, Sync, Whole}
 use Rattle.trace_run.specs.declared.kept_blocks.KeptBlock.{KeptBlock}
 use Rattle.trace_run.specs.Answers.{is_pool_fault}
 use Rattle.trace_run.specs.Effects.{calls_of, calls_of_all, effect_of}
 use Rattle.trace_run.specs.callers.Group.{HaveWorked, LeavesPool}
-use Rattle.trace_run.specs.callers.Groups.{AreBetween, AreDone, AreOfCallers, DidEndLine, DidLinesAtOnce, HaveCome, HaveCounted, KeepNothing, MaySync, StepsOn, StoodFresh}
+use Rattle.trace_run.specs.callers.Groups.{AreBetween, AreDone, AreOfCallers, DidEndLine, DidLinesAtOnce, HaveCome, HaveCounted, KeepNothing, MaySync, StepsOn, StoodFresh, goes_on}
 use Rattle.trace_run.specs.callers.InOrder.{AreInOrder}
 use Rattle.trace_run.specs.Lines.{caller_of, is_of_caller}
 use Rattle.trace_run.specs.Openings.{Knows, openings_of}
@@ -45,7 +47,7 @@ use Rattle.trace_run.proofs.callers.AbsorbLemmas.{over-few}
 use Rattle.trace_run.proofs.callers.CallerActLemmas.{line-kind}
 use Rattle.trace_run.proofs.callers.GroupCounts.{over-add, over-same, over-zero}
 use Rattle.trace_run.proofs.callers.GroupRunLemmas.{all-callers, all-declared, come-unwritten, may-resize, where-few}
-use Rattle.trace_run.proofs.callers.EndLineLemmas.{IsUnused, Turned, end-turned, not-replied}
+use Rattle.trace_run.proofs.callers.EndLineLemmas.{IsUnused, Turned, end-goes-on, end-turned, not-replied}
 use Rattle.trace_run.proofs.callers.GroupsLemmas.{group-ended, group-last, groups-append, have-come-ended, have-come-more, have-restored, have-started, where-append, whole-of}
 use Rattle.trace_run.proofs.RunLemmas.{calls-faults, calls-few, calls-reads, failed-all}
 
@@ -276,7 +278,7 @@ module _ {P : Type 0} (cache : Cache) (restored : List Restored) (pools : Ghosts
 
   -- a line ends them
   module _ (op : Op) (reply : Reply) (last : Crew OnHeap) (fin : BetweenGroups P) (at : slice_get trace.ops (length rs + length qs) ≡ Some op) (ends : ends_group op ≡ true)
-      (ended : DidEndLine cache pools op (between_groups to was.group was.next) fin new last reply) where
+      (ended : DidEndLine cache pools op (between_groups to was.group was.next) fin new last (Ok reply)) where
     abbrev all-replies : List Reply
     all-replies = (rs ++ ss) ++ reply ∷ []
 
@@ -296,7 +298,7 @@ module _ {P : Type 0} (cache : Cache) (restored : List Restored) (pools : Ghosts
     knows-new = ap (λ (p : PartyPlace). p.own.about.openings) same_feeder ∙ between.knows
 
     turn : Turned cache pools (openings_of trace) op reply (between_groups to was.group was.next) fin new last
-    turn = end-turned cache pools (openings_of trace) op (between_groups to was.group was.next) fin new last reply knows-new (come-unwritten cache restored (pools.size start.pool) (pools.told start.pool) trace.blocks (os ++ qs) (rs ++ ss) new come-lines) ended
+    turn = end-turned cache pools op (between_groups to was.group was.next) fin new last (come-unwritten cache restored (pools.size start.pool) (pools.told start.pool) trace.blocks (os ++ qs) (rs ++ ss) new come-lines) (openings_of trace) reply knows-new ended
 
     come-ended-lines : HaveCome cache restored (pools.size start.pool) (pools.told start.pool) trace.blocks ((os ++ qs) ++ op ∷ []) all-replies last
     come-ended-lines = have-come-ended cache restored (pools.size start.pool) (pools.told start.pool) trace.blocks (os ++ qs) (rs ++ ss) op reply turn.more new last come-lines turn.so
@@ -452,9 +454,10 @@ module _ {P : Type 0} (cache : Cache) (restored : List Restored) (pools : Ghosts
     },
   )
 
-  pub next-ended : (op : Op) → slice_get os end ≡ Some op → ends_group op ≡ true → (last : Crew OnHeap) (fin : BetweenGroups P) (reply : Reply) → DidEndLine cache pools op (between_groups to was.group was.next) fin new last reply → (so_far all : List Reply) → so_far ≡ rs ++ ss → all ≡ so_far ++ reply ∷ []
-      → AreBetween cache restored pools trace start fin all last × (length rs < length all)
-  next-ended op at ends last fin reply ended so_far all is_far is =
+  pub next-ended : (op : Op) → slice_get os end ≡ Some op → ends_group op ≡ true → (last : Crew OnHeap) (fin : BetweenGroups P) (came : Result Reply Ending) (reply : Reply) → came ≡ Ok reply → DidEndLine cache pools op (between_groups to was.group was.next) fin new last came → (so_far all : List Reply)
+      → so_far ≡ rs ++ ss → all ≡ so_far ++ reply ∷ [] → AreBetween cache restored pools trace start fin all last × (length rs < length all)
+  next-ended op at ends last fin came reply answered did so_far all is_far is =
+      let ended = subst (DidEndLine cache pools op (between_groups to was.group was.next) fin new last) answered did in
       let there : slice_get trace.ops (length rs + length qs) ≡ Some op = ap (slice_get trace.ops) ends-at ∙ (ap (λ (l : List Op). slice_get l end) (sym is_os) ∙ at) in
       let whole : all ≡ (rs ++ ss) ++ reply ∷ [] = is ∙ ap (λ (l : List Reply). l ++ reply ∷ []) is_far in
       let size = ap length whole in (
@@ -463,20 +466,29 @@ module _ {P : Type 0} (cache : Cache) (restored : List Restored) (pools : Ghosts
         omega (arith, size, length-append (rs ++ ss) (reply ∷ []), length-append rs ss),
       )
 
--- what a step says, by whether the group was done
-pub stepped : {C P : Type 0} (cache : Cache) (restored : List Restored) (pools : Ghosts P) (trace : Trace) (start before after : BetweenGroups P) (replied replies : List Reply) (done : Bool) (old new : Crew C) → done ≡ true
-    → StepsOn cache restored pools trace start before after replied replies done old new → AreBetween cache restored pools trace start after replies new × (length replied < length replies)
-stepped cache restored pools trace start before after replied replies done old new is step = subst (λ (b : Bool). StepsOn cache restored pools trace start before after replied replies b old new) is step
+  -- no sync stops
+  pub next-goes-on : (op : Op) (last : Crew OnHeap) (fin : BetweenGroups P) (came : Result Reply Ending) (ending : Ending) → came ≡ Err ending → DidEndLine cache pools op (between_groups to was.group was.next) fin new last came → ⊥
+  next-goes-on op last fin came ending stopped did =
+      end-goes-on cache pools op (between_groups to was.group was.next) fin new last next-unwritten ending (subst (DidEndLine cache pools op (between_groups to was.group was.next) fin new last) stopped did)
 
-pub not-stepped : {C P : Type 0} (cache : Cache) (restored : List Restored) (pools : Ghosts P) (trace : Trace) (start before after : BetweenGroups P) (replied replies : List Reply) (done : Bool) (old new : Crew C) → done ≡ false
-    → StepsOn cache restored pools trace start before after replied replies done old new → AreBetween cache restored pools trace start before replied old → length replied < length trace.ops → AreDone cache restored pools trace start after.pool Fork replies new
-not-stepped {C} cache restored pools trace start before after replied replies done old new is step between more =
-    let same = subst (λ (b : Bool). StepsOn cache restored pools trace start before after replied replies b old new) is step in
-    record {
-      reached = before;
-      between = subst (λ (x : List Reply × Crew C). AreBetween cache restored pools trace start before x.0 x.1) (λ i. (sym same.0 i, sym same.1 i)) between;
-      ended = (omega (arith, ap length same.0, more), same.2);
-    }
+-- what a step says, by whether the lines go on
+pub stepped : {C P : Type 0} (cache : Cache) (restored : List Restored) (pools : Ghosts P) (trace : Trace) (start before after : BetweenGroups P) (replied replies : List Reply) (ending : Ending) (old new : Crew C) → goes_on ending ≡ true
+    → StepsOn cache restored pools trace start before after replied replies ending old new → AreBetween cache restored pools trace start after replies new × (length replied < length replies)
+stepped cache restored pools trace start before after replied replies Whole old new is step = step
+stepped cache restored pools trace start before after replied replies Fork old new is step = absurd (false≢true is)
+stepped cache restored pools trace start before after replied replies Sync old new is step = absurd step
+stepped cache restored pools trace start before after replied replies (Full need left) old new is step = absurd step
+
+pub not-stepped : {C P : Type 0} (cache : Cache) (restored : List Restored) (pools : Ghosts P) (trace : Trace) (start before after : BetweenGroups P) (replied replies : List Reply) (ending : Ending) (old new : Crew C) → goes_on ending ≡ false
+    → StepsOn cache restored pools trace start before after replied replies ending old new → AreBetween cache restored pools trace start before replied old → length replied < length trace.ops → AreDone cache restored pools trace start after.pool ending replies new
+not-stepped cache restored pools trace start before after replied replies Whole old new is step between more = absurd (false≢true (sym is))
+not-stepped {C} cache restored pools trace start before after replied replies Fork old new is step between more = record {
+  reached = before;
+  between = subst (λ (x : List Reply × Crew C). AreBetween cache restored pools trace start before x.0 x.1) (λ i. (sym step.0 i, sym step.1 i)) between;
+  ended = (omega (arith, ap length step.0, more), step.2);
+}
+not-stepped cache restored pools trace start before after replied replies Sync old new is step between more = absurd step
+not-stepped cache restored pools trace start before after replied replies (Full need left) old new is step between more = absurd step
 
 pub all-stepped : {C P : Type 0} (cache : Cache) (restored : List Restored) (pools : Ghosts P) (trace : Trace) (start after : BetweenGroups P) (replies : List Reply) (crew : Crew C) → AreBetween cache restored pools trace start after replies crew → length trace.ops ≤ length replies
     → AreDone cache restored pools trace start after.pool Whole replies crew

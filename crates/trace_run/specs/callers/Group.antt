@@ -1,5 +1,6 @@
 -- The work of several callers at once, each by its own lines, with its own party and its own fork of the pool.
-use Rattle.std.specs.Prelude.{◌≡◌, ◌<◌, ◌≤◌, ℕ, List, filter, length, map, min, ◌++◌}
+use Rattle.std.specs.Prelude.{◌≡◌, ◌<◌, ◌≤◌, ◌+◌, ℕ, List, filter, length, map, min, take, ◌++◌}
+use Rattle.std.specs.Option.{option_map}
 use mathlib.Core.Option.{some}
 use lib.ListN.{get_elem?}
 use Rattle.blk_ptr.specs.declared.ptr.Ptr.{Ptr}
@@ -48,6 +49,12 @@ pub record IsFork {P : Type 0} (pools : Ghosts P) (pool fork : P) : Type 0 where
 pub record LeavesPool {P : Type 0} (pools : Ghosts P) (old new : P) : Type 0 where
   pub size : pools.size new ≡ pools.size old
   pub told : pools.told new ≡ pools.told old
+  pub faults : min (pools.faults old) last_count ≤ pools.faults new
+
+-- The same, where what it tells is the same up to this place.
+pub record LeavesFront {P : Type 0} (pools : Ghosts P) (place : ℕ) (old new : P) : Type 0 where
+  pub size : pools.size new ≡ pools.size old
+  pub told : option_map (take place) (pools.told new) ≡ option_map (take place) (pools.told old)
   pub faults : min (pools.faults old) last_count ≤ pools.faults new
 
 -- the work of the caller of a number, by its places in these lists

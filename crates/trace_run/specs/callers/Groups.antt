@@ -1,5 +1,5 @@
 -- Several callers between two groups of a trace: what all lines so far came to.
-use Rattle.std.specs.Prelude.{◌≡◌, ◌⊎◌, ◌<◌, ◌≤◌, ◌+◌, ◌%◌, ◌^◌, ℕ, suc, Bool, true, false, List, [], Option, Some, None, count_by, filter, length, map, slice_get, slice_index_or, take}
+use Rattle.std.specs.Prelude.{◌≡◌, ◌⊎◌, ◌<◌, ◌≤◌, ◌+◌, ◌%◌, ◌^◌, ℕ, suc, Bool, true, false, List, [], Result, Ok, Err, Option, Some, None, count_by, filter, length, map, slice_get, slice_index_or, take}
 use Rattle.std.specs.List.{AllByRecursion}
 use Rattle.blk_ptr.specs.Size.{sector}
 use Rattle.blk_ptr.specs.declared.ptr.Ptr.{Ptr}
@@ -13,6 +13,8 @@ use Rattle.dbuf_cells.specs.Turns.{OnHeap}
 use Rattle.dbuf_state.specs.Numbers.{opening_numbers}
 use Rattle.dbuf_state.specs.Soundness.{IsSound}
 use Rattle.txg_sync.specs.Items.{SyncItem}
+use Rattle.txg_sync.specs.declared.syncing.SyncFault.{SyncFault}
+use Rattle.txg_sync.specs.declared.syncing.SyncFault.TheVariants as sync_fault
 use Rattle.txg_sync.specs.declared.syncing.Synced.{Synced as SyncAnswer}
 use Rattle.trace_text.specs.declared.op.Op.{Op}
 use Rattle.trace_text.specs.declared.op.Op.TheVariants.{Cap, Txg}
@@ -126,22 +128,27 @@ pub record DidLinesAtOnce {C P : Type 0} (cache : Cache) (pools : Ghosts P) (blo
   pub ordered : AreInOrder ops own fed replies
 
 -- every shard was given a capacity
-pub record DidCap {C P : Type 0} (cache : Cache) (c : ℕ) (from to : BetweenGroups P) (old new : Crew C) (reply : Reply) : Type 0 where
-  pub answer : reply ≡ Capped c
+pub record DidCap {C P : Type 0} (cache : Cache) (c : ℕ) (from to : BetweenGroups P) (old new : Crew C) (came : Result Reply Ending) : Type 0 where
+  pub answer : came ≡ Ok (Capped c)
   pub resized : Resized cache c old.feeder old.parties.items new.feeder new.parties.items
   pub stays : to ≡ between_groups from.pool (suc from.group) from.next
 
--- all dirty blocks were written at this tick
-pub record DidSync {P : Type 0} (cache : Cache) (pools : Ghosts P) (t : ℕ) (from to : BetweenGroups P) (old new : Crew OnHeap) (reply : Reply) : Type 0 where
-  pub done : SyncAnswer
-  pub answer : reply ≡ Synced from.group done.blocks done.bytes
-  pub synced : SyncedJoined pools cache from.group t from.next from.pool to.pool old.feeder old.parties.items new.feeder new.parties.items done
-  pub group : to.group ≡ suc from.group
-  pub next : to.next ≡ done.next
+-- What a sync came to is told so: the next group stands behind it; or the lines end there.
+abbrev pub TellsSync : {P : Type 0} → (from to : BetweenGroups P) → Result SyncAnswer SyncFault → Result Reply Ending → Type 0
+TellsSync from to (Ok done) came = (came ≡ Ok (Synced from.group done.blocks done.bytes)) × (to.group ≡ suc from.group) × (to.next ≡ done.next)
+TellsSync from to (Err sync_fault.PoolFault) came = came ≡ Err Sync
+TellsSync from to (Err (sync_fault.PoolFull need left)) came = came ≡ Err (Full need left)
+TellsSync from to (Err sync_fault.NoMemory) came = ⊥
 
--- a line that ends a group was done, and this is the reply
-pub record DidEndLine {P : Type 0} (cache : Cache) (pools : Ghosts P) (op : Op) (from to : BetweenGroups P) (old new : Crew OnHeap) (reply : Reply) : Type 0 where
-  pub did : ((c : ℕ) × (op ≡ Cap c) × DidCap cache c from to old new reply) ⊎ ((t : ℕ) × (op ≡ Txg t) × DidSync cache pools t from to old new reply)
+-- all dirty blocks were written at this tick, or the sync stopped
+pub record DidSync {P : Type 0} (cache : Cache) (pools : Ghosts P) (t : ℕ) (from to : BetweenGroups P) (old new : Crew OnHeap) (came : Result Reply Ending) : Type 0 where
+  pub sync : Result SyncAnswer SyncFault
+  pub synced : SyncedJoined pools cache from.group t from.next from.pool to.pool old.feeder old.parties.items new.feeder new.parties.items sync
+  pub told : TellsSync from to sync came
+
+-- a line that ends a group was done, and this is the reply, or how the lines end
+pub record DidEndLine {P : Type 0} (cache : Cache) (pools : Ghosts P) (op : Op) (from to : BetweenGroups P) (old new : Crew OnHeap) (came : Result Reply Ending) : Type 0 where
+  pub did : ((c : ℕ) × (op ≡ Cap c) × DidCap cache c from to old new came) ⊎ ((t : ℕ) × (op ≡ Txg t) × DidSync cache pools t from to old new came)
   pub kept : new.kept.items ≡ old.kept.items
 
 -- a fork of the pool failed: the pool has counted that, and nothing else has changed but counts
@@ -169,8 +176,17 @@ pub record AreDone {C P : Type 0} (cache : Cache) (restored : List Restored) (po
 abbrev pub AreOfCallers : (callers : ℕ) → List Op → Type 0
 AreOfCallers callers ops = (k : ℕ) (op : Op) → slice_get ops k ≡ Some op → (n : ℕ) × (caller_of op ≡ Some n) × (n < callers)
 
--- the next group was done, or none of it was begun, since a fork of the pool failed
-abbrev pub StepsOn : {C P : Type 0} → Cache → List Restored → Ghosts P → Trace → (start before after : BetweenGroups P) → (replied replies : List Reply) → (done : Bool) → (old new : Crew C) → Type 0
-StepsOn cache restored pools trace start before after replied replies true old new =
+-- the lines go on behind a group that came to this
+abbrev pub goes_on : Ending → Bool
+goes_on Whole = true
+goes_on Fork = false
+goes_on Sync = false
+goes_on (Full need left) = false
+
+-- The next group was done, and the lines go on; or none of it was begun, since a fork of the pool failed. No sync stops, since no line makes a block dirty yet.
+abbrev pub StepsOn : {C P : Type 0} → Cache → List Restored → Ghosts P → Trace → (start before after : BetweenGroups P) → (replied replies : List Reply) → Ending → (old new : Crew C) → Type 0
+StepsOn cache restored pools trace start before after replied replies Whole old new =
     AreBetween cache restored pools trace start after replies new × (length replied < length replies)
-StepsOn cache restored pools trace start before after replied replies false old new = (replies ≡ replied) × (new ≡ old) × ForkFailed pools before.pool after.pool
+StepsOn cache restored pools trace start before after replied replies Fork old new = (replies ≡ replied) × (new ≡ old) × ForkFailed pools before.pool after.pool
+StepsOn cache restored pools trace start before after replied replies Sync old new = ⊥
+StepsOn cache restored pools trace start before after replied replies (Full need left) old new = ⊥

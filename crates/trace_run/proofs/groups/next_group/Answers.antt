@@ -13,7 +13,7 @@ use Rattle.trace_run.specs.Devices.{lent_in}
 use Rattle.trace_run.proofs.callers.BesideLemmas.{fed-idle}
 use Rattle.trace_run.proofs.callers.DeviceSteps.{read-ended, read-last}
 use Rattle.trace_run.proofs.callers.EndLineLemmas.{IsUnused}
-use Rattle.trace_run.proofs.callers.StepLemmas.{next-ended, next-last, next-may, next-sync, next-unwritten, range-callers, range-declared}
+use Rattle.trace_run.proofs.callers.StepLemmas.{next-ended, next-goes-on, next-last, next-may, next-sync, next-unwritten, range-callers, range-declared}
 use Rattle.trace_run.proofs.groups.next_group.Goals as goal
 
 pub callers_at_once-requires-clause-start : goal.callers_at_once-requires-clause-start
@@ -67,15 +67,24 @@ end_line-requires-clause-sync g c κs within =
     c.len-first.result c.group_end-to.result c.as_slice-blocks.result.now c.as_slice-ops.result.now c.as_slice-blocks.ensures c.as_slice-ops.ensures first c.group_end-to.ensures.range.0 c.group_end-to.ensures.range.1 c.group_end-to.ensures.inside
     c.requires.between.2 (let more = c.requires.more in let long = c.args.replies.now.ok.0 in omega (arith, more, long)) unused c.in_ok-crew.ensures.did c.in_ok-crew.ensures.feeder c.callers_at_once.ensures.pool
 
-pub returns-clause-steps : goal.returns-clause-steps
-returns-clause-steps g c = λ start restored between.
+pub returns-in_ok-push-in-Ok-came-clause-steps : goal.returns-in_ok-push-in-Ok-came-clause-steps
+returns-in_ok-push-in-Ok-came-clause-steps g c = λ start restored between.
     let first : c.len-first.result ≡ length c.args.replies.now.items = let is = c.len-first.ensures in let long = c.args.replies.now.ok.0 in omega (arith, is, long) in
     let unused : IsUnused g.P.Pool c.args.pool.now c.forks.new.pool = record { size = c.in-Ok.ensures.keeps.size; told = c.in-Ok.ensures.keeps.told; reads = c.in-Ok.ensures.unread; faults = c.in-Ok.ensures.unfailed } in
     let here : slice_get c.as_slice-ops.result.now c.group_end-to.result ≡ Some c.in-Some.op.now = slice_get_read c.as_slice-ops.result.now _ c.group_end-to.result c.in-Some.op.now refl c.in-Some.ensures.lookup.3.0 c.in-Some.ensures.lookup.1 in
     next-ended c.args.arcs.now restored g.P.Pool c.args.trace.now c.requires.formed c.requires.config start (between_groups c.args.pool.now c.args.syncs.group c.args.syncs.next) c.forks.new.pool c.callers_at_once.new.pool c.args.replies.now.items c.in_ok-crew.answered.items c.args.crew c.in_ok-crew.crew
     c.len-first.result c.group_end-to.result c.as_slice-blocks.result.now c.as_slice-ops.result.now c.as_slice-blocks.ensures c.as_slice-ops.ensures first c.group_end-to.ensures.range.0 c.group_end-to.ensures.range.1 c.group_end-to.ensures.inside
     between (let more = c.requires.more in let long = c.args.replies.now.ok.0 in omega (arith, more, long)) unused c.in_ok-crew.ensures.did c.in_ok-crew.ensures.feeder c.callers_at_once.ensures.pool
-    c.in-Some.op.now here (c.group_end-to.ensures.end c.in-Some.op.now here) c.in_ok-crew-2.crew (between_groups c.end_line.new.pool c.in_ok-crew-2.syncs.group c.in_ok-crew-2.syncs.next) c.in_ok-crew-2.reply c.in_ok-crew-2.ensures.did c.append.new.replies.items c.push.new.self.items c.in_ok-append.ensures c.in_ok-push.ensures.items
+    c.in-Some.op.now here (c.group_end-to.ensures.end c.in-Some.op.now here) c.in_ok-crew-2.crew (between_groups c.end_line.new.pool c.in_ok-crew-2.syncs.group c.in_ok-crew-2.syncs.next) c.in_ok-crew-2.came c.in-Ok-came.reply c.in-Ok-came.is c.in_ok-crew-2.ensures.did c.append.new.replies.items c.push.new.self.items c.in_ok-append.ensures c.in_ok-push-in-Ok-came.ensures.items
+
+pub returns-in-Err-clause-steps : goal.returns-in-Err-clause-steps
+returns-in-Err-clause-steps g c = λ start restored between.
+    let first : c.len-first.result ≡ length c.args.replies.now.items = let is = c.len-first.ensures in let long = c.args.replies.now.ok.0 in omega (arith, is, long) in
+    let unused : IsUnused g.P.Pool c.args.pool.now c.forks.new.pool = record { size = c.in-Ok.ensures.keeps.size; told = c.in-Ok.ensures.keeps.told; reads = c.in-Ok.ensures.unread; faults = c.in-Ok.ensures.unfailed } in
+    absurd (next-goes-on c.args.arcs.now restored g.P.Pool c.args.trace.now c.requires.formed c.requires.config start (between_groups c.args.pool.now c.args.syncs.group c.args.syncs.next) c.forks.new.pool c.callers_at_once.new.pool c.args.replies.now.items c.in_ok-crew.answered.items c.args.crew c.in_ok-crew.crew
+    c.len-first.result c.group_end-to.result c.as_slice-blocks.result.now c.as_slice-ops.result.now c.as_slice-blocks.ensures c.as_slice-ops.ensures first c.group_end-to.ensures.range.0 c.group_end-to.ensures.range.1 c.group_end-to.ensures.inside
+    between (let more = c.requires.more in let long = c.args.replies.now.ok.0 in omega (arith, more, long)) unused c.in_ok-crew.ensures.did c.in_ok-crew.ensures.feeder c.callers_at_once.ensures.pool
+    c.in-Some.op.now c.in_ok-crew-2.crew (between_groups c.end_line.new.pool c.in_ok-crew-2.syncs.group c.in_ok-crew-2.syncs.next) c.in_ok-crew-2.came c.in-Err.ending c.in-Err.is c.in_ok-crew-2.ensures.did)
 
 -- ---- what was asked of the device
 
@@ -94,8 +103,8 @@ returns-in_default-clause-read g c = λ start so_far.
     start (lent_in c.args.device.now) (lent_in c.callers_at_once.new.device) so_far c.in_ok-crew.ensures.read
     c.in_default.ensures.lookup.3 more c.append.new.replies.items c.in_ok-append.ensures
 
-pub returns-clause-read : goal.returns-clause-read
-returns-clause-read g c = λ start so_far.
+pub returns-in_ok-push-in-Ok-came-clause-read : goal.returns-in_ok-push-in-Ok-came-clause-read
+returns-in_ok-push-in-Ok-came-clause-read g c = λ start so_far.
     let first : c.len-first.result ≡ length c.args.replies.now.items = let is = c.len-first.ensures in let long = c.args.replies.now.ok.0 in omega (arith, is, long) in
     let more : length c.args.replies.now.items < length c.args.trace.now.ops = let more = c.requires.more in let long = c.args.replies.now.ok.0 in omega (arith, more, long) in
     let many : vec_len c.args.crew.parties ≡ c.args.trace.now.config.callers =
@@ -108,7 +117,16 @@ returns-clause-read g c = λ start so_far.
     read-ended g.D.CacheDev c.args.trace.now c.args.replies.now.items c.in_ok-crew.answered.items c.len-first.result c.group_end-to.result c.as_slice-blocks.result.now c.as_slice-ops.result.now (vec_len c.args.crew.parties)
     c.as_slice-blocks.ensures c.as_slice-ops.ensures many first c.group_end-to.ensures.range.0 c.group_end-to.ensures.range.1 c.requires.between.2.few (c.requires.between.2.begins more) own c.in_ok-crew.ensures.did.ordered.all
     start (lent_in c.args.device.now) (lent_in c.callers_at_once.new.device) so_far c.in_ok-crew.ensures.read
-    c.in-Some.op.now here (c.group_end-to.ensures.end c.in-Some.op.now here) c.in_ok-crew-2.reply c.append.new.replies.items c.push.new.self.items c.in_ok-append.ensures c.in_ok-push.ensures.items
+    c.in-Some.op.now here (c.group_end-to.ensures.end c.in-Some.op.now here) c.in-Ok-came.reply c.append.new.replies.items c.push.new.self.items c.in_ok-append.ensures c.in_ok-push-in-Ok-came.ensures.items
+
+pub returns-in-Err-clause-read : goal.returns-in-Err-clause-read
+returns-in-Err-clause-read g c = λ start so_far.
+    let first : c.len-first.result ≡ length c.args.replies.now.items = let is = c.len-first.ensures in let long = c.args.replies.now.ok.0 in omega (arith, is, long) in
+    let unused : IsUnused g.P.Pool c.args.pool.now c.forks.new.pool = record { size = c.in-Ok.ensures.keeps.size; told = c.in-Ok.ensures.keeps.told; reads = c.in-Ok.ensures.unread; faults = c.in-Ok.ensures.unfailed } in
+    absurd (next-goes-on c.args.arcs.now c.requires.between.1 g.P.Pool c.args.trace.now c.requires.formed c.requires.config c.requires.between.0 (between_groups c.args.pool.now c.args.syncs.group c.args.syncs.next) c.forks.new.pool c.callers_at_once.new.pool c.args.replies.now.items c.in_ok-crew.answered.items c.args.crew c.in_ok-crew.crew
+    c.len-first.result c.group_end-to.result c.as_slice-blocks.result.now c.as_slice-ops.result.now c.as_slice-blocks.ensures c.as_slice-ops.ensures first c.group_end-to.ensures.range.0 c.group_end-to.ensures.range.1 c.group_end-to.ensures.inside
+    c.requires.between.2 (let more = c.requires.more in let long = c.args.replies.now.ok.0 in omega (arith, more, long)) unused c.in_ok-crew.ensures.did c.in_ok-crew.ensures.feeder c.callers_at_once.ensures.pool
+    c.in-Some.op.now c.in_ok-crew-2.crew (between_groups c.end_line.new.pool c.in_ok-crew-2.syncs.group c.in_ok-crew-2.syncs.next) c.in_ok-crew-2.came c.in-Err.ending c.in-Err.is c.in_ok-crew-2.ensures.did)
 
 pub callers_at_once-requires-clause-feeder : goal.callers_at_once-requires-clause-feeder
 callers_at_once-requires-clause-feeder g c κs within =
