@@ -56,10 +56,6 @@ pub(crate) fn begin<D: CacheDev>(alloc: Global, cache: Option<D>) -> Result<Begu
     };
     match L2Dev::start(alloc, dev) {
         Started::Ready { l2, restored, stop } => {
-            // A device that is long enough is never told as too short. No clause of `start` says so.
-            if let Stop::Short { .. } = stop {
-                return Err(NoMemory);
-            }
             Ok(Begun {
                 device: Device::Ready(l2),
                 rebuilt: Some(Rebuilt {
