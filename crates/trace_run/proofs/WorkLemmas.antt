@@ -25,7 +25,7 @@ use Rattle.trace_run.specs.Acts.{acts_of}
 use Rattle.trace_run.specs.callers.CallerLines.{At, DidLine, at}
 use Rattle.trace_run.specs.callers.Callers.{CameTo}
 use Rattle.trace_run.specs.callers.WorkLines.{AllAsked, AnswersLine, AnswersLines, AreLinesOf, AsksGiven, AtWork, DidAll, DidLineBy, DidOps, DidWith, DidWorkLine, IsWorkOf, acts_of_work, acts_with, at_work, calls_of_lines, effect_with, noted_of_work, size_asked_by}
-use Rattle.trace_run.specs.Deeds.{HasToldAll, KeepsCells, Noted}
+use Rattle.trace_run.specs.Deeds.{HasToldAll, KeepsCells, Noted, lines_of_cell}
 use Rattle.trace_run.specs.Effects.{calls_of}
 use Rattle.trace_run.specs.DeviceReads.{AsksFor, LineAsks, size_asked}
 use Rattle.trace_run.specs.KeptReads.{KeptRead}
@@ -42,7 +42,6 @@ use Rattle.trace_run.proofs.DeviceReadLemmas.{none-came}
 use Rattle.trace_run.proofs.LinesLemmas.{line-named}
 use Rattle.trace_run.proofs.RunLemmas.{calls-then}
 use Rattle.trace_run.proofs.deeds.MakesLemmas.{keeps-none, keeps-then}
-use Rattle.trace_run.proofs.deeds.ObjectReplies.{object-answers}
 use Rattle.trace_run.proofs.deeds.OperatesDone.{cell-there}
 use Rattle.trace_run.proofs.deeds.ObjectWork.{object-work}
 
@@ -219,46 +218,55 @@ module _ {P D : Type 0} (pools : PoolGhosts P) (devices : DeviceGhosts D) (g : C
   all-number (l ∷ ls) a b d = all-number ls d.0 b d.2 ∙ by-number pools devices g blocks (on_object l.op) l a d.0 d.1
 
   -- an answer by a cell that was found stands while more is seen of it
-  still-from : (len : ℕ) (image : Option (List ℕ)) (at : Oid) (op : Op) (reply : Reply) (p q r : PartyPlace) → IsCell g (cell_of g.cells at) → KeepsCells g q r → AnswersFrom g len image p.own.about.openings q.own.seen at op reply
-      → AnswersFrom g len image p.own.about.openings r.own.seen at op reply
-  still-from len image at op reply p q r in_range second f = record {
-    cell = f.cell;
-    sound = f.sound;
-    opening = f.opening;
-    front = let x = f.front in let y = second.fronts (cell_of g.cells at) in_range in (x.0 ++ y.0, y.1 ∙ (ap (λ (l : List SeenLine). l ++ y.0) x.1 ∙ append_assoc (cell_lines f.cell) x.0 y.0));
-    answer = f.answer;
-  }
+  still-from : (len : ℕ) (image : Option (List ℕ)) (n : ℕ) (had : List Noted) (at : Oid) (l : Line) (p q r : PartyPlace) → IsCell g (cell_of g.cells at) → KeepsCells g q r
+      → AnswersFrom g len image p.own.about.openings q.own.seen n had at l → AnswersFrom g len image p.own.about.openings r.own.seen n had at l
+  still-from len image n had at l p q r in_range second f =
+      let i = cell_of g.cells at in
+      let x = f.front in
+      let y = second.fronts i in_range in
+      record {
+        cell = f.cell;
+        sound = f.sound;
+        opening = f.opening;
+        mine = f.mine;
+        front = (x.0 ++ y.0, y.1 ∙ (ap (λ (s : List SeenLine). s ++ y.0) x.1 ∙ append_assoc (cell_lines f.cell ++ lines_of_cell i l.work.noted) x.0 y.0));
+        brought = f.brought;
+        acts = f.acts;
+        answer = f.answer;
+      }
 
-  by-answer : (place : ℕ) (o : Option OnObject) (l : Line) (a b : AtWork P D) → on_object l.op ≡ o → is_of_caller a.party.number l.op ≡ true → DidLineBy pools devices g blocks o l a b
-      → AnswersLine g (pools.size a.outside.pool) (pools.told a.outside.pool) place blocks a.party.own.about.openings b.party.own.seen a.kept o l
-  by-answer place None l a b is his d = d.1.answer
-  by-answer place (Some on) l a b is his d = (
-    pools.told a.outside.pool,
-    refl,
-    subst (λ (o : Option OnObject). IfSome o (λ on. AnswersFrom g (pools.size a.outside.pool) (pools.told a.outside.pool) a.party.own.about.openings b.party.own.seen on.at l.op l.reply)) is
-    (object-answers pools devices g a.outside b.outside a.party b.party l.op l.reply his d.1.came),
-  )
+  module _ (valid : IsConfig g) (place : ℕ) where
+    by-answer : (o : Option OnObject) (l : Line) (a b : AtWork P D) → on_object l.op ≡ o → DidLineBy pools devices g blocks o l a b → (did : List Act) (had : List Noted) → HasToldAll g did had a.party
+        → AnswersLine g (pools.size a.outside.pool) (pools.told a.outside.pool) place blocks a.party.own.about.openings b.party.own.seen a.party.number had a.kept o l
+    by-answer None l a b is d did had told = d.1.answer
+    by-answer (Some on) l a b is d did had told = (
+      pools.told a.outside.pool,
+      refl,
+      subst (λ (o : Option OnObject). IfSome o (λ on. AnswersFrom g (pools.size a.outside.pool) (pools.told a.outside.pool) a.party.own.about.openings b.party.own.seen a.party.number had on.at l)) is
+          (d.1.answers valid did had told),
+    )
 
-  still-answers : (valid : IsConfig g) (len : ℕ) (image : Option (List ℕ)) (place : ℕ) (o : Option OnObject) (l : Line) (kept : List KeptRead) (p q r : PartyPlace) → KeepsCells g q r
-      → AnswersLine g len image place blocks p.own.about.openings q.own.seen kept o l → AnswersLine g len image place blocks p.own.about.openings r.own.seen kept o l
-  still-answers valid len image place None l kept p q r keeps answer = answer
-  still-answers valid len image place (Some on) l kept p q r keeps answer = (answer.0, answer.1, still-from len answer.0 on.at l.op l.reply p q r (cell-there g valid on.at) keeps answer.2)
+    pub still-answers : (len : ℕ) (image : Option (List ℕ)) (n : ℕ) (had : List Noted) (o : Option OnObject) (l : Line) (kept : List KeptRead) (p q r : PartyPlace) → KeepsCells g q r
+        → AnswersLine g len image place blocks p.own.about.openings q.own.seen n had kept o l → AnswersLine g len image place blocks p.own.about.openings r.own.seen n had kept o l
+    still-answers len image n had None l kept p q r keeps answer = answer
+    still-answers len image n had (Some on) l kept p q r keeps answer = (answer.0, answer.1, still-from len answer.0 n had on.at l p q r (cell-there g valid on.at) keeps answer.2)
 
-  -- each line has its answer
-  pub all-answers : (valid : IsConfig g) (place n : ℕ) (ls : List Line) (a b : AtWork P D) (len : ℕ) (image : Option (List ℕ)) (openings : List (List ℕ)) → pools.size a.outside.pool ≡ len → pools.told a.outside.pool ≡ image → a.party.own.about.openings ≡ openings
-      → a.party.number ≡ n → AreHis n ls → DidAll pools devices g blocks ls a b → AnswersLines g len image place blocks openings b.party.own.seen a.kept ls
-  all-answers valid place n [] a b len image openings size told opens number his d = tt
-  all-answers valid place n (l ∷ ls) a b len image openings size told opens number his d =
-      let next = d.0 in
-      let o = on_object l.op in
-      let one = by-keeps o n l a next his.0 d.1 in
-      let later = (all-keeps n ls next b his.1 d.2).0 in
-      let mine : is_of_caller a.party.number l.op ≡ true = ap (λ (m : ℕ). is_of_caller m l.op) number ∙ his.0 in
-      let here = still-answers valid (pools.size a.outside.pool) (pools.told a.outside.pool) place o l a.kept a.party next.party b.party later (by-answer place o l a next refl mine d.1) in
-      let rest = all-answers valid place n ls next b len image openings (one.2.size ∙ size) (one.2.told ∙ told) (ap (λ (x : About). x.openings) one.0.about ∙ opens) (by-number pools devices g blocks o l a next d.1 ∙ number) his.1 d.2 in (
-        subst (λ (x : ℕ × Option (List ℕ) × List (List ℕ)). AnswersLine g x.0 x.1 place blocks x.2 b.party.own.seen a.kept o l) (λ i. (size i, told i, opens i)) here,
-        subst (λ (ks : List KeptRead). AnswersLines g len image place blocks openings b.party.own.seen ks ls) (by-kept o l a next refl d.1) rest,
-      )
+    -- each line has its answer
+    pub all-answers : (n : ℕ) (ls : List Line) (a b : AtWork P D) (len : ℕ) (image : Option (List ℕ)) (openings : List (List ℕ)) → pools.size a.outside.pool ≡ len → pools.told a.outside.pool ≡ image → a.party.own.about.openings ≡ openings
+        → a.party.number ≡ n → AreHis n ls → DidAll pools devices g blocks ls a b → (did : List Act) (had : List Noted) → HasToldAll g did had a.party
+        → AnswersLines g len image place blocks openings b.party.own.seen n had a.kept ls
+    all-answers n [] a b len image openings size told opens number his d did had told_all = tt
+    all-answers n (l ∷ ls) a b len image openings size told opens number his d did had told_all =
+        let next = d.0 in
+        let o = on_object l.op in
+        let one = by-keeps o n l a next his.0 d.1 in
+        let later = (all-keeps n ls next b his.1 d.2).0 in
+        let here = still-answers (pools.size a.outside.pool) (pools.told a.outside.pool) a.party.number had o l a.kept a.party next.party b.party later (by-answer o l a next refl d.1 did had told_all) in
+        let rest = all-answers n ls next b len image openings (one.2.size ∙ size) (one.2.told ∙ told) (ap (λ (x : About). x.openings) one.0.about ∙ opens) (by-number pools devices g blocks o l a next d.1 ∙ number) his.1 d.2
+        (did ++ acts_with g blocks a.kept l) (had ++ l.work.noted) (by-told o l a next refl d.1 did had told_all) in (
+          subst (λ (x : ℕ × Option (List ℕ) × List (List ℕ) × ℕ). AnswersLine g x.0 x.1 place blocks x.2 b.party.own.seen x.3 had a.kept o l) (λ i. (size i, told i, opens i, number i)) here,
+          subst (λ (ks : List KeptRead). AnswersLines g len image place blocks openings b.party.own.seen n (had ++ l.work.noted) ks ls) (by-kept o l a next refl d.1) rest,
+        )
 
   -- the reads that are kept behind all of them
   pub all-kept : (ls : List Line) (a b : AtWork P D) → DidAll pools devices g blocks ls a b → b.kept ≡ kept_after_lines blocks a.kept ls
@@ -319,7 +327,7 @@ module _ {P D : Type 0} (pools : PoolGhosts P) (devices : DeviceGhosts D) (g : C
           cells = keeps.0;
           kept = all-kept did.lines a b did.did;
           told = all-told did.lines a b did.did;
-          answers = λ place. all-answers valid place a.party.number did.lines a b (pools.size a.outside.pool) (pools.told a.outside.pool) a.party.own.about.openings refl refl refl refl his did.did;
+          answers = λ acts had told place. all-answers valid place a.party.number did.lines a b (pools.size a.outside.pool) (pools.told a.outside.pool) a.party.own.about.openings refl refl refl refl his did.did acts had told;
           calls = all-calls did.lines a b did.did;
           asked = asked;
         }

@@ -87,8 +87,12 @@ module _ {C : Type 0} where
     pub stands : Stands cache p kept
     pub told : HasToldAll cache.config acts noted p
 
-  -- The feeder's party stands by itself and keeps nothing, and knows that the cells began so. These are the events of each shard that it made with its own number, and what
-  -- it has seen begins with these. With the numbers of cells it has done these acts, and this to cells.
+  -- the party lists no pick of any shard
+  abbrev pub HasSettled : Place (Known C) → Type 0
+  HasSettled p = (i : ℕ) → picks_of i p ≡ []
+
+  -- The feeder's party stands by itself and keeps nothing, knows that the cells began so, and has settled all that it picked. These are the events of each shard that it made with its own number,
+  -- and what it has seen begins with these. With the numbers of cells it has done these acts, and this to cells.
   pub record IsFed (cache : Cache) (openings : List (List ℕ)) (feeds begun : (shard : ℕ) → List Event) (acts : List Act) (noted : List Noted) (p : Place (Known C)) : Type 0 where
     pub number : p.number ≡ cache.config.callers
     pub alone : p.joined ≡ []
@@ -97,6 +101,7 @@ module _ {C : Type 0} where
     pub fed : (shard : ℕ) → shard < cache.config.shards → own_events p.number (seen_of cache.config shard p) ≡ feeds shard
     pub since : (shard : ℕ) → StartsWith (seen_of cache.config shard p) (begun shard)
     pub told : HasToldOthers cache.config acts noted p
+    pub settled : HasSettled p
 
   -- q has seen all that o had, and behind it no event of o's own
   pub record HasLearned (g : Config) (o q : Place (Known C)) : Type 0 where
@@ -126,6 +131,7 @@ module _ {C : Type 0} where
     pub own : HasSameOwn cache.config old.number old.own.seen new.own.seen
     pub starts : (shard : ℕ) → StartsWith (seen_of cache.config shard new) (seen_of cache.config shard old)
     pub mine : new.own.mine ≡ old.own.mine
+    pub ledger : new.own.ledger ≡ old.own.ledger
     pub only : MadeItsOwn cache.config old → MadeItsOwn cache.config new
     pub same : (kept : List KeptBlock) → Stands cache old kept → SameMade cache.config old new
 
@@ -207,10 +213,6 @@ abbrev pub resizes_in : (shards n c : ℕ) → (shard : ℕ) → List Event
 resizes_in shards n c shard = if nat_lt shard shards then (Resize n c ∷ []) else []
 
 module _ {C : Type 0} where
-  -- the party lists no pick of any shard
-  abbrev pub HasSettled : Place (Known C) → Type 0
-  HasSettled p = (i : ℕ) → picks_of i p ≡ []
-
   -- While all others had joined it, the party made these events of each shard; then they parted. They stand behind all that anybody had done there,
   -- and all have seen them.
   pub record MadeJoined (cache : Cache) (more : (shard : ℕ) → List Event) (p : Place (Known C)) (olds : List (Place (Known C))) (q : Place (Known C)) (news : List (Place (Known C))) : Type 0 where

@@ -39,7 +39,7 @@ use Rattle.trace_run.specs.DeviceUse.{WasUsed}
 use Rattle.trace_run.specs.Devices.{Finds, MayLose, usable}
 use Rattle.trace_run.specs.Explaining.{Explain, RunsAlone}
 use Rattle.trace_run.specs.Lines.{has_undone}
-use Rattle.trace_run.specs.ObjectAnswers.{IsAnsweredByCell}
+use Rattle.trace_run.specs.ObjectAnswers.{AreAnsweredByCells}
 use Rattle.trace_run.specs.one_caller.PlainRun.{images, report_of}
 use Rattle.trace_run.specs.Restores.{found_keys}
 use Rattle.trace_run.specs.States.{Handed}
@@ -101,7 +101,7 @@ pub record IsRun {P D : Type 0} (pool : Ghosts P) (device : Devices D) (before a
   pub place : ℕ
   pub first : IsFirstPlace (pool.size before) trace.blocks place
   -- a line on an object is answered by its cell
-  pub objects : AllByRecursion (IsAnsweredByCell trace.config (pool.size before) (pool.told before) place closed.cells) work.lines
+  pub objects : AreAnsweredByCells trace.config (pool.size before) (pool.told before) place closed.cells work.lines
   pub together : 2 ≤ trace.config.callers → RunsTogether pool before after place trace ending work closed.cells report
   -- a trace without an operation has no work: no fork is made for it, and the pool is as it was
   pub idle : trace.ops ≡ [] → (ending ≡ Whole) × (after ≡ before)

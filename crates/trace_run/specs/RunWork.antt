@@ -2,12 +2,10 @@
 use Rattle.std.specs.Prelude.{◌≡◌, ℕ, false, true, zero, suc, ◌<◌, ◌==◌, nat_le, if◌then◌else◌, List, [], ◌∷◌, ◌++◌, Option, Some, None, filter, length, slice_get}
 use Rattle.std.specs.List.{AllByRecursion}
 use Rattle.std.specs.Option.{option_map_or}
-use Rattle.blk_ptr.specs.declared.key.Key.{Key}
 use Rattle.blk_ptr.specs.declared.ptr.Ptr.{Ptr}
 use Rattle.blk_ptr.specs.Hash.{shard_of}
 use Rattle.arc_core.specs.declared.config.Config.{Config}
 use Rattle.arc_core.specs.declared.event.Event.{Event}
-use Rattle.arc_core.specs.declared.event.Event.TheVariants.{Drop}
 use Rattle.arc_core.specs.Operations.{Act, Writes, acts_in, actor_of, number_of}
 use Rattle.arc_table.specs.Geometry.{IsCell, cell_number, parties_of}
 use Rattle.dbuf_state.specs.declared.event.CellEvent.TheVariants.{Synced}
@@ -16,7 +14,7 @@ use Rattle.trace_text.specs.declared.op.Op.{Op}
 use Rattle.trace_text.specs.declared.op.Op.TheVariants as ops
 use Rattle.trace_text.specs.declared.reply.Reply.{Reply}
 use Rattle.trace_run.specs.Acts.{acts_of_drops}
-use Rattle.trace_run.specs.CellEnds.{ends_from}
+use Rattle.trace_run.specs.CellEnds.{IsCellDrop, ends_from}
 use Rattle.trace_run.specs.Deeds.{Noted, acts_of_events, with_number}
 use Rattle.trace_run.specs.KeptReads.{KeptRead}
 use Rattle.trace_run.specs.Lines.{caller_of, is_of_caller}
@@ -59,13 +57,6 @@ pub record IsInserted (g : Config) (act : Act) : Type 0 where
   pub tick : ℕ
   pub ptr : Ptr
   pub is : act ≡ Writes (cell_number g cell) tick ptr
-  pub in_range : IsCell g cell
-
--- a hold of a cell was dropped
-pub record IsCellDrop (g : Config) (e : Event) : Type 0 where
-  pub cell : ℕ
-  pub key : Key
-  pub is : e ≡ Drop (cell_number g cell) key
   pub in_range : IsCell g cell
 
 -- a sync noted the blocks that it wrote in their cells, and inserted them

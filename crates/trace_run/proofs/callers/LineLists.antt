@@ -1,5 +1,5 @@
 -- Lines with their work, one behind the other: what they come to together, and what the lines of a group ask of the feeder.
-use Rattle.std.proofs.Common.{◌≡◌, ◌⊎◌, ℕ, zero, suc, ◌+◌, ◌<◌, ◌≤◌, ◌==◌, Bool, true, false, cond, List, [], ◌∷◌, ◌++◌, Option, Some, None, length, map, refl, sym, ap, ◌∙◌, subst, inl, inr, arith, append_assoc, length-append}
+use Rattle.std.proofs.Common.{◌≡◌, ◌⊎◌, ℕ, zero, suc, ◌+◌, ◌<◌, ◌≤◌, ◌==◌, Bool, true, false, cond, List, [], ◌∷◌, ◌++◌, Option, Some, None, length, map, refl, sym, ap, ◌∙◌, subst, inl, inr, arith, append-nil, append_assoc, length-append}
 use Rattle.std.specs.Prelude.{count_by, filter, slice_get}
 use Rattle.std.specs.List.{AllByRecursion}
 use Rattle.std.specs.Option.{option_map_or}
@@ -25,24 +25,17 @@ use Rattle.trace_run.specs.Effects.{Answered, calls_of, effect_of}
 use Rattle.trace_run.specs.Feeds.{is_feed}
 use Rattle.trace_run.specs.KeptReads.{KeptRead}
 use Rattle.trace_run.specs.Lines.{caller_of, is_of_caller}
-use Rattle.trace_run.specs.Objects.{Brought, GoesTogether, IsDoneWith, IsGotWith, IsRefusedWith, Line, Loaded, Nothing, Refused, Work, no_work, ops_of, replies_of}
+use Rattle.trace_run.specs.Objects.{Brought, GoesTogether, IsDoneWith, IsGotWith, IsRefusedWith, Line, Loaded, Nothing, Refused, replies_of}
 use Rattle.trace_run.specs.ObjectLines.{on_object}
 use Rattle.trace_run.specs.one_caller.OneCaller.{kept_after}
-use Rattle.trace_run.specs.RunWork.{AllFit, FitsBy, FitsFeeder, kept_after_lines, lines_of_caller, lines_of_feeder}
+use Rattle.trace_run.specs.RunWork.{kept_after_lines}
 use Rattle.trace_run.specs.callers.InOrder.{AreInGroup}
 use Rattle.trace_run.specs.callers.Together.{ends_group}
-use Rattle.trace_run.specs.callers.WorkLines.{AnswersLine, AnswersLines, AreLinesOf, IsWorkOf, acts_of_work, acts_with, acts_with_op, calls_of_lines, effect_with, noted_of_work}
+use Rattle.trace_run.specs.callers.WorkLines.{AnswersLine, AnswersLines, AreLinesOf, IsWorkOf, acts_of_work, acts_with, calls_of_lines, effect_with, noted_of_work}
 use Rattle.trace_run.proofs.RunLemmas.{calls-few-one, failed-one}
+use Rattle.trace_run.proofs.feeds.FeedLemmas.{feed-is}
 
 -- ---- operations and replies of lines
-
-pub lines-are : (os : List Op) (rs : List Reply) (ls : List Line) → AreLinesOf os rs ls → (ops_of ls ≡ os) × (replies_of ls ≡ rs)
-lines-are [] [] [] are = (refl, refl)
-lines-are [] [] (l ∷ ls) are = absurd are
-lines-are [] (r ∷ rs) ls are = absurd are
-lines-are (o ∷ os) [] ls are = absurd are
-lines-are (o ∷ os) (r ∷ rs) [] are = absurd are
-lines-are (o ∷ os) (r ∷ rs) (l ∷ ls) are = let rest = lines-are os rs ls are.2 in ((λ i. are.0 i ∷ rest.0 i), (λ i. are.1 i ∷ rest.1 i))
 
 pub lines-long : (os : List Op) (rs : List Reply) (ls : List Line) → AreLinesOf os rs ls → (length rs ≡ length os) × (length ls ≡ length os)
 lines-long [] [] [] are = (refl, refl)
@@ -97,29 +90,30 @@ module _ (g : Config) (blocks : List Ptr) where
   acts-lines kept [] ms = refl
   acts-lines kept (l ∷ ls) ms =
       let next : List KeptRead = kept_after blocks l.op l.reply kept in
-      ap (λ (as : List Act). acts_with g blocks kept l ++ as) (acts-lines next ls ms)
+      ap (λ (rest : List Act). acts_with g blocks kept l ++ rest) (acts-lines next ls ms)
       ∙ sym (append_assoc (acts_with g blocks kept l) (acts_of_work g blocks next ls) (acts_of_work g blocks (kept_after_lines blocks next ls) ms))
 
-  module _ (len : ℕ) (image : Option (List ℕ)) (place : ℕ) (openings : List (List ℕ)) where
-    pub answers-lines : (seen : List (List Seen)) (kept : List KeptRead) (ls ms : List Line) → AnswersLines g len image place blocks openings seen kept ls → AnswersLines g len image place blocks openings seen (kept_after_lines blocks kept ls) ms
-        → AnswersLines g len image place blocks openings seen kept (ls ++ ms)
-    answers-lines seen kept [] ms first rest = rest
-    answers-lines seen kept (l ∷ ls) ms first rest = (first.0, answers-lines seen (kept_after blocks l.op l.reply kept) ls ms first.1 rest)
+  module _ (len : ℕ) (image : Option (List ℕ)) (place : ℕ) (openings : List (List ℕ)) (n : ℕ) where
+    pub answers-lines : (seen : List (List Seen)) (had : List Noted) (kept : List KeptRead) (ls ms : List Line) → AnswersLines g len image place blocks openings seen n had kept ls
+        → AnswersLines g len image place blocks openings seen n (had ++ noted_of_work ls) (kept_after_lines blocks kept ls) ms → AnswersLines g len image place blocks openings seen n had kept (ls ++ ms)
+    answers-lines seen had kept [] ms first rest = subst (λ (ns : List Noted). AnswersLines g len image place blocks openings seen n ns kept ms) (append-nil had) rest
+    answers-lines seen had kept (l ∷ ls) ms first rest = (
+      first.0,
+      answers-lines seen (had ++ l.work.noted) (kept_after blocks l.op l.reply kept) ls ms first.1
+          (subst (λ (ns : List Noted). AnswersLines g len image place blocks openings seen n ns (kept_after_lines blocks (kept_after blocks l.op l.reply kept) ls) ms) (sym (append_assoc had l.work.noted (noted_of_work ls))) rest),
+    )
 
     -- where each stands while more is seen
-    pub lines-still : (s t : List (List Seen)) → ((l : Line) (kept : List KeptRead) → AnswersLine g len image place blocks openings s kept (on_object l.op) l → AnswersLine g len image place blocks openings t kept (on_object l.op) l)
-        → (kept : List KeptRead) (ls : List Line) → AnswersLines g len image place blocks openings s kept ls → AnswersLines g len image place blocks openings t kept ls
-    lines-still s t one kept [] answers = tt
-    lines-still s t one kept (l ∷ ls) answers = (one l kept answers.0, lines-still s t one (kept_after blocks l.op l.reply kept) ls answers.1)
+    pub lines-still : (s t : List (List Seen)) → ((l : Line) (had : List Noted) (kept : List KeptRead) → AnswersLine g len image place blocks openings s n had kept (on_object l.op) l → AnswersLine g len image place blocks openings t n had kept (on_object l.op) l)
+        → (had : List Noted) (kept : List KeptRead) (ls : List Line) → AnswersLines g len image place blocks openings s n had kept ls → AnswersLines g len image place blocks openings t n had kept ls
+    lines-still s t one had kept [] answers = tt
+    lines-still s t one had kept (l ∷ ls) answers = (one l had kept answers.0, lines-still s t one (had ++ l.work.noted) (kept_after blocks l.op l.reply kept) ls answers.1)
 
 -- ---- the lines of a group
 
 -- none of them ends one
-pub AreInside : List Line → Type 0
+abbrev pub AreInside : List Line → Type 0
 AreInside = AllByRecursion (λ l. ends_group l.op ≡ false)
-
-none-there : {n : ℕ} → ◌≡◌ {A = Option ℕ} (Some n) None → ⊥
-none-there is = cc
 
 caller-inside : (o : Op) (n : ℕ) → caller_of o ≡ Some n → ends_group o ≡ false
 caller-inside (ops.Read m t x window) n of = refl
@@ -134,20 +128,7 @@ caller-inside ops.Feed n of = refl
 caller-inside (ops.Txg t) n of = cc
 caller-inside (ops.Cap c) n of = cc
 
-feed-is : (o : Op) → is_feed o ≡ true → o ≡ ops.Feed
-feed-is (ops.Read m t x window) is = absurd (false≢true is)
-feed-is (ops.Hold m t x) is = absurd (false≢true is)
-feed-is (ops.Drop m x) is = absurd (false≢true is)
-feed-is (ops.Get m t at window) is = absurd (false≢true is)
-feed-is (ops.Put m t at size fill) is = absurd (false≢true is)
-feed-is (ops.Patch m t at from bytes) is = absurd (false≢true is)
-feed-is (ops.Pin m t at) is = absurd (false≢true is)
-feed-is (ops.Unpin m at) is = absurd (false≢true is)
-feed-is ops.Feed is = refl
-feed-is (ops.Txg t) is = absurd (false≢true is)
-feed-is (ops.Cap c) is = absurd (false≢true is)
-
-pub group-inside : (o : Op) (callers : ℕ) → ((n : ℕ) × (caller_of o ≡ Some n) × (n < callers)) ⊎ (is_feed o ≡ true) → ends_group o ≡ false
+group-inside : (o : Op) (callers : ℕ) → ((n : ℕ) × (caller_of o ≡ Some n) × (n < callers)) ⊎ (is_feed o ≡ true) → ends_group o ≡ false
 group-inside o callers (inl his) = caller-inside o his.0 his.1
 group-inside o callers (inr asks) = ap ends_group (feed-is o asks)
 
@@ -182,40 +163,6 @@ nobody-feeders op none = ap (λ (o : Option ℕ). option_map_or (λ (n : ℕ). f
 
 pub nobody-callers : (n : ℕ) (op : Op) → caller_of op ≡ None → is_of_caller n op ≡ false
 nobody-callers n op none = ap (λ (o : Option ℕ). option_map_or (λ (m : ℕ). m == n) o false) none
-
-pub feeder-fits : (g : Config) (l : Line) → caller_of l.op ≡ None → FitsBy g (caller_of l.op) l → FitsFeeder g l.op l.work
-feeder-fits g l none fits = subst (λ (o : Option ℕ). FitsBy g o l) none fits
-
-feed-idle : (g : Config) (o : Op) (w : Work) → o ≡ ops.Feed → FitsFeeder g o w → w ≡ no_work
-feed-idle g o w is fits = subst (λ (x : Op). FitsFeeder g x w) is fits
-
--- The feeder did nothing with cells' numbers for lines of a group.
-module _ (g : Config) (blocks : List Ptr) (callers : ℕ) where
-  pub feeder-idle : (kept : List KeptRead) (qs : List Op) (ss : List Reply) (ms : List Line) → AreInGroup callers qs → AreLinesOf qs ss ms → AllFit g ms
-      → (acts_of_work g blocks kept (lines_of_feeder ms) ≡ []) × (noted_of_work (lines_of_feeder ms) ≡ [])
-  feeder-idle kept [] [] [] own are fits = (refl, refl)
-  feeder-idle kept [] [] (m ∷ ms) own are fits = absurd are
-  feeder-idle kept [] (s ∷ ss) ms own are fits = absurd are
-  feeder-idle kept (q ∷ qs) [] ms own are fits = absurd are
-  feeder-idle kept (q ∷ qs) (s ∷ ss) [] own are fits = absurd are
-  feeder-idle kept (q ∷ qs) (s ∷ ss) (m ∷ ms) own are fits = go (own 0 q refl)
-    where
-      rest : (k : List KeptRead) → (acts_of_work g blocks k (lines_of_feeder ms) ≡ []) × (noted_of_work (lines_of_feeder ms) ≡ [])
-      rest k = feeder-idle k qs ss ms (λ j op at. own (suc j) op at) are.2 fits.1
-
-      go : ((n : ℕ) × (caller_of q ≡ Some n) × (n < callers)) ⊎ (is_feed q ≡ true) → (acts_of_work g blocks kept (lines_of_feeder (m ∷ ms)) ≡ []) × (noted_of_work (lines_of_feeder (m ∷ ms)) ≡ [])
-      go (inl his) =
-          let his_line : is_of_feeder m.op ≡ false = ap (λ (o : Option ℕ). option_map_or (λ (n : ℕ). false) o true) (ap caller_of are.0 ∙ his.1) in
-          rw his_line (rest kept)
-      go (inr asks) =
-          let is : m.op ≡ ops.Feed = are.0 ∙ feed-is q asks in
-          let feeders : is_of_feeder m.op ≡ true = ap is_of_feeder is in
-          let idle : m.work ≡ no_work = feed-idle g m.op m.work is (feeder-fits g m (ap caller_of is) fits.0) in
-          let none : acts_with_op g blocks kept m.op m.reply m.work ≡ [] = ap (λ (o : Op). acts_with_op g blocks kept o m.reply m.work) is in
-          rw feeders (
-            (λ i. none i ++ (rest (kept_after blocks m.op m.reply kept)).0 i),
-            (λ i. (idle i).noted ++ (rest kept).1 i),
-          )
 
 -- ---- what lines read of the pool
 

@@ -15,12 +15,13 @@ use Rattle.turn_table.specs.declared.standing.Kept.{Kept}
 use Rattle.turn_table.specs.Moments.{WasSo}
 use Rattle.turn_table.specs.Places.{AllShow, IsLast, Place, kept, met, parted, rest_of, stayed}
 use Rattle.arc_table.specs.declared.view.Known.{Known}
+use Rattle.arc_table.specs.declared.view.Ledger.{Ledger}
 use Rattle.arc_table.specs.declared.view.Line.{Line}
 use Rattle.arc_table.specs.declared.view.Line.TheVariants as line
 use Rattle.arc_table.specs.declared.view.Mine.{Mine}
 use Rattle.arc_table.specs.pact.Attached.{IsShown}
 use Rattle.arc_table.specs.Cache.{Cache, IsPartyOf}
-use Rattle.arc_table.specs.Fronts.{StartsWith, front_of, seen_by_both}
+use Rattle.arc_table.specs.Fronts.{StartsWith, front_of, list_at, seen_by_both}
 use Rattle.arc_table.specs.Geometry.{IsCell, parties_of}
 use Rattle.arc_table.specs.Items.{Meanings, lines_in}
 use Rattle.arc_table.specs.pact.Logged.{HasPlace}
@@ -467,6 +468,7 @@ module _ {C : Type 0} (cache : Cache) (q r o : Place (Known C)) (learned : HasLe
     own = x-own;
     starts = λ shard. starts-events (front_of (turn_of cache.config shard) parting.own.seen) (front_of (turn_of cache.config shard) o.own.seen) (x-starts shard);
     mine = refl;
+    ledger = refl;
     only = λ only. record { events = own-seen-more cache.config o.number o.own.mine o.own.seen parting.own.seen x-starts only.events; entries = only.entries };
     same = λ kept stands. grown-same cache.config o parting refl refl refl x-starts x-cells stands.seen stands.cells;
   }
@@ -496,6 +498,7 @@ parted-fed cache lines old new parted openings fed since acts noted is = record 
       ∙ (same-own-events cache.config old.number (seen_of cache.config shard old) (seen_of cache.config shard new) (parted.own shard) ∙ is.fed shard below);
   since = λ shard. starts-then (seen_of cache.config shard new) (seen_of cache.config shard old) (since shard) (parted.starts shard) (is.since shard);
   told = others-still cache.config acts noted old new (parted.same [] is.stands) is.told;
+  settled = λ i. ap (λ (l : Ledger). list_at i l.picked) parted.ledger ∙ is.settled i;
 }
 
 -- ---- lists by their ends

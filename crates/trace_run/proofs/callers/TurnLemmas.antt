@@ -202,6 +202,9 @@ module _ {C : Type 0} (m : Meanings C) (cache : Cache) (p : Place (Known C)) (ke
           let then : HasToldOthers gk acts noted r = subst (HasToldOthers gk acts noted) (sym (subst (λ (l : List KeptBlock). GivesAll m gk l q r) none gives))
           (others-still gk acts noted p q (grown-same gk p q have.number have.about have.mine have.self.starts have.self.cells is.stands.seen is.stands.cells) is.told) in
           record { cells = then.cells; kinds = then.kinds; entries = then.entries };
+      settled = λ i.
+          ap (λ (x : Place (Known C)). list_at i x.own.ledger.picked) (subst (λ (l : List KeptBlock). GivesAll m gk l q r) none gives)
+          ∙ (ap (λ (l : Ledger). list_at i l.picked) have.ledger ∙ is.settled i);
     }
 
     joined-told : {n : ℕ} {acts : List Act} {noted : List Noted} → Waits cache n acts noted kept p → HasToldAll gk acts noted q

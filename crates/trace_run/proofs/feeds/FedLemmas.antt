@@ -588,6 +588,7 @@ fed-again cache openings restored os qs rs ss fs gs acts noted p q callers long 
       ∙ ap (λ (l : List Event). restores_in cache.config restored shard ++ l) (sym (lines-append cache.config shard os qs rs ss fs gs long (as-told cache.config os rs fs told))))));
   since = λ shard. starts_whole (seen_of cache.config shard q);
   told = others-still cache.config acts noted p q feeds.same fed.told;
+  settled = feeds.idle.settled;
 }
   where
     had : (shard : ℕ) → shard < cache.config.shards → own_events cache.config.callers (seen_of cache.config shard p) ≡ events_by_feeder cache.config restored os rs fs shard

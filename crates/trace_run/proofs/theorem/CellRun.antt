@@ -1,5 +1,5 @@
 -- The cells of a run's closed cache: each began with the trace's lines, and was ended by the feeder.
-use Rattle.std.proofs.Common.{◌≡◌, ℕ, zero, suc, ◌+◌, ◌<◌, ◌==◌, true, false, List, [], ◌∷◌, ◌++◌, append-nil, length, length-append, map, take, refl, sym, ap, ◌∙◌, subst, inl, inr, arith, eq-eqb, ne_eqb}
+use Rattle.std.proofs.Common.{◌≡◌, ℕ, zero, suc, ◌+◌, ◌<◌, ◌==◌, true, false, List, [], ◌∷◌, ◌++◌, append-nil, length, map, refl, sym, ap, ◌∙◌, subst, inl, inr, arith, eq-eqb, ne_eqb}
 use Rattle.std.specs.List.{AllByRecursion}
 use Rattle.std.proofs.lemmas.Bool.{cases_lt}
 use mathlib.Core.Logic.{dite}
@@ -7,11 +7,9 @@ use mathlib.Core.Option.{some, some-injective, some-ne-none}
 use native.Mathlib.Decide.{ℕ_discrete}
 use lib.ListN.{get_elem?}
 use Rattle.std.specs.Prelude.{slice_index_or}
-use Rattle.arc_core.specs.Config.{IsConfig}
 use Rattle.arc_core.specs.declared.config.Config.{Config}
 use Rattle.arc_core.specs.declared.event.Event.{Event}
 use Rattle.arc_core.specs.Operations.{Act}
-use Rattle.arc_core.specs.declared.served.Restored.{Restored}
 use Rattle.turn_table.specs.Places.{AllShow, kept as as_kept}
 use Rattle.arc_table.specs.declared.about.About.{About}
 use Rattle.arc_table.specs.declared.view.Known.{Known}
@@ -29,28 +27,18 @@ use Rattle.dbuf_cells.specs.Turns.{OnHeap, PartyPlace, dbuf_meanings}
 use Rattle.dbuf_state.specs.Numbers.{event_numbers, number_of}
 use Rattle.dbuf_state.specs.declared.event.CellEvent.{CellEvent}
 use Rattle.dbuf_state.specs.declared.event.CellEvent.TheVariants.{End}
-use Rattle.vdev_io.specs.declared.pool.Pool.{Ghosts}
-use Rattle.trace_text.specs.declared.reply.Reply.{Reply}
 use Rattle.trace_text.specs.declared.trace.Trace.{Trace}
-use Rattle.trace_text.specs.Grammar.{IsFormed}
-use Rattle.trace_run.specs.declared.groups.Crew.{Crew}
-use Rattle.trace_run.specs.declared.ran.Ending.{Ending}
-use Rattle.trace_run.specs.CellEnds.{AreCellsOf, EndedCrew, HasSeenEnds, HasToldOthers, IsCellOf, done_by, end_entry, ends_from}
+use Rattle.trace_run.specs.CellEnds.{AreCellsOf, EndedCrew, HasSeenEnds, IsCellOf, done_by, end_entry, ends_from}
 use Rattle.trace_run.specs.RunWork.{only_ended}
-use Rattle.trace_run.specs.Deeds.{Noted, events_of_cell, events_there, lines_of_cell}
+use Rattle.trace_run.specs.Deeds.{HasToldOthers, Noted, events_of_cell, events_there, lines_of_cell}
 use Rattle.trace_run.specs.MadeLines.{made_from, made_of}
-use Rattle.trace_run.specs.callers.GroupRun.{HaveClosed, HaveStopped}
-use Rattle.trace_run.specs.callers.Groups.{AreDone}
-use Rattle.trace_run.specs.callers.Together.{between_groups}
+use Rattle.trace_run.specs.callers.GroupRun.{HaveStopped}
 use Rattle.trace_run.specs.Making.{AreNoEntries}
-use Rattle.trace_run.specs.Meeting.{HasParted, HaveGivenBack, HaveParted}
+use Rattle.trace_run.specs.Meeting.{HasParted, HaveParted}
 use Rattle.trace_run.specs.Openings.{Knows, openings_of}
-use Rattle.trace_run.specs.Restores.{events_by_feeder}
-use Rattle.trace_run.proofs.callers.AfterEnds.{crew-long, last-same, same-long}
-use Rattle.trace_run.proofs.CellLemmas.{all-cells-of, by-parties, caller-notes, cell-of, done-is, ends-one, entries-are, events-same, feeder-notes, opened-so}
+use Rattle.trace_run.proofs.callers.AfterEnds.{crew-long, same-long}
+use Rattle.trace_run.proofs.CellLemmas.{all-cells-of, by-parties, cell-of, done-is, ends-one, entries-are, events-same, opened-so}
 use Rattle.trace_run.proofs.theorem.EndLemmas.{shown-at}
-use Rattle.trace_run.proofs.theorem.ToldLemmas.{own-told}
-use Rattle.trace_run.proofs.callers.GroupRunLemmas.{gave, lines-acts, only-given, stopped}
 use Rattle.trace_run.proofs.deeds.MadeLemmas.{listed-none, made-none}
 
 -- ---- cells with any history
@@ -234,7 +222,7 @@ module _ (cache : Cache) (olds news : List PartyPlace) (c : EndedCrew cache olds
       }
 
   shown : (n : ℕ) (x : PartyPlace) → get_elem? news n ≡ some x → x.number ≡ n → get_elem? ends.views n ≡ some x.own
-  shown n x at number = subst (λ (k : ℕ). get_elem? ends.views k ≡ some x.own) number (shown-at g ends.views news n x at ends.shown)
+  shown n x at number = subst (λ (k : ℕ). get_elem? ends.views k ≡ some x.own) number (shown-at ends.views news n x at ends.shown)
 
   last-at : get_elem? news (length c.parted) ≡ some z
   last-at = ap (λ (l : List PartyPlace). get_elem? l (length c.parted)) c.then ∙ get_last c.parted z
@@ -258,35 +246,3 @@ module _ (cache : Cache) (olds news : List PartyPlace) (c : EndedCrew cache olds
   pub crew-cells : AreCellsOf trace noted e
   crew-cells = cells-of-run cache news e ends trace config noted g.callers z.own last-shown knows g.callers z.own last-shown c.ended.stands.of.config
       (λ i range. let h = c.ended.ends i range in (h.0, h.1 ∙ ap (λ (n : ℕ). h.0 ++ end_entry n i) feeder-number)) each
-
-module _ {P : Type 0} (cache : Cache) (pools : Ghosts P) (before after : P) (place : ℕ) (trace : Trace) (formed : IsFormed trace) (config : cache.config ≡ trace.config) (valid : IsConfig cache.config)
-    (ending : Ending) (restored : List Restored) (rs : List Reply) (crew : Crew OnHeap) (d : AreDone cache restored pools trace (between_groups before 1 place) after ending rs crew) (closed : Ended OnHeap) (h : HaveClosed dbuf_meanings cache crew closed) where
-  given : HaveStopped cache h.parties
-  given = stopped dbuf_meanings cache pools before after place trace formed config valid ending restored rs crew d closed h
-
-  gone : HaveGivenBack cache (lines-acts cache restored (pools.size before) (pools.told before) trace.blocks (take (length rs) trace.ops) rs crew d.between.come) (λ n. []) crew.feeder.own.about.openings
-      (events_by_feeder cache.config restored (take (length rs) trace.ops) rs) (λ shard. seen_of cache.config shard crew.feeder) crew.kept.items h.parties
-  gone = gave dbuf_meanings cache pools before after place trace formed config valid ending restored rs crew d closed h
-
-  long : length h.ended.callers ≡ cache.config.callers
-  long = omega (arith, given.count, ap length h.ended.are, length-append h.ended.callers (h.ended.feeder ∷ []))
-
-  knows-last : Knows (openings_of trace) h.ended.last
-  knows-last =
-      let same = last-same h.ended.callers gone.callers h.ended.feeder gone.feeder (sym h.ended.are ∙ gone.are) in
-      ap (λ (a : About). a.openings) h.ended.ended.about ∙ (ap (λ (p : PartyPlace). p.own.about.openings) same.1 ∙ (gone.fed.knows ∙ d.between.knows))
-
-  -- the callers' parties made nothing of a cell, nor did the feeder's before
-  no-notes : (n : ℕ) (o : PartyPlace) → get_elem? h.parties n ≡ some o → HasToldOthers cache.config [] [] o
-  no-notes n o at = own-told cache.config o (only-given dbuf_meanings cache pools before after place trace formed config valid ending restored rs crew d closed h n o at)
-
-  pub closed-cells : AreCellsOf trace (only_ended trace.config) closed
-  closed-cells =
-      subst (λ (g : Config). AreCellsOf trace (only_ended g) closed) config
-      (crew-cells cache h.parties h.closing h.ended given closed h.ends trace config (only_ended cache.config) knows-last long
-      (λ n o at i range.
-      let below : n < cache.config.callers = subst (λ (k : ℕ). n < k) long (within h.ended.callers n o at) in
-      (no-notes n o (ap (λ (l : List PartyPlace). get_elem? l n) h.ended.are ∙ get_front h.ended.callers (h.ended.feeder ∷ []) n o at)).entries i range
-      ∙ sym (ap (lines_of_cell i) (caller-notes cache.config n below)))
-      [] [] (no-notes (length h.ended.callers) h.ended.feeder (ap (λ (l : List PartyPlace). get_elem? l (length h.ended.callers)) h.ended.are ∙ get_last h.ended.callers h.ended.feeder))
-      (feeder-notes cache.config))

@@ -1,5 +1,5 @@
 -- Callers that do the lines of a group at once, and beside them the feeder, which has the cache device meanwhile.
-use Rattle.std.specs.Prelude.{◌≤◌, ℕ, List, filter, length}
+use Rattle.std.specs.Prelude.{◌≡◌, ◌≤◌, ℕ, List, filter, length}
 use Rattle.blk_ptr.specs.declared.ptr.Ptr.{Ptr}
 use Rattle.vdev_io.specs.declared.device.CacheDev.{Ghosts}
 use Rattle.turn_table.specs.Places.{Place}
@@ -9,6 +9,7 @@ use Rattle.arc_table.specs.Items.{Meanings}
 use Rattle.trace_text.specs.declared.op.Op.{Op}
 use Rattle.trace_text.specs.declared.reply.Reply.{Reply}
 use Rattle.trace_run.specs.declared.device.Device.{Device}
+use Rattle.trace_run.specs.declared.device.Device.TheVariants as device
 use Rattle.trace_run.specs.Devices.{WasLent, lent_in}
 use Rattle.trace_run.specs.Feeds.{AreFedReplies, FeedDone, MadeFeedsOf, is_feed}
 use Rattle.trace_run.specs.Objects.{Line}
@@ -35,3 +36,15 @@ module _ {C D : Type 0} (m : Meanings C) (devices : Ghosts D) (cache : Cache) wh
     pub used : LendsAndFeeds feeds old new p q
     pub answered : AreFedReplies (lent_in old) (filter is_feed ops) feeds fed
     pub read : HaveRead devices blocks callers own (lent_in old) (lent_in used.lent) (lent_in used.later) (lent_in new)
+
+-- A device while groups are done: one that was not started is as it was; any other was read and fed, so it has its length and its kind.
+abbrev pub WasInUse : {D : Type 0} → Ghosts D → (old new : Device D) → Type 0
+WasInUse devices device.None device.None = Unit {0}
+WasInUse devices (device.Short old) (device.Short new) = new ≡ old
+WasInUse devices (device.Ready old) (device.Ready new) = (devices.size new.dev ≡ devices.size old.dev) × (devices.has_sectors new.dev ≡ devices.has_sectors old.dev)
+WasInUse devices device.None (device.Short new) = ⊥
+WasInUse devices device.None (device.Ready new) = ⊥
+WasInUse devices (device.Short old) device.None = ⊥
+WasInUse devices (device.Short old) (device.Ready new) = ⊥
+WasInUse devices (device.Ready old) device.None = ⊥
+WasInUse devices (device.Ready old) (device.Short new) = ⊥

@@ -53,7 +53,8 @@ pub record CameTo {C P D : Type 0} (pools : Ghosts P) (devices : Devices D) (g :
   pub cells : KeepsCells g old.party new.party
   pub kept : new.kept ≡ kept_after_lines blocks old.kept lines
   pub told : (did : List Act) (had : List Noted) → HasToldAll g did had old.party → HasToldAll g (did ++ acts_of_work g blocks old.kept lines) (had ++ noted_of_work lines) new.party
-  pub answers : (place : ℕ) → AnswersLines g (pools.size old.pool) (pools.told old.pool) place blocks old.party.own.about.openings new.party.own.seen old.kept lines
+  pub answers : (did : List Act) (had : List Noted) → HasToldAll g did had old.party
+      → (place : ℕ) → AnswersLines g (pools.size old.pool) (pools.told old.pool) place blocks old.party.own.about.openings new.party.own.seen old.party.number had old.kept lines
   pub calls : MakesCalls pools (calls_of_lines lines) old.pool new.pool
   pub asked : AsksGiven devices blocks lines was now
 
@@ -106,7 +107,8 @@ module _ {C P D : Type 0} where
     pub told : (before : List Act) (noted : List Noted) → HasToldAll cache.config before noted old.party
         → HasToldAll cache.config (before ++ acts_of_work cache.config blocks (map read_of old.kept) lines) (noted ++ noted_of_work lines) new.party
     pub cells : KeepsCells cache.config old.party new.party
-    pub answers : (place : ℕ) → AnswersLines cache.config (pools.size old.pool) (pools.told old.pool) place blocks old.party.own.about.openings new.party.own.seen (map read_of old.kept) lines
+    pub answers : (before : List Act) (noted : List Noted) → HasToldAll cache.config before noted old.party
+        → (place : ℕ) → AnswersLines cache.config (pools.size old.pool) (pools.told old.pool) place blocks old.party.own.about.openings new.party.own.seen n noted (map read_of old.kept) lines
     pub calls : MakesCalls pools (calls_of_lines lines) old.pool new.pool
     pub asked : AsksGiven devices blocks lines old.device new.device
 

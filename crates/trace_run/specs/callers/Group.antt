@@ -1,5 +1,6 @@
 -- The work of several callers at once, each by its own lines, with its own party and its own fork of the pool.
-use Rattle.std.specs.Prelude.{◌≡◌, ◌<◌, ◌≤◌, ℕ, List, filter, length, map, min, ◌++◌}
+use Rattle.std.specs.Prelude.{◌≡◌, ◌<◌, ◌≤◌, ℕ, List, filter, length, map, min, take, ◌++◌}
+use Rattle.std.specs.Option.{option_map}
 use mathlib.Core.Option.{some}
 use lib.ListN.{get_elem?}
 use Rattle.std.specs.List.{AllByRecursion}
@@ -17,7 +18,7 @@ use Rattle.vdev_io.specs.declared.device.CacheDev.{Ghosts as Devices}
 use Rattle.vdev_io.specs.declared.pool.Pool.{Ghosts}
 use Rattle.vdev_io.specs.Faults.{last_count, sum_of_counts}
 use Rattle.trace_run.specs.declared.device.Device.{Device}
-use Rattle.trace_run.specs.Deeds.{KeepsCells, Noted}
+use Rattle.trace_run.specs.Deeds.{HasToldAll, KeepsCells, Noted}
 use Rattle.trace_run.specs.KeptBlocks.{read_of}
 use Rattle.trace_run.specs.Lines.{is_of_caller}
 use Rattle.trace_run.specs.Meeting.{Waits}
@@ -36,7 +37,8 @@ pub record HasWorked {C P : Type 0} (cache : Cache) (pools : Ghosts P) (blocks :
       → Waits cache n (acts ++ acts_of_work cache.config blocks (map read_of had) lines) (noted ++ noted_of_work lines) kept q
   pub keeps : map read_of kept ≡ kept_after_lines blocks (map read_of had) lines
   pub cells : KeepsCells cache.config p q
-  pub answers : (place : ℕ) → AnswersLines cache.config (pools.size fork) (pools.told fork) place blocks p.own.about.openings q.own.seen (map read_of had) lines
+  pub answers : (acts : List Act) (noted : List Noted) → HasToldAll cache.config acts noted p
+      → (place : ℕ) → AnswersLines cache.config (pools.size fork) (pools.told fork) place blocks p.own.about.openings q.own.seen n noted (map read_of had) lines
   pub calls : MakesCalls pools (calls_of_lines lines) fork done
 
 -- what stands of the caller of a number in these lists
@@ -56,6 +58,12 @@ pub record IsFork {P : Type 0} (pools : Ghosts P) (pool fork : P) : Type 0 where
 pub record LeavesPool {P : Type 0} (pools : Ghosts P) (old new : P) : Type 0 where
   pub size : pools.size new ≡ pools.size old
   pub told : pools.told new ≡ pools.told old
+  pub faults : min (pools.faults old) last_count ≤ pools.faults new
+
+-- The same, where what it tells is the same up to this place.
+pub record LeavesFront {P : Type 0} (pools : Ghosts P) (place : ℕ) (old new : P) : Type 0 where
+  pub size : pools.size new ≡ pools.size old
+  pub told : option_map (take place) (pools.told new) ≡ option_map (take place) (pools.told old)
   pub faults : min (pools.faults old) last_count ≤ pools.faults new
 
 -- the work of the caller of a number, by its places in these lists

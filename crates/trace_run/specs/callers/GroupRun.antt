@@ -1,6 +1,5 @@
 -- The run of a trace with several callers over the shared cache.
 use Rattle.std.specs.Prelude.{◌≡◌, ◌<◌, ◌^◌, ◌+◌, ℕ, List, [], Option, length, sum_by}
-use Rattle.std.specs.List.{AllByRecursion}
 use mathlib.Core.Option.{some}
 use lib.ListN.{get_elem?}
 use Rattle.arc_core.specs.declared.event.Event.{Event}
@@ -24,7 +23,7 @@ use Rattle.trace_run.specs.one_caller.Alone.{ends_in, histories_of}
 use Rattle.trace_run.specs.Answers.{AnswersAll}
 use Rattle.trace_run.specs.Explaining.{Explain}
 use Rattle.trace_run.specs.CellEnds.{AreCellsOf, EndedCrew}
-use Rattle.trace_run.specs.ObjectAnswers.{IsAnsweredByCell}
+use Rattle.trace_run.specs.ObjectAnswers.{AreAnsweredByCells}
 use Rattle.trace_run.specs.RunWork.{IsRunWork, RunWork, noted_by}
 use Rattle.trace_run.specs.callers.DeviceForks.{UsedInGroups}
 use Rattle.trace_run.specs.Deeds.{Noted}
@@ -52,7 +51,7 @@ pub record HaveClosed {C : Type 0} (m : Meanings C) (cache : Cache) (crew : Crew
 pub record RanTogether {P D : Type 0} (pools : Ghosts P) (devices : Devices D) (before after : P) (was is : Option D) (place : ℕ) (trace : Trace) (ending : Ending) (restored : List Restored) (replies : List Reply) (work : RunWork) (closed : Ended OnHeap) : Type 0 where
   pub did : IsRunWork trace.config (answered_ops trace ending replies) replies work
   pub answers : AnswersAll (pools.size before) (pools.told before) trace.blocks (answered_ops trace ending replies) replies
-  pub objects : AllByRecursion (IsAnsweredByCell trace.config (pools.size before) (pools.told before) place closed.cells) work.lines
+  pub objects : AreAnsweredByCells trace.config (pools.size before) (pools.told before) place closed.cells work.lines
   pub config : closed.config ≡ trace.config
   pub explained : Explain trace restored work replies (ends_in closed) (histories_of closed)
   pub cells : AreCellsOf trace (noted_by trace.config work) closed

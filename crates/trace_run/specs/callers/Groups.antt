@@ -1,5 +1,5 @@
 -- Several callers between two groups of a trace: what all lines so far came to.
-use Rattle.std.specs.Prelude.{◌≡◌, ◌⊎◌, ◌<◌, ◌≤◌, ◌+◌, ◌%◌, ◌^◌, ℕ, suc, Bool, true, false, List, [], Option, Some, None, count_by, filter, length, map, slice_get, slice_index_or, take}
+use Rattle.std.specs.Prelude.{◌≡◌, ◌⊎◌, ◌<◌, ◌≤◌, ◌+◌, ◌%◌, ◌^◌, ℕ, suc, Bool, true, false, List, [], Result, Ok, Err, Option, Some, None, count_by, filter, length, map, slice_get, slice_index_or, take}
 use Rattle.std.specs.List.{AllByRecursion}
 use Rattle.blk_ptr.specs.Size.{sector}
 use Rattle.blk_ptr.specs.declared.ptr.Ptr.{Ptr}
@@ -14,6 +14,7 @@ use Rattle.dbuf_cells.specs.Turns.{OnHeap}
 use Rattle.dbuf_state.specs.Numbers.{opening_numbers}
 use Rattle.dbuf_state.specs.Soundness.{IsSound}
 use Rattle.txg_sync.specs.Items.{SyncItem}
+use Rattle.txg_sync.specs.declared.syncing.SyncFault.{SyncFault}
 use Rattle.txg_sync.specs.declared.syncing.SyncFault.TheVariants as sync_fault
 use Rattle.txg_sync.specs.declared.syncing.Synced.{Synced as SyncAnswer}
 use Rattle.trace_text.specs.declared.op.Op.{Op}
@@ -30,11 +31,11 @@ use Rattle.trace_run.specs.declared.ran.Ending.{Ending}
 use Rattle.trace_run.specs.declared.ran.Ending.TheVariants.{Whole, Fork, Sync, Full}
 use Rattle.trace_run.specs.declared.kept_blocks.KeptBlock.{KeptBlock}
 use Rattle.trace_run.specs.Answers.{AnswersFeed, is_pool_fault}
-use Rattle.trace_run.specs.callers.Group.{HaveWorked, IsAt, LeavesPool}
+use Rattle.trace_run.specs.callers.Group.{HaveWorked, IsAt, LeavesFront, LeavesPool}
 use Rattle.trace_run.specs.Feeds.{is_feed}
 use Rattle.trace_run.specs.KeptBlocks.{read_of}
 use Rattle.trace_run.specs.Lines.{caller_of, replies_where}
-use Rattle.trace_run.specs.Meeting.{HasSettled, IsFed, Resized, Waits}
+use Rattle.trace_run.specs.Meeting.{IsFed, Resized, Waits}
 use Rattle.trace_run.specs.Objects.{Line, Work, no_work, replies_of}
 use Rattle.trace_run.specs.Openings.{Knows, openings_of}
 use Rattle.trace_run.specs.one_caller.OverShards.{AreNamed}
@@ -44,7 +45,7 @@ use Rattle.trace_run.specs.RunWork.{AllFit, IsRunWork, RunWork, acts_of_syncs, k
 use Rattle.trace_run.specs.callers.Beside.{WorksBeside}
 use Rattle.trace_run.specs.callers.DeviceForks.{UsedInGroups}
 use Rattle.trace_run.specs.callers.WorkLines.{AnswersLines, AreLinesOf, acts_of_work, calls_of_lines, noted_of_work}
-use Rattle.trace_run.specs.callers.Together.{AreCut, BeginsGroup, BetweenGroups, StopsSync, WorkInGroups, between_groups, groups_done, over_callers}
+use Rattle.trace_run.specs.callers.Together.{AreCut, BeginsGroup, BetweenGroups, IsFirstPlace, StopsSync, WorkInGroups, between_groups, groups_done, over_callers}
 
 -- the line gave a capacity, and is answered so; or it is a sync that is answered; or it asked for a feed, and is answered by its report, or by none
 abbrev pub IsEndLine : Op → Reply → Type 0
@@ -68,7 +69,7 @@ module _ {C : Type 0} where
   pub record HasCome (cache : Cache) (pool_len : ℕ) (image : Option (List ℕ)) (place : ℕ) (blocks : List Ptr) (n : ℕ) (lines : List Line) (kept : List KeptBlock) (p : Place (Known C)) : Type 0 where
     pub waits : Waits cache n (acts_of_work cache.config blocks [] lines) (noted_of_work lines) kept p
     pub keeps : map read_of kept ≡ kept_after_lines blocks [] lines
-    pub answers : AnswersLines cache.config pool_len image place blocks p.own.about.openings p.own.seen [] lines
+    pub answers : AnswersLines cache.config pool_len image place blocks p.own.about.openings p.own.seen n [] [] lines
 
   -- the caller of a number in a crew
   pub record ComesAt (cache : Cache) (pool_len : ℕ) (image : Option (List ℕ)) (place : ℕ) (blocks : List Ptr) (n : ℕ) (lines : List Line) (crew : Crew C) : Type 0 where
@@ -77,7 +78,7 @@ module _ {C : Type 0} where
     pub at : IsAt n crew.kept.items crew.parties.items reads party
     pub come : HasCome cache pool_len image place blocks n lines reads party
 
-  -- All callers and the feeder have come to this by these lines, with this work beside their replies, where these keys were restored. The feeder has settled all that it picked. What it
+  -- All callers and the feeder have come to this by these lines, with this work beside their replies, where these keys were restored. What the feeder
   -- has seen of each shard begins with the restores, and is cut by the lines that end groups.
   pub record HaveCome (cache : Cache) (restored : List Restored) (pool_len : ℕ) (image : Option (List ℕ)) (place : ℕ) (blocks : List Ptr) (ops : List Op) (replies : List Reply) (work : RunWork) (crew : Crew C) : Type 0 where
     pub did : IsRunWork cache.config ops replies work
@@ -86,15 +87,14 @@ module _ {C : Type 0} where
     pub parties : length crew.parties.items ≡ cache.config.callers
     pub each : (n : ℕ) → n < cache.config.callers → ComesAt cache pool_len image place blocks n (lines_of_caller n work.lines) crew
     pub ended : AreEndLines ops replies
-    pub settled : HasSettled crew.feeder
     pub feeder : IsFed cache crew.feeder.own.about.openings (events_by_feeder cache.config restored ops replies work.feeds) (λ shard. seen_of cache.config shard crew.feeder)
         (acts_of_syncs cache.config blocks work) (noted_of_syncs work) crew.feeder
     pub begun : (shard : ℕ) → shard < cache.config.shards → StartsWith (seen_of cache.config shard crew.feeder) (restores_in cache.config restored shard)
     pub cut : (shard : ℕ) → shard < cache.config.shards → AreCut cache.config restored blocks shard work (seen_of cache.config shard crew.feeder)
 
--- what the pool counts once the callers did these lines, group by group
-pub record HaveCounted {P : Type 0} (pools : Ghosts P) (callers : ℕ) (lines : List Line) (before now : P) : Type 0 where
-  pub keeps : LeavesPool pools before now
+-- What the pool counts once the callers did these lines, group by group; it tells what it told up to the place from which syncs write.
+pub record HaveCounted {P : Type 0} (pools : Ghosts P) (place callers : ℕ) (lines : List Line) (before now : P) : Type 0 where
+  pub keeps : LeavesFront pools place before now
   pub reads : pools.reads before < 2 ^ 63 → pools.reads now ≡ pools.reads before + over_callers callers (λ n. length (calls_of_lines (lines_of_caller n lines)))
   pub faults : pools.faults before < 2 ^ 63 → pools.faults now ≡ pools.faults before + over_callers callers (λ n. count_by is_pool_fault (replies_of (lines_of_caller n lines)))
 
@@ -122,7 +122,10 @@ pub record HaveReached {P D : Type 0} (cache : Cache) (restored : List Restored)
   pub come : HaveCome cache restored (pools.size before.pool) (pools.told before.pool) before.next trace.blocks (take (length replies) trace.ops) replies work crew
   -- the feeder knows how the cells began
   pub knows : Knows (openings_of trace) crew.feeder
-  pub counted : HaveCounted pools cache.config.callers work.lines before.pool now.pool
+  -- syncs write behind all declared blocks
+  pub first : IsFirstPlace (pools.size before.pool) trace.blocks before.next
+  pub behind : before.next ≤ now.next
+  pub counted : HaveCounted pools before.next cache.config.callers work.lines before.pool now.pool
   pub groups : WorkInGroups pools cache.config (StoodFresh (openings_of trace) cache.config.cells) (groups_done ending work.lines) before now
   pub used : UsedInGroups devices trace.blocks cache.config.callers (groups_done ending work.lines) work.feeds was is
 
@@ -142,22 +145,27 @@ pub record DidLinesAtOnce {P D : Type 0} (m : Meanings OnHeap) (cache : Cache) (
   pub beside : WorksBeside m devices cache blocks ops (length old.parties.items) (λ n. lines_of_caller n lines) (replies_where is_feed ops replies) was now old.feeder new.feeder
 
 -- every shard was given a capacity
-pub record DidCap {C P : Type 0} (cache : Cache) (c : ℕ) (from to : BetweenGroups P) (old new : Crew C) (reply : Reply) : Type 0 where
-  pub answer : reply ≡ Capped c
+pub record DidCap {C P : Type 0} (cache : Cache) (c : ℕ) (from to : BetweenGroups P) (old new : Crew C) (came : Result Reply Ending) : Type 0 where
+  pub answer : came ≡ Ok (Capped c)
   pub resized : Resized cache c old.feeder old.parties.items new.feeder new.parties.items
   pub stays : to ≡ between_groups from.pool (suc from.group) from.next
 
--- all dirty blocks were written at this tick
-pub record DidSync {P : Type 0} (cache : Cache) (pools : Ghosts P) (t : ℕ) (from to : BetweenGroups P) (old new : Crew OnHeap) (reply : Reply) : Type 0 where
-  pub done : SyncAnswer
-  pub answer : reply ≡ Synced from.group done.blocks done.bytes
-  pub synced : SyncedJoined pools cache from.group t from.next from.pool to.pool old.feeder old.parties.items new.feeder new.parties.items done
-  pub group : to.group ≡ suc from.group
-  pub next : to.next ≡ done.next
+-- What a sync came to is told so: the next group stands behind it; or the lines end there.
+abbrev pub TellsSync : {P : Type 0} → (from to : BetweenGroups P) → Result SyncAnswer SyncFault → Result Reply Ending → Type 0
+TellsSync from to (Ok done) came = (came ≡ Ok (Synced from.group done.blocks done.bytes)) × (to.group ≡ suc from.group) × (to.next ≡ done.next)
+TellsSync from to (Err sync_fault.PoolFault) came = came ≡ Err Sync
+TellsSync from to (Err (sync_fault.PoolFull need left)) came = came ≡ Err (Full need left)
+TellsSync from to (Err sync_fault.NoMemory) came = ⊥
 
--- a line that ends a group was done, and this is the reply
-pub record DidEndLine {P : Type 0} (cache : Cache) (pools : Ghosts P) (op : Op) (from to : BetweenGroups P) (old new : Crew OnHeap) (reply : Reply) : Type 0 where
-  pub did : ((c : ℕ) × (op ≡ Cap c) × DidCap cache c from to old new reply) ⊎ ((t : ℕ) × (op ≡ Txg t) × DidSync cache pools t from to old new reply)
+-- all dirty blocks were written at this tick, or the sync stopped
+pub record DidSync {P : Type 0} (cache : Cache) (pools : Ghosts P) (t : ℕ) (from to : BetweenGroups P) (old new : Crew OnHeap) (came : Result Reply Ending) : Type 0 where
+  pub sync : Result SyncAnswer SyncFault
+  pub synced : SyncedJoined pools cache from.group t from.next from.pool to.pool old.feeder old.parties.items new.feeder new.parties.items sync
+  pub told : TellsSync from to sync came
+
+-- a line that ends a group was done, and this is the reply, or how the lines end
+pub record DidEndLine {P : Type 0} (cache : Cache) (pools : Ghosts P) (op : Op) (from to : BetweenGroups P) (old new : Crew OnHeap) (came : Result Reply Ending) : Type 0 where
+  pub did : ((c : ℕ) × (op ≡ Cap c) × DidCap cache c from to old new came) ⊎ ((t : ℕ) × (op ≡ Txg t) × DidSync cache pools t from to old new came)
   pub kept : new.kept.items ≡ old.kept.items
 
 -- a fork of the pool failed: the pool has counted that, and nothing else has changed but counts

@@ -1,11 +1,12 @@
 -- A caller's lines, those on objects among them, each with what it did beside its reply; and what such lines come to, one after another.
-use Rattle.std.specs.Prelude.{◌≡◌, ◌≢◌, ℕ, List, [], ◌∷◌, ◌++◌, Option, Some, None, take}
+use Rattle.std.specs.Prelude.{◌≡◌, ◌≢◌, ℕ, List, [], ◌∷◌, ◌++◌, Option, Some, None, IfSome, take}
 use Rattle.std.specs.Option.{option_map}
 use Rattle.std.specs.List.{AllByRecursion}
 use Rattle.blk_ptr.specs.declared.ptr.Ptr.{Ptr}
 use Rattle.vdev_io.specs.declared.device.CacheDev.{Ghosts as DeviceGhosts}
 use Rattle.vdev_io.specs.declared.pool.Pool.{Ghosts as PoolGhosts}
 use Rattle.vdev_io.specs.Calls.{Call, KeepsPool, MakesCalls}
+use Rattle.arc_core.specs.Config.{IsConfig}
 use Rattle.arc_core.specs.declared.config.Config.{Config}
 use Rattle.arc_core.specs.declared.served.Served.TheVariants as served
 use Rattle.arc_core.specs.Operations.{Act}
@@ -107,10 +108,12 @@ size_brought Nothing = 0
 size_brought (Loaded ptr from) = ptr.key.size
 size_brought (Refused ptr) = ptr.key.size
 
--- The line came to this, by what the contract of its call says; its work fits it; its acts and its entries of cells are told; and the pool and the cache device were
+-- The line came to this, by what the contract of its call says; it has its answer, by how its cell was found; its work fits it; its acts and its entries of cells are told; and the pool and the cache device were
 -- read for what was brought, and for nothing else.
 pub record DidWorkLine {P D : Type 0} (pools : PoolGhosts P) (devices : DeviceGhosts D) (g : Config) (blocks : List Ptr) (kept : List KeptRead) (before now : Outside P D) (p q : PartyPlace) (l : Line) : Type 0 where
   pub came : DidObjectLine pools devices g before now p q l.op l.reply
+  pub answers : IsConfig g → (did : List Act) (had : List Noted) → HasToldAll g did had p
+      → IfSome (on_object l.op) (λ on. AnswersFrom g (pools.size before.pool) (pools.told before.pool) p.own.about.openings q.own.seen p.number had on.at l)
   pub fits : IsWorkOf g p.number l
   pub number : q.number ≡ p.number
   pub told : (did : List Act) (had : List Noted) → HasToldAll g did had p → HasToldAll g (did ++ acts_with g blocks kept l) (had ++ l.work.noted) q
@@ -154,17 +157,18 @@ at_work party kept outside = record { party = party; kept = kept; outside = outs
 abbrev pub HasFront : (place : ℕ) → (first now : Option (List ℕ)) → Type 0
 HasFront place first now = option_map (take place) now ≡ option_map (take place) first
 
--- A line has its answer, where its caller keeps these reads: one on an object by how its cell was found, from which what is seen now goes on, and over what the pool told
--- then. Behind a sync that differs from what it told at first from the place of the first sync on.
-abbrev pub AnswersLine : Config → (pool_len : ℕ) → Option (List ℕ) → (place : ℕ) → List Ptr → (openings : List (List ℕ)) → (seen : List (List Seen)) → List KeptRead → Option OnObject → Line → Type 0
-AnswersLine g pool_len image place blocks openings seen kept None l = AnswersNow pool_len image blocks kept l.op l.reply
-AnswersLine g pool_len image place blocks openings seen kept (Some on) l = (now : Option (List ℕ)) × HasFront place image now × AnswersFrom g pool_len now openings seen on.at l.op l.reply
+-- A line of the caller n has its answer, where the caller had done this to cells and keeps these reads: one on an object by how its cell was found, from which what is seen now goes
+-- on, and over what the pool told then. Behind a sync that differs from what it told at first from the place of the first sync on.
+abbrev pub AnswersLine : Config → (pool_len : ℕ) → Option (List ℕ) → (place : ℕ) → List Ptr → (openings : List (List ℕ)) → (seen : List (List Seen)) → (n : ℕ) → List Noted → List KeptRead → Option OnObject → Line → Type 0
+AnswersLine g pool_len image place blocks openings seen n had kept None l = AnswersNow pool_len image blocks kept l.op l.reply
+AnswersLine g pool_len image place blocks openings seen n had kept (Some on) l = (now : Option (List ℕ)) × HasFront place image now × AnswersFrom g pool_len now openings seen n had on.at l
 
 -- each has, one after another
-abbrev pub AnswersLines : Config → (pool_len : ℕ) → Option (List ℕ) → (place : ℕ) → List Ptr → (openings : List (List ℕ)) → (seen : List (List Seen)) → List KeptRead → List Line → Type 0
-AnswersLines g pool_len image place blocks openings seen kept [] = Unit {0}
-AnswersLines g pool_len image place blocks openings seen kept (l ∷ ls) =
-    AnswersLine g pool_len image place blocks openings seen kept (on_object l.op) l × AnswersLines g pool_len image place blocks openings seen (kept_after blocks l.op l.reply kept) ls
+abbrev pub AnswersLines : Config → (pool_len : ℕ) → Option (List ℕ) → (place : ℕ) → List Ptr → (openings : List (List ℕ)) → (seen : List (List Seen)) → (n : ℕ) → List Noted → List KeptRead → List Line → Type 0
+AnswersLines g pool_len image place blocks openings seen n had kept [] = Unit {0}
+AnswersLines g pool_len image place blocks openings seen n had kept (l ∷ ls) =
+    AnswersLine g pool_len image place blocks openings seen n had kept (on_object l.op) l
+    × AnswersLines g pool_len image place blocks openings seen n (had ++ l.work.noted) (kept_after blocks l.op l.reply kept) ls
 
 -- the lines of these operations with these replies, each with some work
 abbrev pub AreLinesOf : List Op → List Reply → List Line → Type 0

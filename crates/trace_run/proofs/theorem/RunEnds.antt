@@ -1,0 +1,370 @@
+-- What the closed cache of several callers' run explains: their lines with their work, the feeder's syncs and feeds, and the cells' ends.
+use Rattle.std.proofs.Common.{◌≡◌, ◌≢◌, ℕ, zero, suc, ◌+◌, ◌<◌, ◌≤◌, ◌==◌, Bool, true, false, if◌then◌else◌, List, [], ◌∷◌, ◌++◌, length, length-append, get_or, map, take, Option, Some, None, append-nil, append_assoc, refl, sym, ap, ◌∙◌, subst, inl, inr, arith, eq-eqb, ne_eqb}
+use Rattle.std.specs.Prelude.{filter, slice_get, slice_index_or, sum_by}
+use Rattle.std.specs.List.{AllByRecursion}
+use Rattle.std.proofs.lemmas.Bool.{eqb-true}
+use Rattle.std.proofs.lemmas.List.{length-map}
+use mathlib.Core.Option.{some, some-injective, some-ne-none}
+use lib.ListN.{get_elem?}
+use Rattle.arc_lists.proofs.Tables.{cases_true}
+use Rattle.blk_ptr.specs.Hash.{shard_of}
+use Rattle.blk_ptr.specs.declared.ptr.Ptr.{Ptr}
+use Rattle.arc_core.specs.Config.{IsConfig}
+use Rattle.arc_core.specs.declared.config.Config.{Config}
+use Rattle.arc_core.specs.declared.event.Event.{Event}
+use Rattle.arc_core.specs.declared.served.Restored.{Restored}
+use Rattle.arc_core.specs.Operations.{Act, Fails, GivesBack, Keeps, Loads, MakesPrivate, Reads, RunsOut, RunsOutAtDbuf, Tell, Writes, actor_of, acts_in, moments, own_events, own_moments, pool_reads}
+use Rattle.arc_core.specs.ShardLog.{ShardLog}
+use Rattle.arc_table.specs.declared.about.About.{About}
+use Rattle.arc_table.specs.declared.view.Line.{Line as Seen}
+use Rattle.arc_table.specs.Ended.{Ended}
+use Rattle.arc_table.specs.Cache.{Cache}
+use Rattle.arc_table.specs.Fronts.{StartsWith}
+use Rattle.arc_table.specs.Geometry.{IsCell, parties_of}
+use Rattle.arc_table.specs.Seen.{events_in, seen_of}
+use Rattle.arc_table.specs.TableLaws.{get_front, within}
+use Rattle.arc_table.specs.Telling.{opening_of}
+use Rattle.arc_table.proofs.TableLaws.{get_last, there}
+use Rattle.dbuf_cells.specs.Turns.{OnHeap, PartyPlace, dbuf_meanings}
+use Rattle.trace_text.specs.declared.op.Op.{Op}
+use Rattle.trace_text.specs.declared.reply.Reply.{Reply}
+use Rattle.trace_text.specs.declared.trace.Trace.{Trace}
+use Rattle.trace_run.specs.declared.groups.Crew.{Crew}
+use Rattle.trace_run.specs.declared.kept_blocks.KeptBlock.{KeptBlock}
+use Rattle.trace_run.specs.Acts.{acts_of_drops, events_of_feeder}
+use Rattle.trace_run.specs.Answers.{AnswersAll, is_pool_fault}
+use Rattle.trace_run.specs.CellEnds.{AreCellsOf, EndedCrew, IsCellDrop, ends_from}
+use Rattle.trace_run.specs.Deeds.{HasToldAll, HasToldOthers, Noted, acts_of_events, events_there, lines_of_cell}
+use Rattle.trace_run.specs.Explaining.{BeginsWith, EndsWith, Explain, drops_at_end}
+use Rattle.trace_run.specs.FeedEvents.{events_of_line, events_of_lines, feeds_behind}
+use Rattle.trace_run.specs.Feeds.{FeedDone}
+use Rattle.trace_run.specs.KeptBlocks.{holds_in, read_of}
+use Rattle.trace_run.specs.KeptReads.{KeptRead}
+use Rattle.trace_run.specs.Lines.{caller_of, is_of_caller, replies_where}
+use Rattle.trace_run.specs.MadeLines.{made_of}
+use Rattle.trace_run.specs.Meeting.{HasSettled, HaveGivenBack, IsLevel, Waits, drops_from}
+use Rattle.trace_run.specs.Objects.{Line}
+use Rattle.trace_run.specs.one_caller.Alone.{ends_in, histories_of}
+use Rattle.trace_run.specs.one_caller.OneCaller.{events_of_drops, kept_after, kept_after_all}
+use Rattle.trace_run.specs.Openings.{Knows, openings_of}
+use Rattle.trace_run.specs.Restores.{events_by_feeder, restores_in}
+use Rattle.trace_run.specs.RunWork.{IsRunWork, RunWork, acts_by, acts_of_caller_lines, acts_of_syncs, kept_after_lines, lines_of_caller, noted_by, noted_of_syncs}
+use Rattle.trace_run.specs.callers.GroupRun.{HaveClosed, HaveStopped}
+use Rattle.trace_run.specs.callers.Groups.{HaveCome}
+use Rattle.trace_run.specs.callers.Together.{AreCut, IsCut, ends_group, over_callers, reads_of_caller}
+use Rattle.trace_run.specs.callers.WorkLines.{AnswersLines, AreLinesOf, calls_of_lines, noted_of_work}
+use Rattle.trace_run.proofs.CellLemmas.{all-empty}
+use Rattle.trace_run.proofs.callers.AfterEnds.{crew-long, crew-stopped, last-same}
+use Rattle.trace_run.proofs.callers.GroupCounts.{IsLineAct, acts-counted, over-same, reads_of_act}
+use Rattle.trace_run.proofs.callers.GroupRunLemmas.{come-wait, gave-at, gone-long, gone-stopped, lines-acts, lines-noted}
+use Rattle.trace_run.proofs.callers.MeetLemmas.{all-before, starts-then}
+use Rattle.trace_run.proofs.one_caller.TellLemmas.{all-map}
+use Rattle.trace_run.proofs.theorem.CellRun.{crew-cells}
+use Rattle.trace_run.proofs.theorem.CrewEnds.{crew-ended, crew-level}
+use Rattle.trace_run.proofs.theorem.LineActs.{Own, caller-own, own-fits}
+use Rattle.trace_run.proofs.theorem.LineAnswers.{lines-answered}
+use Rattle.trace_run.proofs.theorem.WorkEnds.{HasEndedWork, IsCallersAct, acts-same, begins-seen, own-told, reads-counted, work-explains, work-level}
+
+-- ---- lines that are not answered add nothing
+
+none-where : (test : Op → Bool) (l : List Op) → replies_where test l [] ≡ []
+none-where test [] = refl
+none-where test (o ∷ l) = refl
+
+none-kept : (blocks : List Ptr) (kept : List KeptRead) (l : List Op) → kept_after_all blocks kept l [] ≡ kept
+none-kept blocks kept [] = refl
+none-kept blocks kept (o ∷ l) = refl
+
+-- what a caller keeps behind its lines is what the replies say
+pub kept-lines : (blocks : List Ptr) (n : ℕ) (kept : List KeptRead) (os more : List Op) (rs : List Reply) (ls : List Line) → AreLinesOf os rs ls
+    → kept_after_lines blocks kept (lines_of_caller n ls) ≡ kept_after_all blocks kept (filter (is_of_caller n) (os ++ more)) (replies_where (is_of_caller n) (os ++ more) rs)
+kept-lines blocks n kept [] more [] [] are = sym (ap (kept_after_all blocks kept (filter (is_of_caller n) more)) (none-where (is_of_caller n) more) ∙ none-kept blocks kept (filter (is_of_caller n) more))
+kept-lines blocks n kept [] more [] (l ∷ ls) are = absurd are
+kept-lines blocks n kept [] more (r ∷ rs) ls are = absurd are
+kept-lines blocks n kept (o ∷ os) more [] ls are = absurd are
+kept-lines blocks n kept (o ∷ os) more (r ∷ rs) [] are = absurd are
+kept-lines blocks n kept (o ∷ os) more (r ∷ rs) (l ∷ ls) are = elim (cases_true (is_of_caller n o)) [
+  | inl own ↦
+      let mine : is_of_caller n l.op ≡ true = ap (is_of_caller n) are.0 ∙ own in
+      rw (mine, own) (kept-lines blocks n (kept_after blocks l.op l.reply kept) os more rs ls are.2
+      ∙ (λ i. kept_after_all blocks (kept_after blocks (are.0 i) (are.1 i) kept) (filter (is_of_caller n) (os ++ more)) (replies_where (is_of_caller n) (os ++ more) rs)))
+  | inr other ↦
+      let none : is_of_caller n l.op ≡ false = ap (is_of_caller n) are.0 ∙ other in
+      rw (none, other) (kept-lines blocks n kept os more rs ls are.2)
+]
+
+none-events : (g : Config) (shard : ℕ) (l : List Op) (feeds : List FeedDone) → events_of_lines g shard l [] feeds ≡ []
+none-events g shard [] feeds = refl
+none-events g shard (o ∷ l) feeds = refl
+
+feeder-lines : (g : Config) (shard : ℕ) (os more : List Op) (rs : List Reply) (feeds : List FeedDone) → length rs ≡ length os → events_of_lines g shard os rs feeds ≡ events_of_lines g shard (os ++ more) rs feeds
+feeder-lines g shard [] more [] feeds long = sym (none-events g shard more feeds)
+feeder-lines g shard [] more (r ∷ rs) feeds long = absurd (omega (arith, long))
+feeder-lines g shard (o ∷ os) more [] feeds long = absurd (omega (arith, long))
+feeder-lines g shard (o ∷ os) more (r ∷ rs) feeds long = ap (λ (l : List Event). events_of_line g shard o r feeds ++ l) (feeder-lines g shard os more rs (feeds_behind o r feeds) (omega (arith, long)))
+
+pub lines-long : (os : List Op) (rs : List Reply) (ls : List Line) → AreLinesOf os rs ls → length rs ≡ length os
+lines-long [] [] [] are = refl
+lines-long [] [] (l ∷ ls) are = absurd are
+lines-long [] (r ∷ rs) ls are = absurd are
+lines-long (o ∷ os) [] ls are = absurd are
+lines-long (o ∷ os) (r ∷ rs) [] are = absurd are
+lines-long (o ∷ os) (r ∷ rs) (l ∷ ls) are = ap suc (lines-long os rs ls are.2)
+
+-- ---- the drops of all callers, by what each keeps
+
+drops-are : (g : Config) (blocks : List Ptr) (shard n : ℕ) (ks : List (List KeptBlock)) (os : List Op) (rs : List Reply)
+    → ((k : ℕ) (x : List KeptBlock) → get_elem? ks k ≡ some x → map read_of x ≡ kept_after_all blocks [] (filter (is_of_caller (n + k)) os) (replies_where (is_of_caller (n + k)) os rs))
+    → drops_at_end g blocks shard n os rs ++ drops_from g shard n ks ≡ drops_at_end g blocks shard (n + length ks) os rs
+drops-are g blocks shard n [] os rs each = append-nil (drops_at_end g blocks shard n os rs) ∙ ap (λ (c : ℕ). drops_at_end g blocks shard c os rs) (let z : n ≡ n + length {A = List KeptBlock} [] = omega arith in z)
+drops-are g blocks shard n (k ∷ ks) os rs each =
+    let z : n + 0 ≡ n = omega arith in
+    let mine : map read_of k ≡ kept_after_all blocks [] (filter (is_of_caller n) os) (replies_where (is_of_caller n) os rs) =
+    each 0 k refl ∙ ap (λ (c : ℕ). kept_after_all blocks [] (filter (is_of_caller c) os) (replies_where (is_of_caller c) os rs)) z in
+    let now : List Event = events_of_drops n (holds_in g shard (map read_of k)) in
+    let more : suc n + length ks ≡ n + length (k ∷ ks) = omega arith in
+    sym (append_assoc (drops_at_end g blocks shard n os rs) now (drops_from g shard (suc n) ks))
+    ∙ (ap (λ (l : List KeptRead). (drops_at_end g blocks shard n os rs ++ events_of_drops n (holds_in g shard l)) ++ drops_from g shard (suc n) ks) mine
+    ∙ (drops-are g blocks shard (suc n) ks os rs
+    (λ j x at. let y : n + suc j ≡ suc n + j = omega arith in subst (λ (c : ℕ). map read_of x ≡ kept_after_all blocks [] (filter (is_of_caller c) os) (replies_where (is_of_caller c) os rs)) y (each (suc j) x at))
+    ∙ ap (λ (c : ℕ). drops_at_end g blocks shard c os rs) more))
+
+-- ---- cuts of a front are cuts of the whole
+
+pub cut-more : (g : Config) (restored : List Restored) (blocks : List Ptr) (shard : ℕ) (work ended : RunWork) (front history : List Event) → ended.lines ≡ work.lines → ended.feeds ≡ work.feeds → StartsWith history front
+    → AreCut g restored blocks shard work front → AreCut g restored blocks shard ended history
+cut-more g restored blocks shard work ended front history same_lines same_feeds starts cut k l at ends =
+    let c = cut k l (ap (λ (ls : List Line). slice_get ls k) (sym same_lines) ∙ at) ends in
+    subst (λ (x : List Line × List FeedDone). IsCut g restored blocks shard (take k x.0) x.1 (events_of_feeder g.callers l.op) history) (λ i. (sym same_lines i, sym same_feeds i)) record {
+      front = c.front;
+      rest = c.rest ++ starts.0;
+      whole = starts.1 ∙ (ap (λ (es : List Event). es ++ starts.0) c.whole
+          ∙ (append_assoc c.front (events_of_feeder g.callers l.op ++ c.rest) starts.0 ∙ ap (λ (es : List Event). c.front ++ es) (append_assoc (events_of_feeder g.callers l.op) c.rest starts.0)));
+      callers = c.callers;
+      feeder = c.feeder;
+    }
+
+-- ---- acts
+
+line-act : (g : Config) (act : Act) → IsCallersAct g act → IsLineAct act
+line-act g (Reads n t ptr from) is = tt
+line-act g (Keeps n t ptr from) is = tt
+line-act g (GivesBack n k) is = tt
+line-act g (Loads n t ptr from cell) is = tt
+line-act g (Fails n t ptr) is = tt
+line-act g (RunsOut n t ptr) is = absurd is
+line-act g (RunsOutAtDbuf n t ptr cell) is = absurd is
+line-act g (MakesPrivate cell k) is = absurd is
+line-act g (Writes cell t ptr) is = absurd is
+
+all-of : (n : ℕ) (acts : List Act) → AllByRecursion (λ act. actor_of act ≡ n) (filter (λ act. actor_of act == n) acts)
+all-of n [] = tt
+all-of n (act ∷ acts) = elim (cases_true (actor_of act == n)) [
+  | inl own ↦ rw own (eqb-true (actor_of act) n own, all-of n acts)
+  | inr other ↦ rw other (all-of n acts)
+]
+
+-- ---- the closed cache
+
+module _ (cache : Cache) (valid : IsConfig cache.config) (restored : List Restored) (len : ℕ) (image : Option (List ℕ)) (place : ℕ) (blocks : List Ptr) (os more : List Op) (rs : List Reply) (work : RunWork) (crew : Crew OnHeap)
+    (come : HaveCome cache restored len image place blocks os rs work crew) (closed : Ended OnHeap) (h : HaveClosed dbuf_meanings cache crew closed) where
+  abbrev g : Config
+  g = cache.config
+
+  abbrev c : EndedCrew cache h.parties h.closing
+  c = h.ended
+
+  -- the work of the run, with what was dropped as the cells were ended
+  abbrev pub ended-work : RunWork
+  ended-work = record work { ended = c.ended.drops }
+
+  abbrev pub acts : ℕ → List Act
+  acts n = acts_by g blocks ended-work n
+
+  abbrev pub noted : ℕ → List Noted
+  noted n = noted_by g ended-work n
+
+  abbrev feeds : (shard : ℕ) → List Event
+  feeds = events_by_feeder g restored (os ++ more) rs work.feeds
+
+  -- ---- the parties that gave back
+
+  gave : HaveGivenBack cache (lines-acts cache restored len image place blocks os rs work crew come) (lines-noted cache restored len image place blocks os rs work crew come) crew.feeder.own.about.openings (events_by_feeder g restored os rs work.feeds)
+      (λ shard. seen_of g shard crew.feeder) (acts_of_syncs g blocks work) (noted_of_syncs work) crew.kept.items h.parties
+  gave = h.gave (lines-acts cache restored len image place blocks os rs work crew come) (lines-noted cache restored len image place blocks os rs work crew come) (come-wait cache restored len image place blocks os rs work crew come)
+      crew.feeder.own.about.openings (events_by_feeder g restored os rs work.feeds) (λ shard. seen_of g shard crew.feeder) (acts_of_syncs g blocks work) (noted_of_syncs work) come.feeder
+
+  stopped : HaveStopped cache h.parties
+  stopped = gone-stopped cache _ _ _ _ _ _ _ crew.kept.items h.parties come.kepts gave
+
+  many-gave : length gave.callers ≡ g.callers
+  many-gave = gone-long cache _ _ _ _ _ _ _ crew.kept.items h.parties come.kepts gave
+
+  same-parties : (c.callers ≡ gave.callers) × (c.feeder ≡ gave.feeder)
+  same-parties = last-same c.callers gave.callers c.feeder gave.feeder (sym c.are ∙ gave.are)
+
+  many : length c.callers ≡ g.callers
+  many = ap length same-parties.0 ∙ many-gave
+
+  -- what a caller's number did in all
+  caller-acts : (n : ℕ) → n < g.callers → acts n ≡ acts_of_caller_lines g blocks n (lines_of_caller n work.lines)
+  caller-acts n below = let other : (n == g.callers) ≡ false = ne_eqb n g.callers (λ is. omega (arith, is, below)) in rw other refl
+
+  caller-noted : (n : ℕ) → n < g.callers → noted n ≡ noted_of_work (lines_of_caller n work.lines)
+  caller-noted n below = let other : (n == g.callers) ≡ false = ne_eqb n g.callers (λ is. omega (arith, is, below)) in rw other refl
+
+  feeder-acts : acts g.callers ≡ acts_of_syncs g blocks work ++ acts_of_events c.ended.drops
+  feeder-acts = let here : (g.callers == g.callers) ≡ true = eq-eqb g.callers g.callers refl in rw here refl
+
+  feeder-noted : noted g.callers ≡ noted_of_syncs work ++ ends_from g.callers 0 g.cells
+  feeder-noted = let here : (g.callers == g.callers) ≡ true = eq-eqb g.callers g.callers refl in rw here refl
+
+  -- each caller, once it has given back
+  caller-waits : (n : ℕ) (o : PartyPlace) → get_elem? c.callers n ≡ some o → (n < g.callers) × Waits cache n (acts n) (noted n) [] o
+  caller-waits n o at =
+      let at_gave : get_elem? gave.callers n ≡ some o = ap (λ (l : List PartyPlace). get_elem? l n) (sym same-parties.0) ∙ at in
+      let inside : n < g.callers = subst (λ (x : ℕ). n < x) many-gave (within gave.callers n o at_gave) in
+      let b = come.each n inside in
+      let k = gave-at cache (lines-acts cache restored len image place blocks os rs work crew come) (lines-noted cache restored len image place blocks os rs work crew come) 0 crew.kept.items gave.callers n o gave.gave at_gave in
+      let same : k.0 ≡ b.reads = some-injective k.0 b.reads (sym k.1 ∙ b.at.kept_at) in
+      let z : 0 + n ≡ n = omega arith in
+      let waits = subst (λ (x : ℕ). Waits cache x (lines-acts cache restored len image place blocks os rs work crew come x ++ acts_of_drops x (map read_of k.0)) (lines-noted cache restored len image place blocks os rs work crew come x) [] o) z k.2 in
+      let own : List KeptRead → List Act = λ x. lines-acts cache restored len image place blocks os rs work crew come n ++ acts_of_drops n x in
+      (inside, subst (λ (x : List Act × List Noted). Waits cache n x.0 x.1 [] o) (λ i. ((ap own (ap (map read_of) same ∙ b.come.keeps) ∙ sym (caller-acts n inside)) i, sym (caller-noted n inside) i)) waits)
+
+  caller-tells : (n : ℕ) (o : PartyPlace) → get_elem? c.callers n ≡ some o → HasToldAll g (acts n) (noted n) o
+  caller-tells n o at = (caller-waits n o at).1.told
+
+  -- ---- a caller's own acts
+
+  -- a caller's party, as it was between the groups
+  abbrev party-at : ℕ → PartyPlace
+  party-at n = get_or crew.parties.items n crew.feeder
+
+  party-is : (n : ℕ) (below : n < g.callers) → (come.each n below).party ≡ party-at n
+  party-is n below = at-or crew.parties.items n crew.feeder (come.each n below).party (come.each n below).at.party_at
+    where
+      at-or : (xs : List PartyPlace) (k : ℕ) (d x : PartyPlace) → get_elem? xs k ≡ some x → x ≡ get_or xs k d
+      at-or [] k d x at = absurd (some-ne-none x (sym at))
+      at-or (y ∷ ys) zero d x at = sym (some-injective y x at)
+      at-or (y ∷ ys) (suc k) d x at = at-or ys k d x at
+
+  line-answers : (n : ℕ) → n < g.callers → AnswersLines g len image place blocks (party-at n).own.about.openings (party-at n).own.seen n [] [] (lines_of_caller n work.lines)
+  line-answers n below = subst (λ (p : PartyPlace). AnswersLines g len image place blocks p.own.about.openings p.own.seen n [] [] (lines_of_caller n work.lines)) (party-is n below) (come.each n below).come.answers
+
+  caller-owns : (n : ℕ) (below : n < g.callers) → Own g valid n below (acts_of_caller_lines g blocks n (lines_of_caller n work.lines)) (length (calls_of_lines (lines_of_caller n work.lines)))
+  caller-owns n below = caller-own g valid n below len image place blocks (party-at n).own.about.openings (party-at n).own.seen (lines_of_caller n work.lines) (own-fits g n work.lines come.did.fits) (line-answers n below)
+
+  own-kinds : (n : ℕ) → n < g.callers → AllByRecursion (IsCallersAct g) (filter (λ act. actor_of act == n) (acts n))
+  own-kinds n below = subst (λ (l : List Act). AllByRecursion (IsCallersAct g) (filter (λ act. actor_of act == n) l)) (sym (caller-acts n below)) (caller-owns n below).kinds
+
+  -- ---- the parties that close the cache
+
+  long : length rs ≡ length os
+  long = lines-long os rs work.lines come.did.lines
+
+  same-feeder-number : gave.feeder.number ≡ g.callers
+  same-feeder-number = gave.fed.number
+
+  ended : (n : ℕ) (p : PartyPlace) → get_elem? h.closing n ≡ some p → HasEndedWork g (acts n) (noted n) feeds n p
+  ended = crew-ended cache h.parties h.closing c stopped many acts noted feeds caller-tells own-kinds (acts_of_syncs g blocks work) (noted_of_syncs work)
+      (subst (HasToldOthers g (acts_of_syncs g blocks work) (noted_of_syncs work)) (sym same-parties.1) gave.fed.told) (subst HasSettled (sym same-parties.1) gave.fed.settled)
+      (λ shard inside. subst (λ (p : PartyPlace). own_events g.callers (seen_of g shard p) ≡ feeds shard) (sym same-parties.1)
+      (subst (λ (n : ℕ). own_events n (seen_of g shard gave.feeder) ≡ feeds shard) gave.fed.number
+      (gave.fed.fed shard inside ∙ ap (λ (l : List Event). restores_in g restored shard ++ l) (feeder-lines g shard os more rs work.feeds long))))
+      feeder-acts feeder-noted
+
+  count : length h.closing ≡ parties_of g
+  count = crew-long cache h.parties h.closing c ∙ stopped.count
+
+  levels : AllByRecursion (IsLevel g gave.lines) c.callers × IsLevel g gave.lines c.feeder
+  levels = all-before (IsLevel g gave.lines) c.callers c.feeder (subst (AllByRecursion (IsLevel g gave.lines)) c.are gave.level)
+
+  abbrev fronts : ℕ → List Event
+  fronts shard = events_in (gave.lines shard) ++ events_there g shard c.ended.drops
+
+  all-level : (n : ℕ) (p : PartyPlace) → get_elem? h.closing n ≡ some p → (shard : ℕ) → seen_of g shard p ≡ fronts shard
+  all-level = crew-level cache h.parties h.closing c stopped many gave.lines levels.0 levels.1
+
+  -- each history is what all have seen
+  history-is : (i : ℕ) (l : ShardLog) → get_elem? closed.shards i ≡ some l → l.history ≡ fronts i
+  history-is i l at = work-level dbuf_meanings cache restored blocks (os ++ more) ended-work rs h.closing closed h.ends count ended fronts all-level i l at
+
+  -- what the feeder had seen between the groups begins it
+  since : (i : ℕ) (l : ShardLog) → get_elem? closed.shards i ≡ some l → StartsWith l.history (seen_of g i crew.feeder)
+  since i l at =
+      let same : seen_of g i gave.feeder ≡ events_in (gave.lines i) = ap (λ (p : PartyPlace). seen_of g i p) (sym same-parties.1) ∙ ap events_in (levels.1 i) in
+      let first : StartsWith l.history (seen_of g i gave.feeder) = (events_there g i c.ended.drops, history-is i l at ∙ ap (λ (es : List Event). es ++ events_there g i c.ended.drops) (sym same)) in
+      starts-then l.history (seen_of g i gave.feeder) (seen_of g i crew.feeder) first (gave.fed.since i)
+
+  begins-at : (i : ℕ) (l : ShardLog) → get_elem? closed.shards i ≡ some l → BeginsWith l.history (restores_in g restored i)
+  begins-at i l at =
+      let inside : i < g.shards = subst (λ (k : ℕ). i < k) h.ends.shards (within closed.shards i l at) in
+      starts-then l.history (seen_of g i crew.feeder) (restores_in g restored i) (since i l at) (come.begun i inside)
+
+  kept-at : (k : ℕ) (x : List KeptBlock) → get_elem? crew.kept.items k ≡ some x → map read_of x ≡ kept_after_all blocks [] (filter (is_of_caller (0 + k)) (os ++ more)) (replies_where (is_of_caller (0 + k)) (os ++ more) rs)
+  kept-at k x at =
+      let b = come.each k (subst (λ (n : ℕ). k < n) come.kepts (within crew.kept.items k x at)) in
+      let z : k ≡ 0 + k = omega arith in
+      subst (λ (n : ℕ). map read_of x ≡ kept_after_all blocks [] (filter (is_of_caller n) (os ++ more)) (replies_where (is_of_caller n) (os ++ more) rs)) z
+      (ap (map read_of) (some-injective x b.reads (sym at ∙ b.at.kept_at)) ∙ (b.come.keeps ∙ kept-lines blocks k [] os more rs work.lines come.did.lines))
+
+  ends-at : (i : ℕ) (l : ShardLog) → get_elem? closed.shards i ≡ some l → EndsWith l.history (drops_at_end g blocks i g.callers (os ++ more) rs ++ events_there g i ended-work.ended)
+  ends-at i l at =
+      let z : 0 + length crew.kept.items ≡ g.callers = omega (arith, come.kepts) in
+      let drops : drops_from g i 0 crew.kept.items ≡ drops_at_end g blocks i g.callers (os ++ more) rs =
+      drops-are g blocks i 0 crew.kept.items (os ++ more) rs kept-at ∙ ap (λ (n : ℕ). drops_at_end g blocks i n (os ++ more) rs) z in (
+        gave.first i,
+        history-is i l at ∙ (ap (λ (es : List Event). es ++ events_there g i c.ended.drops) (gave.drops i ∙ ap (λ (es : List Event). gave.first i ++ es) drops)
+            ∙ append_assoc (gave.first i) (drops_at_end g blocks i g.callers (os ++ more) rs) (events_there g i c.ended.drops)),
+      )
+
+  -- ---- the work is that of the lines
+
+  pub did-work : IsRunWork g os rs ended-work
+  did-work = record { lines = come.did.lines; fits = come.did.fits; stopped = come.did.stopped; fed = come.did.fed; ended = c.ended.are }
+
+  -- ---- the cells
+
+  module _ (trace : Trace) (config : g ≡ trace.config) (knows : Knows (openings_of trace) crew.feeder) where
+    knows-last : Knows (openings_of trace) c.last
+    knows-last = ap (λ (a : About). a.openings) c.ended.about ∙ (ap (λ (p : PartyPlace). p.own.about.openings) same-parties.1 ∙ (gave.fed.knows ∙ knows))
+
+    pub run-cells : AreCellsOf trace noted closed
+    run-cells = crew-cells cache h.parties h.closing c stopped closed h.ends trace config noted knows-last many (λ n o at i range. (caller-tells n o at).entries i range)
+        (acts_of_syncs g blocks work) (noted_of_syncs work) (subst (HasToldOthers g (acts_of_syncs g blocks work) (noted_of_syncs work)) (sym same-parties.1) gave.fed.told) feeder-noted
+
+    emptied : (j : ℕ) (x : OnHeap) → get_elem? closed.cells j ≡ some x → dbuf_meanings.holds x ≡ []
+    emptied = all-empty cache h.closing closed h.ends trace noted run-cells
+
+    -- The histories explain the replies and the work.
+    pub run-explains : Explain (record { config = g; blocks = blocks; objects = []; ops = os ++ more }) restored ended-work rs (ends_in closed) (histories_of closed)
+    run-explains = work-explains dbuf_meanings cache restored blocks (os ++ more) ended-work rs h.closing closed h.ends count ended emptied begins-at ends-at
+
+  -- ---- the reads of the pool
+
+  pub run-reads : over_callers g.callers (λ n. reads_of_caller n (histories_of closed)) ≡ sum_by pool_reads (histories_of closed)
+  run-reads = reads-counted dbuf_meanings cache restored blocks (os ++ more) ended-work rs h.closing closed h.ends count ended
+
+  line-acts : (acts : List Act) → AllByRecursion (IsCallersAct g) acts → AllByRecursion IsLineAct acts
+  line-acts acts kinds = all-map (IsCallersAct g) IsLineAct acts (line-act g) kinds
+
+  pub run-counted : (n : ℕ) → n < g.callers → length (calls_of_lines (lines_of_caller n work.lines)) ≡ reads_of_caller n (histories_of closed)
+  run-counted n below =
+      let own : List Act = filter (λ act. actor_of act == n) (acts n) in
+      let his : AllByRecursion (λ act. actor_of act ≡ n) own = all-of n (acts n) in
+      let all : sum_by reads_of_act own ≡ reads_of_caller n (histories_of closed) =
+      acts-counted g n own (histories_of closed) valid (length-map closed.shards (λ (log : ShardLog). log.history) ∙ h.ends.shards) (line-acts own (own-kinds n below)) his
+      (λ i es at. subst (λ (l : List Act). Tell l (own_moments n (moments (opening_of g) es))) (sym (acts-same (shard_of g.shards) i n (acts n)))
+      (own-told dbuf_meanings cache restored blocks (os ++ more) ended-work rs h.closing closed h.ends count ended n below i es at)) in
+      sym (ap (λ (l : List Act). sum_by reads_of_act (filter (λ act. actor_of act == n) l)) (caller-acts n below) ∙ (caller-owns n below).count) ∙ all
+
+  -- ---- cuts, and answers
+
+  pub run-cut : (i : ℕ) (l : ShardLog) → get_elem? closed.shards i ≡ some l → AreCut g restored blocks i ended-work l.history
+  run-cut i l at =
+      let inside : i < g.shards = subst (λ (k : ℕ). i < k) h.ends.shards (within closed.shards i l at) in
+      cut-more g restored blocks i work ended-work (seen_of g i crew.feeder) l.history refl refl (since i l at) (come.cut i inside)
+
+  pub run-answers : ((k : ℕ) (op : Op) → slice_get os k ≡ Some op → (n : ℕ) → caller_of op ≡ Some n → n < g.callers) → AnswersAll len image blocks os rs
+  run-answers below = lines-answered g len image place blocks (λ n. (party-at n).own.about.openings) (λ n. (party-at n).own.seen) (λ n. n < g.callers) os rs work.lines come.did.lines below come.ended line-answers
