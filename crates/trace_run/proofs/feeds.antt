@@ -4,3 +4,4 @@ pub mod FeedStands
 pub mod PickedLemmas
 pub mod SeriesLemmas
 pub mod StartLemmas
+pub mod UsedLemmas
