@@ -1,9 +1,11 @@
+pub mod AnsweredCells
 pub mod CellActs
 pub mod CellRun
 pub mod CloseLemmas
 pub mod CrewEnds
 pub mod EndLemmas
 pub mod FeederKinds
+pub mod FirstPlace
 pub mod GenLemmas
 pub mod HistoryLemmas
 pub mod LineActs
@@ -15,6 +17,7 @@ pub mod ReportLemmas
 pub mod RestLemmas
 pub mod RunEnds
 pub mod SourceLemmas
+pub mod TogetherRun
 pub mod ToldLemmas
 pub mod WordLemmas
 pub mod WorkEnds

@@ -46,7 +46,8 @@ use Rattle.trace_run.specs.Restores.{found_keys}
 use Rattle.trace_run.specs.States.{Handed}
 use Rattle.vdev_io.specs.Streams.{NoneFailed, OneFailed, StreamState}
 use Rattle.vdev_io.specs.Streams.{Gives, AppendsFront, TakesAtMost}
-use Rattle.trace_run.specs.callers.Together.{IsFirstPlace, RunsTogether, StopsSo, TellsClosed, answered_ops, faults_told, report_status}
+use Rattle.trace_run.specs.callers.DeviceForks.{UsedInGroups}
+use Rattle.trace_run.specs.callers.Together.{IsFirstPlace, RunsTogether, StopsSo, TellsClosed, answered_ops, faults_told, groups_done, report_status}
 use Rattle.trace_run.specs.Words.{IsCommand, IsFirstWrong}
 
 -- The words are a command, and this is what it did; or they are none, and their first wrong word is told.
@@ -109,6 +110,17 @@ pub record IsRun {P D : Type 0} (pool : Ghosts P) (device : Devices D) (before a
   -- a fork failed as a group began, or a sync stopped, which has no reply then
   pub stopped : StopsSo pool before after trace report.replies ending
 
+-- A run of a trace came to a report, and this is what it did beside its replies: the lines with their work, and what the feeder did. The cells began with the trace's lines; that was done
+-- to them, and they were ended. With several callers the cache device was read and fed just so; one caller's lines did nothing beside their replies.
+pub record HasRun {P D : Type 0} (pool : Ghosts P) (device : Devices D) (before after : P) (lent back : Option D) (trace : Trace) (ending : Ending) (closed : Ended OnHeap) (report : Report) : Type 0 where
+  pub work : RunWork
+  pub did : IsRunWork trace.config (answered_ops trace ending report.replies) report.replies work
+  pub run : IsRun pool device before after lent back trace ending work closed report
+  pub cells : AreCellsOf trace (noted_by trace.config work) closed
+  pub used : 2 ≤ trace.config.callers → UsedInGroups device trace.blocks trace.config.callers (groups_done ending work.lines) work.feeds lent back
+  pub plain : trace.config.callers ≡ 1 → work ≡ plain_work trace.ops report.replies
+  pub status : report.status ≡ report_status ending report.replies
+
 -- Room is told as missing with the numbers of the sync that stopped for it, and of no other end.
 abbrev pub TellsEnding : Status → Ending → Type 0
 TellsEnding (statuses.PoolFull need left) ending = ending ≡ Full need left
@@ -136,7 +148,7 @@ pub record IsReport {P D : Type 0} (pool : Ghosts P) (device : Devices D) (befor
   pub ending : Ending
   -- what the answered lines did beside their replies, and the feeder
   pub work : RunWork
-  pub used : WasUsed device (with_bound trace (device_len device.size before.cache)) work started after.cache
+  pub used : WasUsed device (with_bound trace (device_len device.size before.cache)) ending work started after.cache
   pub did : IsRunWork trace.config (answered_ops trace ending report.replies) report.replies work
   pub run : IsRun pool device before.pool after.pool (usable device started) (usable device after.cache) (with_bound trace (device_len device.size before.cache)) ending work closed report
   -- the cells began with the trace's lines; that was done to them, and they were ended
