@@ -4,6 +4,7 @@ use Rattle.vdev_io.specs.declared.device.CacheDev.{Ghosts}
 use Rattle.std.specs.Prelude.{nat_lt, true, false}
 use Rattle.std.proofs.lemmas.Bool.Decides.{nat_tests}
 use Rattle.l2_log.specs.Rules.{least_ring_end}
+use Rattle.l2_dev.specs.Cursor.{CursorState}
 use Rattle.l2_dev.specs.Reading.{OnlyRead}
 use Rattle.trace_text.specs.declared.rebuilt.Rebuilt.{Rebuilt}
 use Rattle.trace_run.specs.declared.device.Device.{Device}
@@ -114,14 +115,14 @@ module _ {D : Type 0} (devices : Ghosts D) where
   short-same x y lent kind none = unlent-same x y lent (sym (usable-lent x kind) ∙ none)
 
   -- one that was found, and is handed back, is not lost
-  pub found-kept : (before started after : Option D) (rebuilt : Option Rebuilt) → Finds devices before started rebuilt → IsHandedBack devices started after → MayLose devices before after
-  found-kept None None None rebuilt is back = tt
-  found-kept None None (Some c) rebuilt is back = absurd back
-  found-kept None (Some b) after rebuilt is back = cc
-  found-kept (Some a) None after rebuilt is back = absurd is
-  found-kept (Some a) (Some b) after None is back = absurd is
-  found-kept (Some a) (Some b) None (Some rebuilt) is back = tt
-  found-kept (Some a) (Some b) (Some c) (Some rebuilt) is back = only-then a b c is.only back
+  pub found-kept : (before started after : Option D) (first : Option CursorState) (rebuilt : Option Rebuilt) → Finds devices before started first rebuilt → IsHandedBack devices started after → MayLose devices before after
+  found-kept None None None first rebuilt is back = tt
+  found-kept None None (Some c) first rebuilt is back = absurd back
+  found-kept None (Some b) after first rebuilt is back = cc
+  found-kept (Some a) None after first rebuilt is back = absurd is
+  found-kept (Some a) (Some b) after first None is back = absurd is
+  found-kept (Some a) (Some b) None first (Some rebuilt) is back = tt
+  found-kept (Some a) (Some b) (Some c) first (Some rebuilt) is back = only-then a b c is.only back
 
   -- one that isn't touched is none that is lost
   pub nothing-lost : (cache : Option D) → MayLose devices cache cache

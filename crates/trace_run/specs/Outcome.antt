@@ -41,6 +41,7 @@ use Rattle.trace_run.specs.Explaining.{Explain, RunsAlone}
 use Rattle.trace_run.specs.Lines.{has_undone}
 use Rattle.trace_run.specs.ObjectAnswers.{AreAnsweredByCells}
 use Rattle.trace_run.specs.one_caller.PlainRun.{images, report_of}
+use Rattle.l2_dev.specs.Cursor.{CursorState}
 use Rattle.trace_run.specs.Restores.{found_keys}
 use Rattle.trace_run.specs.States.{Handed}
 use Rattle.vdev_io.specs.Streams.{NoneFailed, OneFailed, StreamState}
@@ -141,7 +142,9 @@ pub record IsReport {P D : Type 0} (pool : Ghosts P) (device : Devices D) (befor
   pub done : has_undone trace ≡ false
   -- the device behind its start
   pub started : Option D
-  pub found : Finds device before.cache started report.rebuilt
+  -- where it is written from then on
+  pub first : Option CursorState
+  pub found : Finds device before.cache started first report.rebuilt
   pub ending : Ending
   -- what the answered lines did beside their replies, and the feeder
   pub work : RunWork
