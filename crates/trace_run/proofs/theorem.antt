@@ -3,6 +3,7 @@ pub mod CellActs
 pub mod CellRun
 pub mod CloseLemmas
 pub mod CrewEnds
+pub mod DeviceUsed
 pub mod EndLemmas
 pub mod FeederKinds
 pub mod FirstPlace
