@@ -90,7 +90,7 @@ all-placed P [] each = tt
 all-placed P (e ∷ h) each = (each 0 e refl, all-placed P h (λ x f at. each (suc x) f at))
 
 -- where each owner is the number of what it did
-by-number : (owner : ℕ → ℕ) (n place : ℕ) (h : List CellEvent) → ((x : ℕ) (e : CellEvent) → get_elem? h x ≡ some e → owner (place + x) ≡ number_of e) → done_by n h ≡ owned_from owner n place h
+pub by-number : (owner : ℕ → ℕ) (n place : ℕ) (h : List CellEvent) → ((x : ℕ) (e : CellEvent) → get_elem? h x ≡ some e → owner (place + x) ≡ number_of e) → done_by n h ≡ owned_from owner n place h
 by-number owner n place [] each = refl
 by-number owner n place (e ∷ h) each = go (cases_true (number_of e == n)) (by-number owner n (suc place) h (λ x f at. let z : suc place + x ≡ place + suc x = omega arith in ap owner z ∙ each (suc x) f at))
   where
