@@ -1,9 +1,12 @@
+pub mod AnsweredCells
 pub mod CellActs
 pub mod CellRun
 pub mod CloseLemmas
 pub mod CrewEnds
+pub mod DeviceUsed
 pub mod EndLemmas
 pub mod FeederKinds
+pub mod FirstPlace
 pub mod GenLemmas
 pub mod HistoryLemmas
 pub mod LineActs

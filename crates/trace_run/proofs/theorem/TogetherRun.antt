@@ -55,7 +55,7 @@ use Rattle.trace_run.proofs.callers.GroupCounts.{over-add, over-one, over-same, 
 use Rattle.trace_run.proofs.callers.GroupRunLemmas.{all-callers}
 use Rattle.trace_run.proofs.callers.SyncRun.{failed-as, fresh-then, full-as, in-groups-as}
 use Rattle.trace_run.proofs.theorem.LineAnswers.{EndsWell, IsOfOne, end-lines, lines-replies, own-lines-of}
-use Rattle.trace_run.proofs.theorem.RunEnds.{did-work, ended-work, lines-long, run-answers, run-cells, run-counted, run-cut, run-explains, run-reads}
+use Rattle.trace_run.proofs.theorem.RunEnds.{did-work, ended-work, lines-long, run-answers, run-cells, run-counted, run-cut, run-explains, run-objects, run-reads}
 
 -- ---- what the callers' replies tell is what all replies tell
 
@@ -244,12 +244,17 @@ module _ {P D : Type 0} (cache : Cache) (pools : Ghosts P) (devices : Devices D)
       go Sync ends = omega (arith, ends.answer.outside.faults.more (omega (arith, room, reached-faults room, faults-few)), reached-faults room)
       go (Full need left) ends = ends.answer.outside.faults ∙ reached-faults room
 
-  pub group-together : AreAnsweredByCells cache.config (pools.size before) (pools.told before) place closed.cells work.lines → RanTogether pools devices before after was is place trace ending restored rs done-work closed
-  group-together objects = record {
+  objects : AreAnsweredByCells cache.config (pools.size before) (pools.told before) place closed.cells work.lines
+  objects = run-objects cache valid restored (pools.size before) (pools.told before) place trace.blocks os more rs work crew come closed h below-all
+
+  pub group-together : RanTogether pools devices before after was is trace ending restored rs done-work closed
+  group-together = record {
     did = subst (λ (x : Config × List Op). IsRunWork x.0 x.1 rs done-work) (λ i. (config i, all-are ending d.ended i))
         (did-work cache valid restored (pools.size before) (pools.told before) place trace.blocks os more rs work crew come closed h);
     answers = subst (λ (l : List Op). AnswersAll (pools.size before) (pools.told before) trace.blocks l rs) (all-are ending d.ended)
         (run-answers cache valid restored (pools.size before) (pools.told before) place trace.blocks os more rs work crew come closed h below-all);
+    place = place;
+    first = d.reached.first;
     objects = subst (λ (g : Config). AreAnsweredByCells g (pools.size before) (pools.told before) place closed.cells work.lines) config objects;
     config = h.ends.config ∙ config;
     explained = explained;

@@ -30,7 +30,7 @@ use Rattle.trace_run.specs.Deeds.{Noted}
 use Rattle.trace_run.specs.KeptBlocks.{Stands}
 use Rattle.trace_run.specs.Meeting.{AreWaiting, HaveGivenBack, IsFed}
 use Rattle.trace_run.specs.Restores.{found_keys}
-use Rattle.trace_run.specs.callers.Together.{RunsTogether, StopsSo, answered_ops, faults_told, groups_done, report_of_closed}
+use Rattle.trace_run.specs.callers.Together.{IsFirstPlace, RunsTogether, StopsSo, answered_ops, faults_told, groups_done, report_of_closed}
 
 -- all parties of a cache, by their numbers, none of which keeps anything
 pub record HaveStopped {C : Type 0} (cache : Cache) (ps : List (Place (Known C))) : Type 0 where
@@ -48,9 +48,12 @@ pub record HaveClosed {C : Type 0} (m : Meanings C) (cache : Cache) (crew : Crew
 
 -- The operations of several callers were answered, and the histories of the closed cache explain the replies, with this work beside them, and the reads of the pool; or a
 -- fork of the pool failed or a sync stopped, and those before it were.
-pub record RanTogether {P D : Type 0} (pools : Ghosts P) (devices : Devices D) (before after : P) (was is : Option D) (place : ℕ) (trace : Trace) (ending : Ending) (restored : List Restored) (replies : List Reply) (work : RunWork) (closed : Ended OnHeap) : Type 0 where
+pub record RanTogether {P D : Type 0} (pools : Ghosts P) (devices : Devices D) (before after : P) (was is : Option D) (trace : Trace) (ending : Ending) (restored : List Restored) (replies : List Reply) (work : RunWork) (closed : Ended OnHeap) : Type 0 where
   pub did : IsRunWork trace.config (answered_ops trace ending replies) replies work
   pub answers : AnswersAll (pools.size before) (pools.told before) trace.blocks (answered_ops trace ending replies) replies
+  -- syncs write from this place on
+  pub place : ℕ
+  pub first : IsFirstPlace (pools.size before) trace.blocks place
   pub objects : AreAnsweredByCells trace.config (pools.size before) (pools.told before) place closed.cells work.lines
   pub config : closed.config ≡ trace.config
   pub explained : Explain trace restored work replies (ends_in closed) (histories_of closed)
