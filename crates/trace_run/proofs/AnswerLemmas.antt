@@ -189,5 +189,11 @@ to_answer pool_len image blocks caller earlier replies kept (ops.Drop n y) (Refu
     let here = tally.each y in rw same (answer.0, omega (arith, here, answer.1))
 to_answer pool_len image blocks caller earlier replies kept (ops.Drop n y) (Refused other) tally same answer = answer
 to_answer pool_len image blocks caller earlier replies kept (ops.Drop n y) other tally same answer = answer
+to_answer pool_len image blocks caller earlier replies kept (ops.Cap c) r tally same answer = answer
 to_answer pool_len image blocks caller earlier replies kept (ops.Txg t) r tally same answer = absurd answer
-to_answer pool_len image blocks caller earlier replies kept other r tally same answer = answer
+to_answer pool_len image blocks caller earlier replies kept ops.Feed r tally same answer = absurd answer
+to_answer pool_len image blocks caller earlier replies kept (ops.Get n t at w) r tally same answer = absurd answer
+to_answer pool_len image blocks caller earlier replies kept (ops.Put n t at size fill) r tally same answer = absurd answer
+to_answer pool_len image blocks caller earlier replies kept (ops.Patch n t at from bytes) r tally same answer = absurd answer
+to_answer pool_len image blocks caller earlier replies kept (ops.Pin n t at) r tally same answer = absurd answer
+to_answer pool_len image blocks caller earlier replies kept (ops.Unpin n at) r tally same answer = absurd answer

@@ -20,6 +20,8 @@ use Rattle.arc_core.specs.declared.event.Event.{Event}
 use Rattle.arc_core.specs.declared.event.Event.TheVariants.{Drop}
 use Rattle.arc_core.specs.Operations.{Act, Moment, event_key, moments, number_of, own_moments}
 use Rattle.arc_core.specs.PlainShard.{PlainShard}
+use Rattle.arc_core.specs.Replay.{replay}
+use Rattle.arc_core.proofs.Others.{frame-kept}
 use Rattle.turn_table.specs.declared.standing.Kept.{Kept}
 use Rattle.turn_table.specs.Moments.{WasFree}
 use Rattle.turn_table.specs.Places.{AllShow, HasNumber, IsIn, gave_back, saw}
@@ -34,7 +36,8 @@ use Rattle.arc_table.specs.declared.view.Mine.{Mine}
 use Rattle.arc_table.specs.Booking.{without_hold}
 use Rattle.arc_table.specs.Both.{Does}
 use Rattle.arc_table.specs.Cells.{SeesAll}
-use Rattle.arc_table.specs.Fronts.{StartsWith, front_of, item_at}
+use Rattle.arc_table.specs.feeder.Listing.{picks_of}
+use Rattle.arc_table.specs.Fronts.{StartsWith, front_of, item_at, list_at}
 use Rattle.arc_table.specs.Geometry.{IsCell, cell_number, parties_of}
 use Rattle.arc_table.specs.Items.{lines_in}
 use Rattle.arc_table.specs.pact.Rule.{Pact}
@@ -51,6 +54,7 @@ use Rattle.arc_table.proofs.cell_lemmas.EntriesSeen.{given-entries, given-sees, 
 use Rattle.arc_table.proofs.MadeLemmas.{does-made}
 use Rattle.arc_table.proofs.OwnLemmas.{get-either, grows, made-all, made-alone, made-sees, no-own-moments, own-append}
 use Rattle.arc_table.proofs.reads.ReadMoments.{own-none, own-single-by}
+use Rattle.arc_table.proofs.feeder.PicksAfter.{same_picks}
 use Rattle.arc_table.proofs.Reached.{SameButNotes, Took, loses_same, took_is}
 use Rattle.dbuf_cells.specs.Ending.{DropsEach, EndsCell, EndsFrom}
 use Rattle.dbuf_cells.specs.Turns.{CellTurn, DropsAtMost, LooksTimes, MakesAll, OnHeap, PartyPlace, dbuf_meanings, outline_in}
@@ -62,9 +66,9 @@ use Rattle.dbuf_state.specs.Soundness.{IsSound, plain_cell}
 use Rattle.dbuf_state.specs.declared.event.CellEvent.{CellEvent}
 use Rattle.dbuf_state.specs.declared.event.CellEvent.TheVariants.{End}
 use Rattle.dbuf_state.specs.declared.state.Mapping.{Mapping}
-use Rattle.trace_run.specs.CellEnds.{HasToldOthers, end_entry, ends_from}
+use Rattle.trace_run.specs.CellEnds.{IsCellDrop, end_entry, ends_from}
 use Rattle.trace_run.specs.DbufTurns.{CellsDone}
-use Rattle.trace_run.specs.Deeds.{Noted, acts_of_events, events_there, noted_in}
+use Rattle.trace_run.specs.Deeds.{HasToldOthers, Noted, acts_of_events, events_there, noted_in}
 use Rattle.trace_run.specs.Making.{HasSeenItsEvents}
 use Rattle.trace_run.proofs.deeds.CellsDone.{turn-done}
 use Rattle.trace_run.proofs.deeds.DeedLemmas.{events-acts}
@@ -163,6 +167,11 @@ drops-cells : (g : Config) (i : ℕ) (es : List Event) → AreDropsOf (cell_numb
 drops-cells g i [] all = tt
 drops-cells g i (e ∷ es) all = (subst (λ (x : Event). parties_of g ≤ number_of x) (sym all.0.1) (omega arith), drops-cells g i es all.1)
 
+-- each with the cell's number
+drops-are : (g : Config) (i : ℕ) (es : List Event) → IsCell g i → AreDropsOf (cell_number g i) es → AllByRecursion (IsCellDrop g) es
+drops-are g i [] in_range all = tt
+drops-are g i (e ∷ es) in_range all = (record { cell = i; key = all.0.0; is = all.0.1; in_range = in_range }, drops-are g i es in_range all.1)
+
 drops-turn : (n c : ℕ) (es : List Event) → AreDropsOf c es → AreTurnEvents n c es
 drops-turn n c [] all = tt
 drops-turn n c (e ∷ es) all = (inr (inl all.0), drops-turn n c es all.1)
@@ -199,6 +208,7 @@ pub record HasDropped (g : Config) (es : List Event) (p q : PartyPlace) : Type 0
   pub starts : (i : ℕ) → StartsWith (front_of (turn_of g i) q.own.seen) (front_of (turn_of g i) p.own.seen)
   pub recorded : (i : ℕ) → IsCell g i → item_at i q.own.records ≡ item_at i p.own.records
   pub events : es ≡ [] → AreSeen g p.number p.own.mine p.own.seen → AreSeen g q.number q.own.mine q.own.seen
+  pub picks : p.number ≡ g.callers → (j : ℕ) → picks_of j q ≡ picks_of j p
 
 module _ (g : Config) where
   pub dropped-none : (p q : PartyPlace) → HasSeenItsEvents g p → HasAll p → q ≡ p → HasDropped g [] p q
@@ -212,6 +222,7 @@ module _ (g : Config) where
     starts = λ i. starts_whole (front_of (turn_of g i) p.own.seen);
     recorded = λ i in_range. refl;
     events = λ none seen. seen;
+    picks = λ feeder j. refl;
   }
 
   there-append : (shard : ℕ) (es fs : List Event) → events_there g shard (es ++ fs) ≡ events_there g shard es ++ events_there g shard fs
@@ -233,14 +244,15 @@ module _ (g : Config) where
     starts = λ i. starts-then (front_of (turn_of g i) r.own.seen) (front_of (turn_of g i) q.own.seen) (front_of (turn_of g i) p.own.seen) (b.starts i) (a.starts i);
     recorded = λ i in_range. b.recorded i in_range ∙ a.recorded i in_range;
     events = λ none seen. let both = none-both es fs none in b.events both.1 (a.events both.0 seen);
+    picks = λ feeder j. b.picks (a.left.stays.number ∙ feeder) j ∙ a.picks feeder j;
   }
 
 module _ (g : Config) (valid : IsConfig g) where
   -- one look, or one drop with the number of a cell
   one-dropped : (k : Key) (es : List Event) (p q : PartyPlace) → p.own.about.config ≡ g → HasSeenItsEvents g p → HasAll p → AreOwnBy (IsNumberOrCell g) (parties_of g) p.number es
       → ((s : PlainShard) (hs : List Ptr) → holds_through p.number s es hs ≡ hs) → ((ks : List Key) → readings_through p.number es ks ≡ ks)
-      → ((shard : ℕ) → events_there g shard es ≡ (if shard_of g.shards k == shard then es else [])) → (d : Does dbuf_meanings g k es p q) → HasDropped g es p q
-  one-dropped k es p q config sees all mine no_holds no_readings there d =
+      → ((shard : ℕ) → events_there g shard es ≡ (if shard_of g.shards k == shard then es else [])) → ((s : PlainShard) → (replay s es).picked ≡ s.picked) → (d : Does dbuf_meanings g k es p q) → HasDropped g es p q
+  one-dropped k es p q config sees all mine no_holds no_readings there unpicked d =
       let here : ℕ = shard_of g.shards k in
       let made : MadeBy (IsNumberOrCell g) g here d.before es p q = does-made dbuf_meanings g valid k es p q config sees mine d in
       let adds = made-alone g here d.before es p q made all in
@@ -261,6 +273,7 @@ module _ (g : Config) (valid : IsConfig g) where
         starts = grows g here d.before es p q made;
         recorded = λ i in_range. cell-recorded dbuf_meanings g valid k es p q config d i in_range;
         events = λ none seen. made-only g here d.before es p q made (subst (AreOwn (parties_of g) p.number) (sym none) (own-none p.number)) seen;
+        picks = λ feeder. same_picks dbuf_meanings g k es p q (valid, config, feeder) d (unpicked d.before.now);
       }
 
   pub look-dropped : (times : ℕ) (p q : PartyPlace) → p.own.about.config ≡ g → HasSeenItsEvents g p → HasAll p → LooksTimes g times p q → HasDropped g [] p q
@@ -269,7 +282,7 @@ module _ (g : Config) (valid : IsConfig g) where
       let before = look-dropped times p l.1 config sees all l.2 in
       let same : l.1.own.about.config ≡ g = ap (λ (a : About). a.config) before.left.stays.about ∙ config in
       dropped-then g [] [] p l.1 q before
-      (one-dropped l.0 [] l.1 q same before.sees before.all (λ z e at. absurd (some-ne-none e (sym at))) (λ s hs. refl) (λ ks. refl) (λ shard. none-there (shard_of g.shards l.0 == shard)) l.3)
+      (one-dropped l.0 [] l.1 q same before.sees before.all (λ z e at. absurd (some-ne-none e (sym at))) (λ s hs. refl) (λ ks. refl) (λ shard. none-there (shard_of g.shards l.0 == shard)) (λ s. refl) l.3)
     where
       none-there : (b : Bool) → ◌≡◌ {A = List Event} [] (if b then [] else [])
       none-there true = refl
@@ -286,7 +299,7 @@ module _ (g : Config) (valid : IsConfig g) where
       let r-low : r.number < parties_of g = subst (λ (n : ℕ). n < parties_of g) (sym a.left.stays.number) low in
       let is : e ≡ Drop c k = drops.0.1 ∙ ap (Drop c) (key-is (subst (λ (x : Event). event_key x ≡ Some k) drops.0.1 makes.4)) in
       let b : HasDropped g (e ∷ []) r s = subst (λ (x : Event). HasDropped g (x ∷ []) r s) (sym is)
-      (one-dropped k (Drop c k ∷ []) r s r-config a.sees a.all (own-single-by (IsNumberOrCell g) r.number (Drop c k) (inr above) refl) (λ sh hs. not-mine k r.number hs r-low) (λ ks. refl) (λ shard. one-there k shard)
+      (one-dropped k (Drop c k ∷ []) r s r-config a.sees a.all (own-single-by (IsNumberOrCell g) r.number (Drop c k) (inr above) refl) (λ sh hs. not-mine k r.number hs r-low) (λ ks. refl) (λ shard. one-there k shard) (λ s. (frame-kept s (Drop c k)).picked refl)
       (subst (λ (x : Event). Does dbuf_meanings g k (x ∷ []) r s) is makes.5)) in
       let s-config : s.own.about.config ≡ g = ap (λ (x : About). x.config) b.left.stays.about ∙ r-config in
       let s-low : s.number < parties_of g = subst (λ (n : ℕ). n < parties_of g) (sym b.left.stays.number) r-low in
@@ -318,6 +331,7 @@ pub record HasEndedSome (g : Config) (es : List Event) (p q : PartyPlace) : Type
   pub entries : HasSeenItsEntries g q
   pub all : HasAll q
   pub drops : AreCellDrops g es
+  pub picks : p.number ≡ g.callers → (j : ℕ) → picks_of j q ≡ picks_of j p
   pub shards : (shard : ℕ) → seen_of g shard q ≡ seen_of g shard p ++ events_there g shard es
   pub own : (shard : ℕ) → own_moments p.number (moments (opening_of g) (seen_of g shard q)) ≡ own_moments p.number (moments (opening_of g) (seen_of g shard p))
   pub starts : (i : ℕ) → StartsWith (front_of (turn_of g i) q.own.seen) (front_of (turn_of g i) p.own.seen)
@@ -421,6 +435,9 @@ module _ (g : Config) (valid : IsConfig g) (i : ℕ) (in_range : IsCell g i) (p 
   shards-then : (shard : ℕ) → seen_of g shard back ≡ seen_of g shard p ++ events_there g shard e.drops
   shards-then shard = ap events_in (back-shard shard) ∙ (worked-are.shards shard ∙ ap (λ (l : List Line). events_in l ++ events_there g shard e.drops) (took-shard shard))
 
+  pub one-are : AllByRecursion (IsCellDrop g) e.drops
+  one-are = drops-are g i e.drops in_range are-drops
+
   pub one-ended : HasEndedSome g e.drops p q
   one-ended = subst (HasEndedSome g e.drops p) (sym t.gave) record {
     table = worked-are.left.stays.table ∙ took.table;
@@ -434,6 +451,7 @@ module _ (g : Config) (valid : IsConfig g) (i : ℕ) (in_range : IsCell g i) (p 
     entries = given-entries dbuf_meanings g i t.after t.worked in_range t.given worked-front worked-entries;
     all = worked-are.all;
     drops = drops-cells g i e.drops are-drops;
+    picks = λ feeder j. worked-are.picks (took.number ∙ feeder) j ∙ ap (λ (l : Ledger). list_at j l.picked) took.ledger;
     shards = shards-then;
     own = λ shard. ap (λ (es : List Event). own_moments p.number (moments (opening_of g) es)) (shards-then shard)
         ∙ drops-unmade g p.number (opening_of g) (seen_of g shard p) (events_there g shard e.drops) low (cell-drops-there g shard e.drops (drops-cells g i e.drops are-drops));
@@ -513,6 +531,7 @@ module _ (g : Config) (valid : IsConfig g) (i : ℕ) (in_range : IsCell g i) (p 
 module _ (g : Config) (valid : IsConfig g) where
   pub record HasEndedFrom (i count : ℕ) (p q : PartyPlace) : Type 0 where
     pub drops : List Event
+    pub are : AllByRecursion (IsCellDrop g) drops
     pub some_ended : HasEndedSome g drops p q
     pub told : (did : List Act) (had : List Noted) → HasToldOthers g did had p → HasToldOthers g (did ++ acts_of_events drops) (had ++ ends_from p.number i count) q
     pub last : (j : ℕ) → IsCell g j → i ≤ j → j < i + count → (before : List Line) × (front_of j q.own.seen ≡ before ++ end_entry p.number j)
@@ -522,6 +541,7 @@ module _ (g : Config) (valid : IsConfig g) where
   pub all-ended : (i count : ℕ) (p q : PartyPlace) → i + count ≤ g.cells → p.own.about.config ≡ g → HasSeenItsEvents g p → HasSeenItsEntries g p → HasAll p → EndsFrom g i count p q → HasEndedFrom i count p q
   all-ended i zero p q inside config sees entries all is = subst (HasEndedFrom i 0 p) (sym is) record {
     drops = [];
+    are = tt;
     some_ended = record {
       table = refl;
       parties = refl;
@@ -534,6 +554,7 @@ module _ (g : Config) (valid : IsConfig g) where
       entries = entries;
       all = all;
       drops = tt;
+      picks = λ feeder j. refl;
       shards = λ shard. sym (append-nil (seen_of g shard p));
       own = λ shard. refl;
       starts = λ k. starts_whole (front_of (turn_of g k) p.own.seen);
@@ -558,6 +579,7 @@ module _ (g : Config) (valid : IsConfig g) where
       let b = rest.some_ended in
       record {
         drops = ends.1.drops ++ rest.drops;
+        are = all-then (IsCellDrop g) ends.1.drops rest.drops (one-are g valid i here p r config sees entries all ends.1) rest.are;
         some_ended = record {
           table = b.table ∙ a.table;
           parties = b.parties ∙ a.parties;
@@ -570,6 +592,7 @@ module _ (g : Config) (valid : IsConfig g) where
           entries = b.entries;
           all = b.all;
           drops = all-then (λ e. parties_of g ≤ number_of e) ends.1.drops rest.drops a.drops b.drops;
+          picks = λ feeder j. b.picks (a.number ∙ feeder) j ∙ a.picks feeder j;
           shards = λ shard. b.shards shard ∙ (ap (λ (l : List Event). l ++ events_there g shard rest.drops) (a.shards shard)
               ∙ (append_assoc (seen_of g shard p) (events_there g shard ends.1.drops) (events_there g shard rest.drops) ∙ ap (λ (l : List Event). seen_of g shard p ++ l) (sym (there-append g shard ends.1.drops rest.drops))));
           own = λ shard. subst (λ (n : ℕ). own_moments n (moments (opening_of g) (seen_of g shard q)) ≡ own_moments n (moments (opening_of g) (seen_of g shard r))) a.number (b.own shard) ∙ a.own shard;

@@ -1,7 +1,6 @@
 -- What a read through the shared cache asked of the cache device, and what lines did that were done one after another.
-use Rattle.std.proofs.Common.{◌≡◌, ◌≢◌, ℕ, ◌<◌, List, [], ◌∷◌, ◌++◌, Option, None, Some, Result, Ok, Err, refl, sym, ap, subst, arith}
-use Rattle.std.specs.Prelude.{IfOk, Vec, slice_get}
-use Rattle.std.specs.declared.alloc.Global.{Global}
+use Rattle.std.proofs.Common.{◌≡◌, ◌≢◌, ℕ, ◌<◌, List, [], ◌∷◌, Option, Some, Result, Ok, Err, refl, sym, ap, subst, arith}
+use Rattle.std.specs.Prelude.{IfOk, slice_get}
 use Rattle.std.specs.Option.{option_map_or}
 use Rattle.blk_ptr.specs.declared.digest.Digest.{Digest}
 use Rattle.blk_ptr.specs.declared.memory.NoMemory.{NoMemory}
@@ -22,13 +21,15 @@ use Rattle.arc_table.specs.declared.view.Known.{Known}
 use Rattle.arc_table.specs.Fetching.{IsAsked, Unserved, faulty, other_bytes, unasked}
 use Rattle.arc_table.specs.Items.{Meanings}
 use Rattle.arc_table.specs.Reading.{Answers, AnswersRead, EndsAtPool, EndsMiss, EndsPast, GoesToPool, Outside, TurnsToPool, answered, cleared, from_device, from_none, from_pool, hit, missed, no_memory, past, read, refused, unread, unserved}
-use Rattle.trace_text.specs.declared.op.Op.{Op}
 use Rattle.trace_text.specs.declared.reply.Refusal.{Refusal}
 use Rattle.trace_text.specs.declared.reply.Refusal.TheVariants as refusals
 use Rattle.trace_text.specs.declared.reply.Reply.{Reply}
 use Rattle.trace_text.specs.declared.reply.Reply.TheVariants as replies
 use Rattle.trace_run.specs.Answers.{AnswersDrop, IsDropRefusal}
-use Rattle.trace_run.specs.DeviceReads.{AsksFor, AsksGiven, GetAsks, LineAsks, LinesAsk, NoneFromDevice, WasReadAtMostOnce, WasReadOnce, never, once, size_asked}
+use Rattle.trace_run.specs.DeviceReads.{AsksFor, GetAsks, WasReadAtMostOnce, WasReadOnce, never, once}
+use Rattle.trace_run.specs.callers.WorkLines.{AllAsked, NoneFromDevice, effect_with, size_asked_by}
+use Rattle.trace_run.specs.ObjectLines.{on_object}
+use Rattle.trace_run.specs.Objects.{Line}
 use Rattle.trace_run.specs.Effects.{Effect, Answered, effect_of}
 use Rattle.trace_run.specs.Reads.{IsRefused}
 
@@ -144,27 +145,13 @@ drop-asks devices n d kept dropped block other h = absurd h
 -- ---- lines, one after another
 
 module _ {D : Type 0} (devices : DeviceGhosts D) (blocks : List Ptr) where
-  pub asks-more : (os : List Op) (rs : List Reply) (o : Op) (r : Reply) (a b c : D) → LinesAsk devices blocks os rs a b → LineAsks devices blocks o r b c → LinesAsk devices blocks (os ++ o ∷ []) (rs ++ r ∷ []) a c
-  asks-more [] [] o r a b c did one = (c, subst (λ (d : D). LineAsks devices blocks o r d c) did one, refl)
-  asks-more [] (s ∷ rs) o r a b c did one = absurd did
-  asks-more (p ∷ os) [] o r a b c did one = absurd did
-  asks-more (p ∷ os) (s ∷ rs) o r a b c did one = (did.0, did.1, asks-more os rs o r did.0 b c did.2 one)
-
   -- an effect that a device without bytes can't have
   none-asked : (n : ℕ) (e : Effect) (a b : D) → devices.size a ≡ 0 → AsksFor devices n e a b → e ≢ Answered served.L2
   none-asked n e a b empty asked is =
       let once : WasReadOnce devices n Gave a b = subst (λ (f : Effect). AsksFor devices n f a b) is asked in
       absurd (omega (arith, empty, once.some, once.inside))
 
-  -- no reply tells of bytes from a device of no length
-  pub none-came : (os : List Op) (rs : List Reply) (a b : D) → LinesAsk devices blocks os rs a b → ((d : D) → devices.size d ≡ 0) → NoneFromDevice rs
-  none-came [] [] a b did empty = tt
-  none-came [] (r ∷ rs) a b did empty = absurd did
-  none-came (o ∷ os) [] a b did empty = absurd did
-  none-came (o ∷ os) (r ∷ rs) a b did empty = (none-asked (size_asked blocks o) (effect_of r) a did.0 (empty a) did.1, none-came os rs did.0 b did.2 empty)
-
--- where a caller has no device, it was told of no bytes from there
-pub over-none : {N D : Type 0} (nothing : DeviceGhosts N) (devices : DeviceGhosts D) (blocks : List Ptr) (os : List Op) (a b : N) (r : Result (Vec Reply Global) NoMemory) → IfOk r (λ v. LinesAsk nothing blocks os v.items a b)
-    → ((d : N) → nothing.size d ≡ 0) → IfOk r (λ v. AsksGiven devices blocks os v.items None None)
-over-none nothing devices blocks os a b (Ok v) did empty = none-came nothing blocks os v.items a b did empty
-over-none nothing devices blocks os a b (Err e) did empty = tt
+  -- no line has bytes from a device of no length
+  pub none-came : (ls : List Line) (a b : D) → AllAsked devices blocks ls a b → ((d : D) → devices.size d ≡ 0) → NoneFromDevice ls
+  none-came [] a b did empty = tt
+  none-came (l ∷ ls) a b did empty = (none-asked (size_asked_by blocks (on_object l.op) l) (effect_with l.work.brought l.reply) a did.0 (empty a) did.1, none-came ls did.0 b did.2 empty)

@@ -9,17 +9,18 @@ use Rattle.arc_core.specs.Operations.{moments, own_moments}
 use Rattle.turn_table.specs.declared.standing.Kept.{Kept}
 use Rattle.turn_table.specs.Places.{IsIn, SomeHas}
 use Rattle.arc_table.specs.declared.view.Known.{Known}
+use Rattle.arc_table.specs.declared.view.Ledger.{Ledger}
 use Rattle.arc_table.specs.declared.view.Line.{Line}
 use Rattle.arc_table.specs.declared.view.Mine.{Mine}
 use Rattle.arc_table.specs.Cache.{Cache, IsPartyOf}
-use Rattle.arc_table.specs.Fronts.{front_of}
+use Rattle.arc_table.specs.Fronts.{front_of, list_at}
 use Rattle.arc_table.specs.Geometry.{parties_of}
 use Rattle.arc_table.specs.Seen.{AreEntriesSeen, AreSeen, HasAll, events_in, seen_of, turn_of}
 use Rattle.arc_table.specs.Telling.{opening_of}
 use Rattle.dbuf_cells.specs.Ending.{EndsFrom}
 use Rattle.dbuf_cells.specs.Turns.{KeepsClaims, OnHeap, PartyPlace, dbuf_meanings}
-use Rattle.trace_run.specs.CellEnds.{EndedCells, EndedIdle, HasToldOthers, end_entry, ends_from}
-use Rattle.trace_run.specs.Deeds.{Noted, acts_of_events, events_there}
+use Rattle.trace_run.specs.CellEnds.{EndedCells, EndedIdle, end_entry, ends_from}
+use Rattle.trace_run.specs.Deeds.{HasToldOthers, Noted, acts_of_events, events_there}
 use Rattle.trace_run.specs.KeptBlocks.{Stands, times}
 use Rattle.trace_run.specs.Making.{AreEventsSeen, AreNoEntries}
 use Rattle.trace_run.specs.Meeting.{AreLast, HasLearned, HaveParted, IsApart, JoinAll, Joins, MayPart, PartAll}
@@ -27,7 +28,7 @@ use Rattle.trace_run.proofs.CellsLeft.{entries-more}
 use Rattle.trace_run.proofs.CellEnds.{HasEndedFrom, HasEndedSome, IsUntouched, NoneFrom, all-ended, cell-drops-there, drops-unmade}
 use Rattle.trace_run.proofs.callers.MeetLemmas.{HaveJoined, all-parted, are-last, joined-front, joined_of, left_alone, own-seen-more, parted-then, parted_from, starts-then}
 use Rattle.trace_run.proofs.deeds.MakesLemmas.{grown-same}
-use Rattle.trace_run.proofs.theorem.ToldLemmas.{others-still}
+use Rattle.trace_run.proofs.deeds.DeedLemmas.{others-still}
 use Rattle.trace_run.proofs.callers.TurnLemmas.{joined, joined-all, joined-stands}
 
 module _ (cache : Cache) (p : PartyPlace) (others : List PartyPlace) (stands : Stands cache p []) (alone : p.joined ≡ [])
@@ -177,6 +178,8 @@ module _ (cache : Cache) (p : PartyPlace) (others : List PartyPlace) (stands : S
         same = λ before own rest shard. then.shards shard ∙ ap (λ (l : List Line). events_in l ++ events_there g shard ended.drops) (have.level before own rest shard);
         one = λ o is seen shard. then.shards shard ∙ ap (λ (l : List Event). l ++ events_there g shard ended.drops) (one-front o is seen shard);
         idle = was-idle;
+        are = ended.are;
+        settled = λ feeder settled i. then.picks (have.number ∙ feeder) i ∙ (ap (λ (l : Ledger). list_at i l.picked) have.ledger ∙ settled i);
       }
 
       pub ended-cells : EndedCells cache p others z xs

@@ -36,7 +36,9 @@ use Rattle.trace_run.specs.KeptBlocks.{AllQuiet, ClaimsNothing, Stands, times}
 use Rattle.trace_run.specs.Meeting.{AreLast, HasLearned, HaveParted, IsApart, JoinAll, Joins, MadeJoined, PartAll, resizes_in}
 use Rattle.trace_run.proofs.CellsLeft.{LeavesCells, leaves-grow, leaves-same, leaves-seen, leaves-then, roomy-leaves}
 use Rattle.trace_run.proofs.MoveLemmas.{Moves, roomy-made-own, roomy-moves}
-use Rattle.trace_run.specs.Making.{AreEventsSeen, MadeItsOwn}
+use Rattle.trace_run.specs.Deeds.{SameMade}
+use Rattle.trace_run.specs.Making.{AreEventsSeen}
+use Rattle.trace_run.proofs.deeds.MakesLemmas.{grown-same, same-none, same-then}
 use Rattle.trace_run.proofs.feeds.PickedLemmas.{resize-picked, roomy-picks}
 use Rattle.trace_run.proofs.callers.MeetLemmas.{HaveJoined, all-parted, are-last, joined-front, joined_of, left_alone, parted-then, parted_from, starts-events, starts-then}
 use Rattle.trace_run.proofs.callers.TurnLemmas.{joined, joined-all, joined-stands}
@@ -54,7 +56,7 @@ module _ {C : Type 0} (m : Meanings C) (cache : Cache) (c : ℕ) where
     pub beyond : (s : ℕ) → done ≤ s → seen_of gc s q ≡ seen_of gc s p
     pub starts : (i : ℕ) → StartsWith (front_of (turn_of gc i) q.own.seen) (front_of (turn_of gc i) p.own.seen)
     pub left : LeavesCells gc p q
-    pub only : MadeItsOwn gc p → MadeItsOwn gc q
+    pub made : SameMade gc p q
     pub picks : p.number ≡ gc.callers → (i : ℕ) → picks_of i q ≡ picks_of i p
 
   -- ---- one shard
@@ -128,7 +130,7 @@ module _ {C : Type 0} (m : Meanings C) (cache : Cache) (c : ℕ) where
     beyond = λ s le. refl;
     starts = λ i. starts_whole (front_of (turn_of gc i) p.own.seen);
     left = leaves-same gc p p refl;
-    only = λ only. only;
+    made = same-none gc p;
     picks = λ feeder i. refl;
   }
 
@@ -155,7 +157,7 @@ module _ {C : Type 0} (m : Meanings C) (cache : Cache) (c : ℕ) where
         beyond = λ t le. more.others t (λ is. omega (arith, le, is)) ∙ first.beyond t (omega (arith, le));
         starts = λ i. starts-then (front_of (turn_of gc i) q.own.seen) (front_of (turn_of gc i) r.own.seen) (front_of (turn_of gc i) p.own.seen) (later i) (first.starts i);
         left = leaves-then gc p r q first.left (roomy-leaves m gc first.stands.valid (key_in s) (Resize r.number c) r q first.stands.of.config one.does);
-        only = λ only. (moves s r q first.stands first.all one).only (first.only only);
+        made = same-then gc p r q first.made (moves s r q first.stands first.all one).same;
         picks = λ feeder i. one-picks s r q first.stands first.all one (number ∙ feeder) i ∙ first.picks feeder i;
       }
 
@@ -180,7 +182,7 @@ pub record HasMade {C : Type 0} (cache : Cache) (more : (shard : ℕ) → List E
   pub seen : (s : ℕ) → seen_of cache.config s q ≡ seen_of cache.config s p ++ more s
   pub starts : (i : ℕ) → StartsWith (front_of (turn_of cache.config i) q.own.seen) (front_of (turn_of cache.config i) p.own.seen)
   pub left : LeavesCells cache.config p q
-  pub only : MadeItsOwn cache.config p → MadeItsOwn cache.config q
+  pub made : SameMade cache.config p q
   pub picks : p.number ≡ cache.config.callers → (i : ℕ) → picks_of i q ≡ picks_of i p
 
 -- all shards have this capacity
@@ -199,7 +201,7 @@ resizes-made m cache n c p q number given = record {
   ];
   starts = given.starts;
   left = given.left;
-  only = given.only;
+  made = given.made;
   picks = given.picks;
 }
 
@@ -314,9 +316,10 @@ module _ {C : Type 0} (m : Meanings C) (cache : Cache) (p : Place (Known C)) (ot
         own = have.self.own;
         others = λ shard. all-own shard others have.all;
         since = λ shard. starts-events (front_of (turn_of g shard) q.own.seen) (front_of (turn_of g shard) p.own.seen) (have.self.starts shard);
-        only = λ only.
-            let did = given.only (have.only only) in
-            record { events = did.events; entries = did.entries };
+        made =
+            let first : SameMade g p q = grown-same g p q have.number have.about have.mine have.self.starts have.self.cells stands.seen stands.cells in
+            let both : SameMade g p r = same-then g p q r first given.made in
+            record { number = both.number; cells = both.cells; entries = both.entries; keeps = record { about = both.keeps.about; fronts = both.keeps.fronts } };
         settled = λ feeder settled i. given.picks (have.number ∙ feeder) i ∙ (ap (λ (l : Ledger). list_at i l.picked) have.ledger ∙ settled i);
         entries = λ none j a at range. none j a (subst (λ (l : List Mine). get_elem? l j ≡ some a) have.mine (given.left.mine j a range at)) range;
         one = one-front;

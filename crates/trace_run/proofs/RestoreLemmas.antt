@@ -33,6 +33,7 @@ use Rattle.l2_dev.specs.Rebuilding.{HaveKeys}
 use Rattle.trace_run.specs.KeptBlocks.{AllQuiet, ClaimsNothing, Stands, times}
 use Rattle.trace_run.specs.Restores.{restores_in}
 use Rattle.trace_run.proofs.CellsLeft.{does-leaves, leaves-same, leaves-seen, leaves-then}
+use Rattle.trace_run.proofs.deeds.MakesLemmas.{same-none, same-then}
 use Rattle.trace_run.proofs.MoveLemmas.{Moves, does-made-own, one-moves}
 use Rattle.trace_run.proofs.callers.MeetLemmas.{starts-then}
 use Rattle.trace_run.proofs.ResizeLemmas.{HasMade}
@@ -102,7 +103,7 @@ module _ {C : Type 0} (m : Meanings C) (cache : Cache) where
     seen = λ s. sym (append-nil (seen_of g s p));
     starts = λ i. starts_whole (front_of (turn_of g i) p.own.seen);
     left = leaves-same g p p refl;
-    only = λ only. only;
+    made = same-none g p;
     picks = λ feeds i. refl;
   })
   restored-to (r ∷ rs) p q feeder stands all did =
@@ -119,7 +120,7 @@ module _ {C : Type 0} (m : Meanings C) (cache : Cache) where
         seen = λ s. rest.seen s ∙ more r rs s p b adds;
         starts = λ i. starts-then (front_of (turn_of g i) q.own.seen) (front_of (turn_of g i) b.own.seen) (front_of (turn_of g i) p.own.seen) (rest.starts i) (one-starts r p b feeder stands all did.1 i);
         left = leaves-then g p b q (does-leaves m cache.config stands.valid r.key (Restore cache.config.callers r.key r.place r.digest ∷ []) p b stands.of.config did.1) rest.left;
-        only = λ only. rest.only (move.only only);
+        made = same-then g p b q move.same rest.made;
         picks = λ feeds i. restores_picks m g g.callers (r ∷ rs) p q (stands.valid, stands.of.config, feeds) did i;
       }
     where

@@ -26,7 +26,7 @@ calls-then pool (call ∷ cs) ds a b c first second = (first.0, first.1, calls-t
 pub keeps-then : {P : Type 0} (pool : Ghosts P) (a b c : P) → KeepsPool pool a b → KeepsPool pool b c → KeepsPool pool a c
 keeps-then pool a b c first second = record { size = second.size ∙ first.size; told = second.told ∙ first.told; faults = omega (arith, first.faults, second.faults) }
 
-calls-few-one : (e : Effect) → length (calls_of e) ≤ 1
+pub calls-few-one : (e : Effect) → length (calls_of e) ≤ 1
 calls-few-one (Answered served.Hit) = omega arith
 calls-few-one (Answered served.Pool) = omega arith
 calls-few-one (Answered served.L2) = omega arith
@@ -65,7 +65,7 @@ calls-faults pool (call ∷ cs) a b made room =
     let rest = calls-faults pool cs made.0 b made.2 (omega (arith, one, few, room)) in
     omega (arith, one, rest, sum_by-cons (λ c. cond (is_failed c) 1 0) call cs)
 
-failed-one : (e : Effect) → count_by is_failed (calls_of e) ≡ cond (tells_fault e) 1 0
+pub failed-one : (e : Effect) → count_by is_failed (calls_of e) ≡ cond (tells_fault e) 1 0
 failed-one (Answered served.Hit) = refl
 failed-one (Answered served.Pool) = refl
 failed-one (Answered served.L2) = refl

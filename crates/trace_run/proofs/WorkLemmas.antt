@@ -1,9 +1,8 @@
--- A caller's lines, those on objects among them, each with its work: one after another, and where none of them is on an object.
-use Rattle.std.proofs.Common.{◌≡◌, ℕ, Bool, true, false, List, [], ◌∷◌, ◌++◌, Option, Some, None, Result, Ok, Err, Vec, Global, inl, inr, refl, sym, ap, ◌∙◌, subst, append-nil, append_assoc}
+-- A caller's lines, those on objects among them, each with its work: one after another, and what all of them come to.
+use Rattle.std.proofs.Common.{◌≡◌, ℕ, Bool, true, false, List, [], ◌∷◌, ◌++◌, Option, Some, None, Result, Ok, Err, Vec, Global, refl, sym, ap, ◌∙◌, subst, append-nil, append_assoc}
 use Rattle.std.specs.Prelude.{IfOk, IfSome, filter, is_some}
-use Rattle.std.specs.List.{AllByRecursion, list_any}
+use Rattle.std.specs.List.{AllByRecursion}
 use Rattle.std.proofs.lemmas.Bool.{false≢true}
-use Rattle.arc_lists.proofs.Tables.{cases_true}
 use Rattle.blk_ptr.specs.declared.memory.NoMemory.{NoMemory}
 use Rattle.blk_ptr.specs.declared.ptr.Ptr.{Ptr}
 use Rattle.vdev_io.specs.declared.device.CacheDev.{Ghosts as DeviceGhosts}
@@ -23,24 +22,26 @@ use Rattle.trace_text.specs.declared.op.Op.{Op}
 use Rattle.trace_text.specs.declared.op.Op.TheVariants as ops
 use Rattle.trace_text.specs.declared.reply.Reply.{Reply}
 use Rattle.trace_run.specs.Acts.{acts_of}
-use Rattle.trace_run.specs.callers.CallerLines.{At, DidLine, DidLines, at}
-use Rattle.trace_run.specs.callers.WorkLines.{AnswersLine, AnswersLines, AreLinesOf, AtWork, DidAll, DidLineBy, DidOps, DidWith, DidWorkLine, acts_of_work, acts_with, at_work, calls_of_lines, effect_with, noted_of_work}
-use Rattle.trace_run.specs.Deeds.{HasToldAll, KeepsCells, Noted}
+use Rattle.trace_run.specs.callers.CallerLines.{At, DidLine, at}
+use Rattle.trace_run.specs.callers.Callers.{CameTo}
+use Rattle.trace_run.specs.callers.WorkLines.{AllAsked, AnswersLine, AnswersLines, AreLinesOf, AsksGiven, AtWork, DidAll, DidLineBy, DidOps, DidWith, DidWorkLine, IsWorkOf, acts_of_work, acts_with, at_work, calls_of_lines, effect_with, noted_of_work, size_asked_by}
+use Rattle.trace_run.specs.Deeds.{HasToldAll, KeepsCells, Noted, lines_of_cell}
 use Rattle.trace_run.specs.Effects.{calls_of}
-use Rattle.trace_run.specs.DeviceReads.{LineAsks, LinesAsk}
+use Rattle.trace_run.specs.DeviceReads.{AsksFor, LineAsks, size_asked}
 use Rattle.trace_run.specs.KeptReads.{KeptRead}
 use Rattle.trace_run.specs.Lines.{caller_of, is_of_caller}
 use Rattle.trace_run.specs.ObjectLines.{DidObjectLine, OnObject, cell_lines, on_object}
 use Rattle.trace_run.specs.ObjectReplies.{AnswersFrom}
 use Rattle.trace_run.specs.Objects.{Line, Work, no_work}
 use Rattle.trace_run.specs.one_caller.OneCaller.{kept_after}
+use Rattle.trace_run.specs.RunWork.{kept_after_lines}
 use Rattle.trace_run.specs.one_caller.OverShards.{AreNamed}
 use Rattle.trace_run.proofs.CapLemmas.{his-some}
-use Rattle.trace_run.proofs.callers.CallerActLemmas.{his-is}
+use Rattle.trace_run.proofs.callers.CallerActLemmas.{his-is, own-lines}
+use Rattle.trace_run.proofs.DeviceReadLemmas.{none-came}
 use Rattle.trace_run.proofs.LinesLemmas.{line-named}
 use Rattle.trace_run.proofs.RunLemmas.{calls-then}
 use Rattle.trace_run.proofs.deeds.MakesLemmas.{keeps-none, keeps-then}
-use Rattle.trace_run.proofs.deeds.ObjectReplies.{object-answers}
 use Rattle.trace_run.proofs.deeds.OperatesDone.{cell-there}
 use Rattle.trace_run.proofs.deeds.ObjectWork.{object-work}
 
@@ -49,17 +50,6 @@ use Rattle.trace_run.proofs.deeds.ObjectWork.{object-work}
 pub none-is : {X : Type 0} (o : Option X) → is_some o ≡ false → o ≡ None
 none-is None is = refl
 none-is (Some x) is = absurd (false≢true (sym is))
-
--- where no operation is on an object, none of those that pass a test is
-pub plain-filter : (test : Op → Bool) (os : List Op) → list_any (λ op. is_some (on_object op)) os ≡ false → AllByRecursion (λ op. on_object op ≡ None) (filter test os)
-plain-filter test [] none = tt
-plain-filter test (o ∷ os) none = elim (cases_true (is_some (on_object o))) [
-  | inl object ↦ absurd (false≢true (sym (rw object at none)))
-  | inr plain ↦ elim (cases_true (test o)) [
-    | inl passes ↦ rw passes (none-is (on_object o) plain, plain-filter test os (rw plain at none))
-    | inr fails ↦ rw fails (plain-filter test os (rw plain at none))
-  ]
-]
 
 module _ {P D : Type 0} (pools : PoolGhosts P) (devices : DeviceGhosts D) (g : Config) (blocks : List Ptr) where
   -- ---- one line
@@ -134,30 +124,6 @@ module _ {P D : Type 0} (pools : PoolGhosts P) (devices : DeviceGhosts D) (g : C
   ops-more os rs op reply a b c did one =
       let l : Line = record { op = op; reply = reply; work = one.0 } in
       record { lines = did.lines ++ l ∷ []; are = lines-of-more os rs did.lines l did.are; did = all-more did.lines l a b c did.did one.1 }
-
-  -- ---- lines on no object
-
-  -- what they came to, and what they asked the device for
-  abbrev pub DidPlain : List Op → List Reply → (a b : AtWork P D) → Type 0
-  DidPlain os rs a b = DidLines g pools blocks os rs (plainly a) (plainly b) × LinesAsk devices blocks os rs a.outside.device b.outside.device
-
-  all-plain : (os : List Op) (rs : List Reply) (ls : List Line) (a b : AtWork P D) → AllByRecursion (λ op. on_object op ≡ None) os → AreLinesOf os rs ls → DidAll pools devices g blocks ls a b → DidPlain os rs a b
-  all-plain [] [] [] a b plain are did = (ap plainly did, ap (λ (x : AtWork P D). x.outside.device) did)
-  all-plain [] [] (l ∷ ls) a b plain are did = absurd are
-  all-plain [] (r ∷ rs) ls a b plain are did = absurd are
-  all-plain (o ∷ os) [] ls a b plain are did = absurd are
-  all-plain (o ∷ os) (r ∷ rs) [] a b plain are did = absurd are
-  all-plain (o ∷ os) (r ∷ rs) (l ∷ ls) a b plain are did =
-      let next = did.0 in
-      let one : DidLineBy pools devices g blocks None l a next = subst (λ (x : Option OnObject). DidLineBy pools devices g blocks x l a next) (ap on_object are.0 ∙ plain.0) did.1 in
-      let rest = all-plain os rs ls next b plain.1 are.2 did.2 in (
-        (plainly next, subst (λ (x : Op × Reply). DidLine g pools blocks x.0 x.1 (plainly a) (plainly next)) (λ i. (are.0 i, are.1 i)) one.1, rest.0),
-        (next.outside.device, subst (λ (x : Op × Reply). LineAsks devices blocks x.0 x.1 a.outside.device next.outside.device) (λ i. (are.0 i, are.1 i)) one.2, rest.1),
-      )
-
-  pub ops-plain : (os : List Op) (a b : AtWork P D) (r : Result (Vec Reply Global) NoMemory) → AllByRecursion (λ op. on_object op ≡ None) os → IfOk r (λ v. DidOps pools devices g blocks os v.items a b) → IfOk r (λ v. DidPlain os v.items a b)
-  ops-plain os a b (Ok v) plain did = all-plain os v.items did.lines a b plain did.are did.did
-  ops-plain os a b (Err why) plain did = tt
 
 -- ---- what all lines come to, whatever device was asked
 
@@ -252,40 +218,128 @@ module _ {P D : Type 0} (pools : PoolGhosts P) (devices : DeviceGhosts D) (g : C
   all-number (l ∷ ls) a b d = all-number ls d.0 b d.2 ∙ by-number pools devices g blocks (on_object l.op) l a d.0 d.1
 
   -- an answer by a cell that was found stands while more is seen of it
-  still-from : (len : ℕ) (image : Option (List ℕ)) (at : Oid) (op : Op) (reply : Reply) (p q r : PartyPlace) → IsCell g (cell_of g.cells at) → KeepsCells g q r → AnswersFrom g len image p.own.about.openings q.own.seen at op reply
-      → AnswersFrom g len image p.own.about.openings r.own.seen at op reply
-  still-from len image at op reply p q r in_range second f = record {
-    cell = f.cell;
-    sound = f.sound;
-    opening = f.opening;
-    front = let x = f.front in let y = second.fronts (cell_of g.cells at) in_range in (x.0 ++ y.0, y.1 ∙ (ap (λ (l : List SeenLine). l ++ y.0) x.1 ∙ append_assoc (cell_lines f.cell) x.0 y.0));
-    answer = f.answer;
-  }
+  still-from : (len : ℕ) (image : Option (List ℕ)) (n : ℕ) (had : List Noted) (at : Oid) (l : Line) (p q r : PartyPlace) → IsCell g (cell_of g.cells at) → KeepsCells g q r
+      → AnswersFrom g len image p.own.about.openings q.own.seen n had at l → AnswersFrom g len image p.own.about.openings r.own.seen n had at l
+  still-from len image n had at l p q r in_range second f =
+      let i = cell_of g.cells at in
+      let x = f.front in
+      let y = second.fronts i in_range in
+      record {
+        cell = f.cell;
+        sound = f.sound;
+        opening = f.opening;
+        mine = f.mine;
+        front = (x.0 ++ y.0, y.1 ∙ (ap (λ (s : List SeenLine). s ++ y.0) x.1 ∙ append_assoc (cell_lines f.cell ++ lines_of_cell i l.work.noted) x.0 y.0));
+        brought = f.brought;
+        acts = f.acts;
+        answer = f.answer;
+      }
 
-  by-answer : (o : Option OnObject) (n : ℕ) (l : Line) (a b : AtWork P D) → on_object l.op ≡ o → is_of_caller a.party.number l.op ≡ true → DidLineBy pools devices g blocks o l a b
-      → AnswersLine g (pools.size a.outside.pool) (pools.told a.outside.pool) blocks a.party.own.about.openings b.party.own.seen a.kept o l
-  by-answer None n l a b is his d = d.1.answer
-  by-answer (Some on) n l a b is his d =
-      subst (λ (o : Option OnObject). IfSome o (λ on. AnswersFrom g (pools.size a.outside.pool) (pools.told a.outside.pool) a.party.own.about.openings b.party.own.seen on.at l.op l.reply)) is
-      (object-answers pools devices g a.outside b.outside a.party b.party l.op l.reply his d.1.came)
+  module _ (valid : IsConfig g) (place : ℕ) where
+    by-answer : (o : Option OnObject) (l : Line) (a b : AtWork P D) → on_object l.op ≡ o → DidLineBy pools devices g blocks o l a b → (did : List Act) (had : List Noted) → HasToldAll g did had a.party
+        → AnswersLine g (pools.size a.outside.pool) (pools.told a.outside.pool) place blocks a.party.own.about.openings b.party.own.seen a.party.number had a.kept o l
+    by-answer None l a b is d did had told = d.1.answer
+    by-answer (Some on) l a b is d did had told = (
+      pools.told a.outside.pool,
+      refl,
+      subst (λ (o : Option OnObject). IfSome o (λ on. AnswersFrom g (pools.size a.outside.pool) (pools.told a.outside.pool) a.party.own.about.openings b.party.own.seen a.party.number had on.at l)) is
+          (d.1.answers valid did had told),
+    )
 
-  still-answers : (valid : IsConfig g) (len : ℕ) (image : Option (List ℕ)) (o : Option OnObject) (l : Line) (kept : List KeptRead) (p q r : PartyPlace) → KeepsCells g q r
-      → AnswersLine g len image blocks p.own.about.openings q.own.seen kept o l → AnswersLine g len image blocks p.own.about.openings r.own.seen kept o l
-  still-answers valid len image None l kept p q r keeps answer = answer
-  still-answers valid len image (Some on) l kept p q r keeps answer = still-from len image on.at l.op l.reply p q r (cell-there g valid on.at) keeps answer
+    pub still-answers : (len : ℕ) (image : Option (List ℕ)) (n : ℕ) (had : List Noted) (o : Option OnObject) (l : Line) (kept : List KeptRead) (p q r : PartyPlace) → KeepsCells g q r
+        → AnswersLine g len image place blocks p.own.about.openings q.own.seen n had kept o l → AnswersLine g len image place blocks p.own.about.openings r.own.seen n had kept o l
+    still-answers len image n had None l kept p q r keeps answer = answer
+    still-answers len image n had (Some on) l kept p q r keeps answer = (answer.0, answer.1, still-from len answer.0 n had on.at l p q r (cell-there g valid on.at) keeps answer.2)
 
-  -- each line has its answer
-  pub all-answers : (valid : IsConfig g) (n : ℕ) (ls : List Line) (a b : AtWork P D) (len : ℕ) (image : Option (List ℕ)) (openings : List (List ℕ)) → pools.size a.outside.pool ≡ len → pools.told a.outside.pool ≡ image → a.party.own.about.openings ≡ openings
-      → a.party.number ≡ n → AreHis n ls → DidAll pools devices g blocks ls a b → AnswersLines g len image blocks openings b.party.own.seen a.kept ls
-  all-answers valid n [] a b len image openings size told opens number his d = tt
-  all-answers valid n (l ∷ ls) a b len image openings size told opens number his d =
-      let next = d.0 in
-      let o = on_object l.op in
-      let one = by-keeps o n l a next his.0 d.1 in
-      let later = (all-keeps n ls next b his.1 d.2).0 in
-      let mine : is_of_caller a.party.number l.op ≡ true = ap (λ (m : ℕ). is_of_caller m l.op) number ∙ his.0 in
-      let here = still-answers valid (pools.size a.outside.pool) (pools.told a.outside.pool) o l a.kept a.party next.party b.party later (by-answer o n l a next refl mine d.1) in
-      let rest = all-answers valid n ls next b len image openings (one.2.size ∙ size) (one.2.told ∙ told) (ap (λ (x : About). x.openings) one.0.about ∙ opens) (by-number pools devices g blocks o l a next d.1 ∙ number) his.1 d.2 in (
-        subst (λ (x : ℕ × Option (List ℕ) × List (List ℕ)). AnswersLine g x.0 x.1 blocks x.2 b.party.own.seen a.kept o l) (λ i. (size i, told i, opens i)) here,
-        subst (λ (ks : List KeptRead). AnswersLines g len image blocks openings b.party.own.seen ks ls) (by-kept o l a next refl d.1) rest,
-      )
+    -- each line has its answer
+    pub all-answers : (n : ℕ) (ls : List Line) (a b : AtWork P D) (len : ℕ) (image : Option (List ℕ)) (openings : List (List ℕ)) → pools.size a.outside.pool ≡ len → pools.told a.outside.pool ≡ image → a.party.own.about.openings ≡ openings
+        → a.party.number ≡ n → AreHis n ls → DidAll pools devices g blocks ls a b → (did : List Act) (had : List Noted) → HasToldAll g did had a.party
+        → AnswersLines g len image place blocks openings b.party.own.seen n had a.kept ls
+    all-answers n [] a b len image openings size told opens number his d did had told_all = tt
+    all-answers n (l ∷ ls) a b len image openings size told opens number his d did had told_all =
+        let next = d.0 in
+        let o = on_object l.op in
+        let one = by-keeps o n l a next his.0 d.1 in
+        let later = (all-keeps n ls next b his.1 d.2).0 in
+        let here = still-answers (pools.size a.outside.pool) (pools.told a.outside.pool) a.party.number had o l a.kept a.party next.party b.party later (by-answer o l a next refl d.1 did had told_all) in
+        let rest = all-answers n ls next b len image openings (one.2.size ∙ size) (one.2.told ∙ told) (ap (λ (x : About). x.openings) one.0.about ∙ opens) (by-number pools devices g blocks o l a next d.1 ∙ number) his.1 d.2
+        (did ++ acts_with g blocks a.kept l) (had ++ l.work.noted) (by-told o l a next refl d.1 did had told_all) in (
+          subst (λ (x : ℕ × Option (List ℕ) × List (List ℕ) × ℕ). AnswersLine g x.0 x.1 place blocks x.2 b.party.own.seen x.3 had a.kept o l) (λ i. (size i, told i, opens i, number i)) here,
+          subst (λ (ks : List KeptRead). AnswersLines g len image place blocks openings b.party.own.seen n (had ++ l.work.noted) ks ls) (by-kept o l a next refl d.1) rest,
+        )
+
+  -- the reads that are kept behind all of them
+  pub all-kept : (ls : List Line) (a b : AtWork P D) → DidAll pools devices g blocks ls a b → b.kept ≡ kept_after_lines blocks a.kept ls
+  all-kept [] a b d = ap (λ (x : AtWork P D). x.kept) d
+  all-kept (l ∷ ls) a b d = all-kept ls d.0 b d.2 ∙ ap (λ (ks : List KeptRead). kept_after_lines blocks ks ls) (by-kept (on_object l.op) l a d.0 refl d.1)
+
+  -- each line's work fits it
+  plain-fits : (n : ℕ) (op : Op) (reply : Reply) (work : Work) → on_object op ≡ None → work ≡ no_work → IsWorkOf g n (record { op = op; reply = reply; work = work })
+  plain-fits n (ops.Read m t x window) reply work is none = record { together = ap (λ (w : Work). w.brought) none; notes = none }
+  plain-fits n (ops.Hold m t x) reply work is none = record { together = ap (λ (w : Work). w.brought) none; notes = none }
+  plain-fits n (ops.Drop m x) reply work is none = record { together = ap (λ (w : Work). w.brought) none; notes = none }
+  plain-fits n ops.Feed reply work is none = record { together = ap (λ (w : Work). w.brought) none; notes = none }
+  plain-fits n (ops.Txg t) reply work is none = record { together = ap (λ (w : Work). w.brought) none; notes = none }
+  plain-fits n (ops.Cap c) reply work is none = record { together = ap (λ (w : Work). w.brought) none; notes = none }
+  plain-fits n (ops.Get m t at w) reply work is none = absurd (false≢true (sym (ap is_some is)))
+  plain-fits n (ops.Put m t at size fill) reply work is none = absurd (false≢true (sym (ap is_some is)))
+  plain-fits n (ops.Patch m t at from bytes) reply work is none = absurd (false≢true (sym (ap is_some is)))
+  plain-fits n (ops.Pin m t at) reply work is none = absurd (false≢true (sym (ap is_some is)))
+  plain-fits n (ops.Unpin m at) reply work is none = absurd (false≢true (sym (ap is_some is)))
+
+  by-fits : (o : Option OnObject) (l : Line) (a b : AtWork P D) → on_object l.op ≡ o → DidLineBy pools devices g blocks o l a b → IsWorkOf g a.party.number l
+  by-fits None l a b is d = plain-fits a.party.number l.op l.reply l.work is d.0
+  by-fits (Some on) l a b is d = d.1.fits
+
+  pub all-fits : (n : ℕ) (ls : List Line) (a b : AtWork P D) → a.party.number ≡ n → DidAll pools devices g blocks ls a b → AllByRecursion (IsWorkOf g n) ls
+  all-fits n [] a b number d = tt
+  all-fits n (l ∷ ls) a b number d = (
+    subst (λ (m : ℕ). IsWorkOf g m l) number (by-fits (on_object l.op) l a d.0 refl d.1),
+    all-fits n ls d.0 b (by-number pools devices g blocks (on_object l.op) l a d.0 d.1 ∙ number) d.2,
+  )
+
+  -- what they asked the device
+  by-asked : (o : Option OnObject) (l : Line) (a b : AtWork P D) → DidLineBy pools devices g blocks o l a b → AsksFor devices (size_asked_by blocks o l) (effect_with l.work.brought l.reply) a.outside.device b.outside.device
+  by-asked None l a b d = subst (λ (w : Work). AsksFor devices (size_asked blocks l.op) (effect_with w.brought l.reply) a.outside.device b.outside.device) (sym d.0) d.2
+  by-asked (Some on) l a b d = d.1.asked
+
+  pub all-asked : (ls : List Line) (a b : AtWork P D) → DidAll pools devices g blocks ls a b → AllAsked devices blocks ls a.outside.device b.outside.device
+  all-asked [] a b d = ap (λ (x : AtWork P D). x.outside.device) d
+  all-asked (l ∷ ls) a b d = (d.0.outside.device, by-asked (on_object l.op) l a d.0 d.1, all-asked ls d.0 b d.2)
+
+  -- ---- what a caller's operations came to
+
+  module _ {E : Type 0} (given : DeviceGhosts E) (valid : IsConfig g) (all : List Op) (a b : AtWork P D) where
+    abbrev his_ops : List Op
+    his_ops = filter (is_of_caller a.party.number) all
+
+    came-to : (rs : List Reply) (did : DidOps pools devices g blocks his_ops rs a b) (was now : Option E) → AsksGiven given blocks did.lines was now
+        → CameTo pools given g blocks his_ops rs (plainly pools devices g blocks a) (plainly pools devices g blocks b) was now
+    came-to rs did was now asked =
+        let his = his-lines a.party.number his_ops rs did.lines (own-lines a.party.number all) did.are in
+        let keeps = all-keeps a.party.number did.lines a b his did.did in
+        record {
+          lines = did.lines;
+          are = did.are;
+          fits = all-fits a.party.number did.lines a b refl did.did;
+          number = all-number did.lines a b did.did;
+          joined = keeps.1;
+          cells = keeps.0;
+          kept = all-kept did.lines a b did.did;
+          told = all-told did.lines a b did.did;
+          answers = λ acts had told place. all-answers valid place a.party.number did.lines a b (pools.size a.outside.pool) (pools.told a.outside.pool) a.party.own.about.openings refl refl refl refl his did.did acts had told;
+          calls = all-calls did.lines a b did.did;
+          asked = asked;
+        }
+
+    -- over a device without bytes, as where none was given
+    pub came-without : (r : Result (Vec Reply Global) NoMemory) → ((d : D) → devices.size d ≡ 0) → IfOk r (λ v. DidOps pools devices g blocks his_ops v.items a b)
+        → IfOk r (λ v. CameTo pools given g blocks his_ops v.items (plainly pools devices g blocks a) (plainly pools devices g blocks b) None None)
+    came-without (Ok v) empty did = came-to v.items did None None (none-came devices blocks did.lines a.outside.device b.outside.device (all-asked did.lines a b did.did) empty)
+    came-without (Err why) empty did = tt
+
+  -- over the device that was given
+  pub came-over : (valid : IsConfig g) (all : List Op) (a b : AtWork P D) (r : Result (Vec Reply Global) NoMemory) → IfOk r (λ v. DidOps pools devices g blocks (filter (is_of_caller a.party.number) all) v.items a b)
+      → IfOk r (λ v. CameTo pools devices g blocks (filter (is_of_caller a.party.number) all) v.items (plainly pools devices g blocks a) (plainly pools devices g blocks b) (Some a.outside.device) (Some b.outside.device))
+  came-over valid all a b (Ok v) did = came-to devices valid all a b v.items did (Some a.outside.device) (Some b.outside.device) (all-asked did.lines a b did.did)
+  came-over valid all a b (Err why) did = tt

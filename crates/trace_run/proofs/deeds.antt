@@ -11,6 +11,8 @@ pub mod ObjectReplies
 pub mod ObjectWork
 pub mod OperatesDone
 pub mod OwnAlone
+pub mod OwnFound
+pub mod OutlineFound
 pub mod ReadSame
 pub mod TurnMakes
 pub mod WorkDone

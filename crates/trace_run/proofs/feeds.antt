@@ -1,3 +1,4 @@
+pub mod FedLemmas
 pub mod FeedLemmas
 pub mod FeedStands
 pub mod PickedLemmas

@@ -2,10 +2,12 @@ pub mod CellActs
 pub mod CellRun
 pub mod CloseLemmas
 pub mod CrewEnds
-pub mod EachLemmas
 pub mod EndLemmas
+pub mod FeederKinds
 pub mod GenLemmas
 pub mod HistoryLemmas
+pub mod LineActs
+pub mod LineAnswers
 pub mod OutcomeLemmas
 pub mod PlacedLemmas
 pub mod RanLemmas

@@ -1,11 +1,12 @@
 -- What the operations of a trace may be answered, for a pool of some length that may tell its bytes.
-use Rattle.std.specs.Prelude.{◌==◌, ◌≡◌, ℕ, ◌+◌, ◌<◌, ◌≤◌, ◌&&◌, Bool, true, false, List, [], ◌∷◌, length, take, Option, Some, slice_get, if◌then◌else◌}
+use Rattle.std.specs.Prelude.{◌==◌, ◌≡◌, ◌⊎◌, ℕ, ◌+◌, ◌<◌, ◌≤◌, ◌&&◌, Bool, true, false, List, [], ◌∷◌, length, take, Option, Some, slice_get, if◌then◌else◌}
 use Rattle.blk_ptr.specs.declared.ptr.Ptr.{Ptr}
 use Rattle.blk_ptr.specs.Key.{IsValid, IsFirstKeyFault}
+use Rattle.l2_dev.specs.declared.report.FeedReport.{FeedReport}
 use Rattle.trace_text.specs.declared.op.Op.{Op}
 use Rattle.trace_text.specs.declared.op.Op.TheVariants as ops
 use Rattle.trace_text.specs.declared.reply.Reply.{Reply}
-use Rattle.trace_text.specs.declared.reply.Reply.TheVariants.{Read, Kept, Dropped, Capped, Synced, Refused}
+use Rattle.trace_text.specs.declared.reply.Reply.TheVariants.{Read, Kept, Dropped, Capped, Synced, Fed, FedNone, Refused}
 use Rattle.trace_text.specs.declared.reply.Refusal.{Refusal}
 use Rattle.trace_text.specs.declared.reply.Refusal.TheVariants.{PoolFault, Mismatch, Key, Range, NoHold}
 use Rattle.dbuf_state.specs.declared.window.Window.{Window}
@@ -93,7 +94,11 @@ AnswersDrop kept dropped block Dropped = dropped < kept
 AnswersDrop kept dropped block (Refused refusal) = IsDropRefusal kept dropped block refusal
 AnswersDrop kept dropped block other = ⊥
 
--- the answer to an operation, behind these operations and replies; one that is not done yet has none
+-- the answers to a line `feed`: the report of its feed, or none where no device was started
+abbrev pub AnswersFeed : Reply → Type 0
+AnswersFeed reply = (reply ≡ FedNone) ⊎ ((report : FeedReport) × (reply ≡ Fed report))
+
+-- The answer to an operation, behind these operations and replies. One on an object is answered by its cell, which says so elsewhere.
 abbrev pub Answers : ℕ → Option (List ℕ) → List Ptr → List Op → List Reply → Op → Reply → Type 0
 Answers pool_len image blocks earlier replied (ops.Read n t x window) reply =
     (ptr : Ptr) × (slice_get blocks x ≡ Some ptr) × AnswersRead pool_len image ptr window reply
@@ -103,7 +108,12 @@ Answers pool_len image blocks earlier replied (ops.Drop n x) reply =
     AnswersDrop (kept_reads n x earlier replied) (dropped_reads n x earlier replied) x reply
 Answers pool_len image blocks earlier replied (ops.Cap c) reply = reply ≡ Capped c
 Answers pool_len image blocks earlier replied (ops.Txg t) reply = (group blocks bytes : ℕ) × (reply ≡ Synced group blocks bytes)
-Answers pool_len image blocks earlier replied other reply = ⊥
+Answers pool_len image blocks earlier replied ops.Feed reply = AnswersFeed reply
+Answers pool_len image blocks earlier replied (ops.Get n t at window) reply = Unit {0}
+Answers pool_len image blocks earlier replied (ops.Put n t at size fill) reply = Unit {0}
+Answers pool_len image blocks earlier replied (ops.Patch n t at from bytes) reply = Unit {0}
+Answers pool_len image blocks earlier replied (ops.Pin n t at) reply = Unit {0}
+Answers pool_len image blocks earlier replied (ops.Unpin n at) reply = Unit {0}
 
 -- each operation has its answer, in their order
 pub record AnswersAll (pool_len : ℕ) (image : Option (List ℕ)) (blocks : List Ptr) (ops : List Op) (replies : List Reply) : Type 0 where

@@ -1,9 +1,11 @@
 -- How the cells of a run end: the feeder ends them, while all other parties have joined it. And what they come to.
 use Rattle.std.specs.Prelude.{◌≡◌, ◌≢◌, ℕ, zero, suc, ◌<◌, ◌≤◌, ◌==◌, List, [], ◌∷◌, ◌++◌, Some, filter, length, slice_get}
 use Rattle.std.specs.List.{AllByRecursion}
+use Rattle.blk_ptr.specs.declared.key.Key.{Key}
 use Rattle.blk_ptr.specs.Hash.{shard_of}
 use Rattle.arc_core.specs.declared.config.Config.{Config}
 use Rattle.arc_core.specs.declared.event.Event.{Event}
+use Rattle.arc_core.specs.declared.event.Event.TheVariants.{Drop}
 use Rattle.arc_core.specs.Operations.{Act, acts_in, moments, number_of as number_of_event, own_moments}
 use Rattle.turn_table.specs.Places.{Place, kept as as_kept}
 use Rattle.arc_table.specs.declared.view.Known.{Known}
@@ -12,7 +14,7 @@ use Rattle.arc_table.specs.declared.view.Line.TheVariants as line
 use Rattle.arc_table.specs.Cache.{Cache}
 use Rattle.arc_table.specs.Ended.{Ended}
 use Rattle.arc_table.specs.Fronts.{front_of}
-use Rattle.arc_table.specs.Geometry.{IsCell, parties_of}
+use Rattle.arc_table.specs.Geometry.{IsCell, cell_number, parties_of}
 use Rattle.arc_table.specs.Seen.{AreEntriesSeen, AreSeen, HasAll, events_in, seen_of}
 use Rattle.arc_table.specs.Telling.{opening_of}
 use Rattle.dbuf_cells.specs.Turns.{OnHeap}
@@ -22,11 +24,11 @@ use Rattle.dbuf_state.specs.Objects.{PlainCell}
 use Rattle.dbuf_state.specs.declared.event.CellEvent.{CellEvent}
 use Rattle.dbuf_state.specs.declared.event.CellEvent.TheVariants.{End}
 use Rattle.trace_text.specs.declared.trace.Trace.{Trace}
-use Rattle.trace_run.specs.Deeds.{HasAct, Noted, acts_of_events, events_of_cell, events_there, lines_of_cell, with_number}
+use Rattle.trace_run.specs.Deeds.{HasToldOthers, Noted, acts_of_events, events_of_cell, events_there}
 use Rattle.trace_run.specs.KeptBlocks.{Stands}
 use Rattle.trace_run.specs.MadeLines.{made_in, made_of}
 use Rattle.trace_run.specs.Making.{AreEventsSeen, AreNoEntries}
-use Rattle.trace_run.specs.Meeting.{HaveParted, IsLevel}
+use Rattle.trace_run.specs.Meeting.{HasSettled, HaveParted, IsLevel}
 use Rattle.trace_run.specs.Openings.{Knows, opening_map}
 
 -- the entry that the number n makes of each cell at the end
@@ -38,12 +40,12 @@ abbrev pub ends_from : (n i count : ℕ) → List Noted
 ends_from n i zero = []
 ends_from n i (suc count) = record { cell = i; event = End n } ∷ ends_from n (suc i) count
 
-module _ {C : Type 0} where
-  -- What the party made with other numbers than its own, those of cells, are these acts, each once; and what it did to each cell is this.
-  pub record HasToldOthers (g : Config) (did : List Act) (noted : List Noted) (p : Place (Known C)) : Type 0 where
-    pub cells : (shard c : ℕ) → c ≢ p.number → acts_in (shard_of g.shards) shard c did ≡ acts_of_events (with_number c (made_in g shard p))
-    pub kinds : (shard c : ℕ) → c ≢ p.number → AllByRecursion HasAct (with_number c (made_in g shard p))
-    pub entries : (i : ℕ) → IsCell g i → made_of i p ≡ lines_of_cell i noted
+-- a hold of a cell was dropped
+pub record IsCellDrop (g : Config) (e : Event) : Type 0 where
+  pub cell : ℕ
+  pub key : Key
+  pub is : e ≡ Drop (cell_number g cell) key
+  pub in_range : IsCell g cell
 
 module _ {C : Type 0} where
   -- What it comes to where nobody had done anything to a cell: no event of a shard was made, and the party has seen just its ends.
@@ -77,6 +79,10 @@ module _ {C : Type 0} where
     pub one : (o : Place (Known C)) → olds ≡ o ∷ [] → AreEventsSeen cache.config p.number p.own.mine o.own.seen
         → (shard : ℕ) → seen_of cache.config shard q ≡ seen_of cache.config shard o ++ events_there cache.config shard drops
     pub idle : AreNoEntries cache.config p.own.mine → AllByRecursion (λ o. AreNoEntries cache.config o.own.mine) olds → EndedIdle cache drops p q
+    -- each is a drop with a cell's number
+    pub are : AllByRecursion (IsCellDrop cache.config) drops
+    -- the feeder has settled all that it picked, where it had before
+    pub settled : p.number ≡ cache.config.callers → HasSettled p → HasSettled q
 
   -- the same, where the feeder's is the last of the parties, before and behind
   pub record EndedCrew (cache : Cache) (olds news : List (Place (Known C))) : Type 0 where

@@ -79,6 +79,12 @@ module _ {C : Type 0} where
     pub kinds : (shard c : ℕ) → c ≢ p.number → AllByRecursion HasAct (with_number c (made_in g shard p))
     pub entries : (i : ℕ) → IsCell g i → made_of i p ≡ lines_of_cell i noted
 
+  -- What the party made with other numbers than its own, those of cells, are these acts, each once; and what it did to each cell is this.
+  pub record HasToldOthers (g : Config) (did : List Act) (noted : List Noted) (p : Place (Known C)) : Type 0 where
+    pub cells : (shard c : ℕ) → c ≢ p.number → acts_in (shard_of g.shards) shard c did ≡ acts_of_events (with_number c (made_in g shard p))
+    pub kinds : (shard c : ℕ) → c ≢ p.number → AllByRecursion HasAct (with_number c (made_in g shard p))
+    pub entries : (i : ℕ) → IsCell g i → made_of i p ≡ lines_of_cell i noted
+
   -- it knows what it knew of the cells' beginnings, and has seen of each cell at least what it had
   pub record KeepsCells (g : Config) (p q : Place (Known C)) : Type 0 where
     pub about : q.own.about ≡ p.own.about

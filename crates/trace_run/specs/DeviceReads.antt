@@ -1,6 +1,5 @@
 -- The reads of the cache device that a caller's lines ask for, by their replies.
-use Rattle.std.specs.Prelude.{◌≡◌, ◌≢◌, ◌<◌, ◌≤◌, ◌+◌, ℕ, List, [], ◌∷◌, Option, None, Some, slice_get, Result, Ok, Err}
-use Rattle.std.specs.List.{AllByRecursion}
+use Rattle.std.specs.Prelude.{◌≡◌, ◌<◌, ◌≤◌, ◌+◌, ℕ, List, slice_get, Result, Ok, Err}
 use Rattle.std.specs.Option.{option_map_or}
 use Rattle.blk_ptr.specs.declared.ptr.Ptr.{Ptr}
 use Rattle.arc_core.specs.declared.served.ReadFault.{ReadFault}
@@ -13,10 +12,6 @@ use Rattle.trace_text.specs.declared.op.Op.TheVariants as ops
 use Rattle.trace_text.specs.declared.reply.Reply.{Reply}
 use Rattle.trace_run.specs.declared.get.Got.{Got}
 use Rattle.trace_run.specs.Effects.{Effect, Answered, GivenBack, NoEffect, PoolRefused, effect_of}
-
--- none of these replies tells of bytes that came from the cache device
-abbrev pub NoneFromDevice : List Reply → Type 0
-NoneFromDevice = AllByRecursion (λ reply. effect_of reply ≢ Answered served.L2)
 
 -- how many bytes a line asks for: those of its block, and none where it asks for no block
 abbrev pub size_asked : List Ptr → Op → ℕ
@@ -67,17 +62,3 @@ module _ {D : Type 0} (devices : Ghosts D) where
   -- what a line asked of the device
   abbrev pub LineAsks : List Ptr → Op → Reply → (old new : D) → Type 0
   LineAsks blocks op reply old new = AsksFor (size_asked blocks op) (effect_of reply) old new
-
-  -- what these lines did, one after another
-  abbrev pub LinesAsk : List Ptr → List Op → List Reply → (old new : D) → Type 0
-  LinesAsk blocks [] [] old new = new ≡ old
-  LinesAsk blocks [] (reply ∷ replies) old new = ⊥
-  LinesAsk blocks (op ∷ ops) [] old new = ⊥
-  LinesAsk blocks (op ∷ ops) (reply ∷ replies) old new = (next : D) × LineAsks blocks op reply old next × LinesAsk blocks ops replies next new
-
-  -- A caller's lines asked the device that it was given for just their reads; one that was given none was told of no bytes from there.
-  abbrev pub AsksGiven : List Ptr → List Op → List Reply → (old new : Option D) → Type 0
-  AsksGiven blocks ops replies None None = NoneFromDevice replies
-  AsksGiven blocks ops replies None (Some new) = ⊥
-  AsksGiven blocks ops replies (Some old) None = ⊥
-  AsksGiven blocks ops replies (Some old) (Some new) = LinesAsk blocks ops replies old new

@@ -59,7 +59,7 @@ pub record ExplainReads (trace : Trace) (restored : List Restored) (replies : Li
   -- each call of each caller stands once in the history of its key's shard, in the order of the lines; the feeder made these restores, then one
   -- Resize in each for each capacity that the trace gives, in the order of the lines, and nothing else
   pub every_call : HoldEveryCallOnce trace.config (shard_of trace.config.shards) (opening_of trace.config)
-      (acts_of_callers trace.blocks trace.config.callers trace.ops replies) (events_by_feeder trace.config restored trace.ops replies) histories
+      (acts_of_callers trace.blocks trace.config.callers trace.ops replies) (events_by_feeder trace.config restored trace.ops replies []) histories
   -- each history ends with the drops at the end of the run
   pub ending : (shard : ℕ) → shard < length histories
       → EndsWith (slice_index_or histories shard []) (drops_at_end trace.config trace.blocks shard trace.config.callers trace.ops replies)
@@ -74,11 +74,11 @@ pub record Explain (trace : Trace) (restored : List Restored) (work : RunWork) (
   pub at_rest : AllByRecursion (λ history. IsAtRest (replay (opening_of trace.config) history)) histories
   -- each begins with the restores of its keys, in the order in which they were found
   pub begins : (shard : ℕ) → shard < length histories → BeginsWith (slice_index_or histories shard []) (restores_in trace.config restored shard)
-  -- Each call of each caller stands once in the history of its key's shard, in the order of the lines; the feeder made these restores, then one
-  -- Resize in each for each capacity that the trace gives, in the order of the lines, and nothing else with its own number. The events with the numbers of cells
+  -- Each call of each caller stands once in the history of its key's shard, in the order of the lines; the feeder made these restores, then for each line
+  -- that gives a capacity one Resize in each, and for each feed its own events, in the order of the lines, and nothing else with its own number. The events with the numbers of cells
   -- stand for acts, each for one.
   pub every_call : HoldEveryCallOnce trace.config (shard_of trace.config.shards) (opening_of trace.config)
-      (own_acts trace.config trace.blocks work trace.config.callers ++ acts_of_cells trace.config histories) (events_by_feeder trace.config restored trace.ops replies) histories
+      (own_acts trace.config trace.blocks work trace.config.callers ++ acts_of_cells trace.config histories) (events_by_feeder trace.config restored trace.ops replies work.feeds) histories
   -- these are the callers' and the feeder's acts with such a number, of each party in its order
   pub made : (shard : ℕ) → shard < length histories → AreMadeBy trace.config shard (acts_by trace.config trace.blocks work) (slice_index_or histories shard [])
   -- each history ends with the drops at the end of the run: those of what callers keep, and then those of what the cells keep

@@ -25,7 +25,6 @@ use Rattle.trace_run.specs.declared.device.Device.{Device}
 use Rattle.trace_run.specs.declared.device.Device.TheVariants as device
 use Rattle.trace_run.specs.Devices.{lent_in}
 use Rattle.trace_run.specs.KeptBlocks.{Stands}
-use Rattle.trace_run.specs.Making.{MadeItsOwn}
 
 -- the line asks for a feed
 abbrev pub is_feed : Op → Bool
@@ -77,12 +76,18 @@ module _ {D : Type 0} (devices : Ghosts D) where
   AsksForFeeds [] was now = now ≡ was
   AsksForFeeds (feed ∷ feeds) was now = (next : D) × MakesDeviceCalls devices feed.calls was next × AsksForFeeds feeds next now
 
--- The feeder's party between its lines: it stands by itself, keeps nothing, made events of its own number alone, and has settled all that it picked.
+  -- so it was, where there is a device
+  abbrev pub AsksOfFeeds : List FeedDone → (was now : Option D) → Type 0
+  AsksOfFeeds feeds None None = feeds ≡ []
+  AsksOfFeeds feeds None (Some now) = ⊥
+  AsksOfFeeds feeds (Some was) None = ⊥
+  AsksOfFeeds feeds (Some was) (Some now) = AsksForFeeds feeds was now
+
+-- The feeder's party between its lines: it stands by itself, keeps nothing, and has settled all that it picked.
 pub record IsIdleFeeder {C : Type 0} (cache : Cache) (p : Place (Known C)) : Type 0 where
   pub number : p.number ≡ cache.config.callers
   pub alone : p.joined ≡ []
   pub stands : Stands cache p []
-  pub only : MadeItsOwn cache.config p
   pub settled : (i : ℕ) → picks_of i p ≡ []
 
 module _ {C D : Type 0} (m : Meanings C) (devices : Ghosts D) (cache : Cache) where

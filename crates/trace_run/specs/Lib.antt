@@ -12,6 +12,7 @@ pub mod Devices
 pub mod Effects
 pub mod Ends
 pub mod Explaining
+pub mod FeedEvents
 pub mod Feeds
 pub mod KeptBlocks
 pub mod KeptQueue
@@ -20,6 +21,7 @@ pub mod Lines
 pub mod MadeLines
 pub mod Making
 pub mod Meeting
+pub mod ObjectAnswers
 pub mod ObjectLines
 pub mod Objects
 pub mod ObjectReplies

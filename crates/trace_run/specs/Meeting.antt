@@ -18,7 +18,7 @@ use Rattle.arc_table.specs.Items.{Meanings}
 use Rattle.arc_table.specs.pact.Rule.{Pact}
 use Rattle.arc_table.specs.Seen.{events_in, seen_of, turn_of}
 use Rattle.arc_table.specs.Telling.{opening_of}
-use Rattle.trace_run.specs.Deeds.{HasToldAll, Noted, SameMade}
+use Rattle.trace_run.specs.Deeds.{HasToldAll, HasToldOthers, Noted, SameMade}
 use Rattle.trace_run.specs.Making.{AreEventsSeen, AreNoEntries, HasSeenItsEvents, MadeItsOwn}
 use Rattle.arc_table.specs.Views.{after_learned}
 use Rattle.trace_run.specs.declared.kept_blocks.KeptBlock.{KeptBlock}
@@ -87,16 +87,21 @@ module _ {C : Type 0} where
     pub stands : Stands cache p kept
     pub told : HasToldAll cache.config acts noted p
 
-  -- The feeder's party stands by itself and keeps nothing, and knows that the cells began so. These are the events of each shard that it made, and what
-  -- it has seen begins with these.
-  pub record IsFed (cache : Cache) (openings : List (List ℕ)) (feeds begun : (shard : ℕ) → List Event) (p : Place (Known C)) : Type 0 where
+  -- the party lists no pick of any shard
+  abbrev pub HasSettled : Place (Known C) → Type 0
+  HasSettled p = (i : ℕ) → picks_of i p ≡ []
+
+  -- The feeder's party stands by itself and keeps nothing, knows that the cells began so, and has settled all that it picked. These are the events of each shard that it made with its own number,
+  -- and what it has seen begins with these. With the numbers of cells it has done these acts, and this to cells.
+  pub record IsFed (cache : Cache) (openings : List (List ℕ)) (feeds begun : (shard : ℕ) → List Event) (acts : List Act) (noted : List Noted) (p : Place (Known C)) : Type 0 where
     pub number : p.number ≡ cache.config.callers
     pub alone : p.joined ≡ []
     pub stands : Stands cache p []
     pub knows : Knows openings p
     pub fed : (shard : ℕ) → shard < cache.config.shards → own_events p.number (seen_of cache.config shard p) ≡ feeds shard
     pub since : (shard : ℕ) → StartsWith (seen_of cache.config shard p) (begun shard)
-    pub only : MadeItsOwn cache.config p
+    pub told : HasToldOthers cache.config acts noted p
+    pub settled : HasSettled p
 
   -- q has seen all that o had, and behind it no event of o's own
   pub record HasLearned (g : Config) (o q : Place (Known C)) : Type 0 where
@@ -126,6 +131,7 @@ module _ {C : Type 0} where
     pub own : HasSameOwn cache.config old.number old.own.seen new.own.seen
     pub starts : (shard : ℕ) → StartsWith (seen_of cache.config shard new) (seen_of cache.config shard old)
     pub mine : new.own.mine ≡ old.own.mine
+    pub ledger : new.own.ledger ≡ old.own.ledger
     pub only : MadeItsOwn cache.config old → MadeItsOwn cache.config new
     pub same : (kept : List KeptBlock) → Stands cache old kept → SameMade cache.config old new
 
@@ -144,7 +150,7 @@ module _ {C : Type 0} where
     pub parted : HaveParted cache lines others rest
     pub level : IsLevel cache.config lines last
     pub gave : (n : ℕ) (acts : List Act) (noted : List Noted) → Waits cache n acts noted kept p → Waits cache n (acts ++ acts_of_drops n (map read_of kept)) noted [] last
-    pub fed : (openings : List (List ℕ)) (fed since : (shard : ℕ) → List Event) → kept ≡ [] → IsFed cache openings fed since p → IsFed cache openings fed since last
+    pub fed : (openings : List (List ℕ)) (fed since : (shard : ℕ) → List Event) (acts : List Act) (noted : List Noted) → kept ≡ [] → IsFed cache openings fed since acts noted p → IsFed cache openings fed since acts noted last
     pub drops : (before : ℕ → List Line) → IsLevel cache.config before p → AllByRecursion (IsLevel cache.config before) others
         → (shard : ℕ) → events_in (lines shard) ≡ events_in (before shard) ++ events_of_drops p.number (holds_in cache.config shard (map read_of kept))
 
@@ -189,12 +195,12 @@ module _ {C : Type 0} where
 
   -- All callers gave back what they kept, by rising caller; the feeder's party stands behind theirs. All have seen the same: of each shard what was
   -- so before, and then their drops.
-  pub record HaveGivenBack (cache : Cache) (acts : ℕ → List Act) (noted : ℕ → List Noted) (openings : List (List ℕ)) (feeds since : (shard : ℕ) → List Event) (kept : List (List KeptBlock)) (ps : List (Place (Known C))) : Type 0 where
+  pub record HaveGivenBack (cache : Cache) (acts : ℕ → List Act) (noted : ℕ → List Noted) (openings : List (List ℕ)) (feeds since : (shard : ℕ) → List Event) (inserted : List Act) (synced : List Noted) (kept : List (List KeptBlock)) (ps : List (Place (Known C))) : Type 0 where
     pub callers : List (Place (Known C))
     pub feeder : Place (Known C)
     pub are : ps ≡ callers ++ feeder ∷ []
     pub gave : AllGave cache acts noted 0 kept callers
-    pub fed : IsFed cache openings feeds since feeder
+    pub fed : IsFed cache openings feeds since inserted synced feeder
     pub first : ℕ → List Event
     pub lines : ℕ → List Line
     pub level : AllByRecursion (IsLevel cache.config lines) ps
@@ -207,10 +213,6 @@ abbrev pub resizes_in : (shards n c : ℕ) → (shard : ℕ) → List Event
 resizes_in shards n c shard = if nat_lt shard shards then (Resize n c ∷ []) else []
 
 module _ {C : Type 0} where
-  -- the party lists no pick of any shard
-  abbrev pub HasSettled : Place (Known C) → Type 0
-  HasSettled p = (i : ℕ) → picks_of i p ≡ []
-
   -- While all others had joined it, the party made these events of each shard; then they parted. They stand behind all that anybody had done there,
   -- and all have seen them.
   pub record MadeJoined (cache : Cache) (more : (shard : ℕ) → List Event) (p : Place (Known C)) (olds : List (Place (Known C))) (q : Place (Known C)) (news : List (Place (Known C))) : Type 0 where
@@ -228,7 +230,8 @@ module _ {C : Type 0} where
     pub others : (shard : ℕ)
         → AllByRecursion (λ o. own_moments o.number (moments (opening_of cache.config) (front shard)) ≡ own_moments o.number (moments (opening_of cache.config) (seen_of cache.config shard o))) olds
     pub since : (shard : ℕ) → StartsWith (front shard) (seen_of cache.config shard p)
-    pub only : MadeItsOwn cache.config p → MadeItsOwn cache.config q
+    -- with other numbers than its own it made nothing more, and nothing of a cell
+    pub made : SameMade cache.config p q
     pub entries : AreNoEntries cache.config p.own.mine → AreNoEntries cache.config q.own.mine
     -- the feeder has settled all that it picked, where it had before
     pub settled : p.number ≡ cache.config.callers → HasSettled p → HasSettled q

@@ -41,9 +41,11 @@ use Rattle.trace_text.specs.declared.reply.Refusal.TheVariants as refusals
 use Rattle.trace_text.specs.declared.reply.Reply.{Reply}
 use Rattle.trace_text.specs.declared.reply.Reply.TheVariants as replies
 use Rattle.trace_run.specs.Answers.{IsReadRefusal}
+use Rattle.trace_run.specs.CellEnds.{done_by}
 use Rattle.trace_run.specs.Deeds.{HasToldAll, KeepsCells, Noted, acts_of_events, events_there, lines_of_cell, noted_in}
 use Rattle.trace_run.specs.DeviceReads.{AsksFor}
 use Rattle.trace_run.specs.Effects.{Effect, Answered, calls_of, effect_of}
+use Rattle.trace_run.specs.MadeLines.{made_of}
 use Rattle.trace_run.specs.Objects.{AnswersKey, AnswersNoBlock, AnswersRange, Brought, Nothing, Loaded, Refused, acts_of_bringing, loads_of}
 use Rattle.trace_run.specs.one_caller.Access.{AsksPool, MayComeFrom, access_of, events_of_answered, events_of_refused, held_by_access}
 use Rattle.trace_run.specs.one_caller.Asking.{Asks}
@@ -56,12 +58,14 @@ abbrev pub cell_lines : OnHeap → List Line
 cell_lines cell = map line.Entry (map event_numbers cell.value.history)
 
 -- In a turn of its own between p and q the party found the cell so: it was sound, with the opening with which it moved in. What the party had seen of
--- its history begins it, and one that had every number had seen all of it. What the party has seen of it since goes on from it.
+-- its history begins it, and one that had every number had seen all of it; what the party itself had done there is just what it had made. What the
+-- party has seen of it since goes on from it.
 pub record FindsCell (g : Config) (i : ℕ) (cell : OnHeap) (p q : PartyPlace) : Type 0 where
   pub sound : IsSound cell.value
   pub opening : opening_numbers cell.value.limit cell.value.opening ≡ slice_index_or p.own.about.openings i []
   pub had : StartsWith (cell_lines cell) (front_of i p.own.seen)
   pub alone : HasAll p → cell_lines cell ≡ front_of i p.own.seen
+  pub mine : made_of i p ≡ map line.Entry (map event_numbers (done_by p.number cell.value.history))
   pub seen : StartsWith (front_of i q.own.seen) (cell_lines cell)
 
 -- ---- what was brought, and what that asked of the pool and of the cache device
@@ -138,6 +142,12 @@ pub record WasToBring (at : Oid) (ptr : Ptr) (o : Outline) : Type 0 where
   pub pointer : mapped_at at o ≡ Some (Clean ptr)
   pub uncached : is_cached_at at o ≡ false
 
+-- what was brought for an answered line is the block that the object map has there, whose bytes are not there
+abbrev pub IsBrought : Oid → Outline → Brought → Type 0
+IsBrought at o Nothing = Unit {0}
+IsBrought at o (Loaded ptr from) = WasToBring at ptr o
+IsBrought at o (Refused ptr) = ⊥
+
 -- the object map has the block, and the range ends inside it
 pub record EndsInside (at : Oid) (last : ℕ) (o : Outline) : Type 0 where
   pub mapped : Mapped
@@ -151,24 +161,19 @@ module _ (g : Config) (at : Oid) (t : ℕ) (p q : PartyPlace) where
   abbrev pub its_number : ℕ
   its_number = cell_number g its_cell
 
-  -- what was brought is the block that the object map had there, as the party found the cell
-  abbrev pub IsBrought : Brought → Type 0
-  IsBrought Nothing = Unit {0}
-  IsBrought (Loaded ptr from) = (cell : OnHeap) × FindsCell g its_cell cell p q × WasToBring at ptr (outline_in cell)
-  IsBrought (Refused ptr) = ⊥
-
   -- The party did this to the block's cell, which it found so, right behind the Load if a block was brought. It let go what the operation writes over,
-  -- and then what was over the limit was evicted, each block with its drop.
+  -- and then what was over the limit was evicted, each block with its drop. All that stands in the cell's history right behind what it found there.
   pub record Did (own : CellEvent) (brought : Brought) (Fits : OnHeap → Type 0) : Type 0 where
     pub cell : OnHeap
     pub found : FindsCell g its_cell cell p q
     pub fits : Fits cell
-    pub brings : IsBrought brought
+    pub brings : IsBrought at (outline_in cell) brought
     pub released : List Event
     pub releases : ReleasesFor its_number own (after_all (outline_in cell) (loads_of p.number at brought)) released
     pub evicted : List Oid
     pub drops : List Event
     pub evictions : AreEvictions p.number its_number (after_all (outline_in cell) (loads_of p.number at brought ++ own ∷ [])) (map (events.Evict p.number) evicted) drops
+    pub placed : StartsWith (front_of its_cell q.own.seen) (cell_lines cell ++ lines_of_cell its_cell (noted_in its_cell (loads_of p.number at brought ++ own ∷ map (events.Evict p.number) evicted)))
     pub work : DidWork g t its_number brought (released ++ drops) (noted_in its_cell (loads_of p.number at brought ++ own ∷ map (events.Evict p.number) evicted)) p q
 
   -- The line was refused for this cause, as the party found the block's cell. Nothing was done to cells, and what was tried to be brought, if anything was, was refused.

@@ -1,16 +1,20 @@
--- What a line on an object may be answered, by how the cell of its block stood when the line looked at it; and that a party found it so.
-use Rattle.std.specs.Prelude.{◌≡◌, ℕ, ◌+◌, false, List, [], length, Option, slice_index_or}
+-- What a line on an object may be answered and what it may do, by how the cell of its block stood when the line looked at it; and that a party found it so.
+use Rattle.std.specs.Prelude.{◌≡◌, ℕ, ◌+◌, false, List, [], ◌∷◌, ◌++◌, length, map, Option, Some, None, slice_index_or}
 use Rattle.blk_ptr.specs.declared.ptr.Ptr.{Ptr}
+use Rattle.blk_ptr.specs.Key.{IsValid}
 use Rattle.arc_core.specs.declared.config.Config.{Config}
-use Rattle.arc_table.specs.declared.view.Line.{Line}
+use Rattle.arc_core.specs.declared.event.Event.{Event}
+use Rattle.arc_table.specs.declared.view.Line.{Line as Seen}
 use Rattle.arc_table.specs.Fronts.{StartsWith, front_of}
+use Rattle.arc_table.specs.Geometry.{cell_number}
 use Rattle.dbuf_cells.specs.Places.{cell_of}
-use Rattle.dbuf_cells.specs.Turns.{OnHeap}
+use Rattle.dbuf_cells.specs.Turns.{AreEvictions, OnHeap}
 use Rattle.dbuf_state.specs.Answers.{IsAnswerAfter}
 use Rattle.dbuf_state.specs.Numbers.{opening_numbers}
-use Rattle.dbuf_state.specs.Outline.{Outline, has_pin_at, outline_after}
+use Rattle.dbuf_state.specs.Outline.{Outline, after_all, has_pin_at, outline_after}
 use Rattle.dbuf_state.specs.Soundness.{IsSound}
 use Rattle.dbuf_state.specs.declared.event.CellEvent.{CellEvent}
+use Rattle.dbuf_state.specs.declared.event.CellEvent.TheVariants as events
 use Rattle.dbuf_state.specs.declared.oid.Oid.{Oid}
 use Rattle.dbuf_state.specs.declared.state.Mapping.{Mapping}
 use Rattle.dbuf_state.specs.declared.window.Window.{Window}
@@ -21,18 +25,20 @@ use Rattle.trace_text.specs.declared.reply.Refusal.TheVariants as refusals
 use Rattle.trace_text.specs.declared.reply.Reply.{Reply}
 use Rattle.trace_text.specs.declared.reply.Reply.TheVariants as replies
 use Rattle.trace_run.specs.Answers.{IsReadRefusal}
-use Rattle.trace_run.specs.ObjectLines.{EndsInside, WasToBring, cell_lines}
-use Rattle.trace_run.specs.Objects.{AnswersKey, AnswersNoBlock, AnswersRange}
+use Rattle.trace_run.specs.CellEnds.{done_by}
+use Rattle.trace_run.specs.Deeds.{Noted, acts_of_events, events_of_cell, lines_of_cell, noted_in}
+use Rattle.trace_run.specs.ObjectLines.{EndsInside, ReleasesFor, WasToBring, cell_lines}
+use Rattle.trace_run.specs.Objects.{AnswersKey, AnswersNoBlock, AnswersRange, Brought, Line, Loaded, NotesNothing, Nothing, OwnEvent, Refused, Work, loads_of, no_work, own_event}
 
--- over a pool of this length that may tell its bytes, and by a cell with this limit and opening to which this had been done
-module _ (pool_len : ℕ) (image : Option (List ℕ)) (limit : ℕ) (opening : List Mapping) (front : List CellEvent) where
+-- over a pool of this length that may tell its bytes, by a cell with this limit and opening to which this had been done, and where this was brought for the line
+module _ (pool_len : ℕ) (image : Option (List ℕ)) (limit : ℕ) (opening : List Mapping) (front : List CellEvent) (brought : Brought) where
   -- how the cell stood
   abbrev pub found : Outline
   found = outline_after limit opening front
 
-  -- the block's bytes were not there, and were refused
+  -- the block's bytes were not there, and were refused: those of the pointer that was to be brought
   abbrev pub FailsAt : Oid → (last : ℕ) → Refusal → Type 0
-  FailsAt at last refusal = (ptr : Ptr) × EndsInside at last found × WasToBring at ptr found × IsReadRefusal pool_len image ptr refusal
+  FailsAt at last refusal = (ptr : Ptr) × (brought ≡ Refused ptr) × EndsInside at last found × WasToBring at ptr found × IsReadRefusal pool_len image ptr refusal
 
   -- Why a line was refused that asks for a block's bytes up to here. In this order: there is no such block; the range ends past it; its key names none of the pool; its bytes were refused.
   abbrev pub RefusesAt : Oid → (last : ℕ) → Refusal → Type 0
@@ -107,10 +113,51 @@ module _ (pool_len : ℕ) (image : Option (List ℕ)) (limit : ℕ) (opening : L
   AnswersObject (ops.Txg t) reply = ⊥
   AnswersObject (ops.Cap c) reply = ⊥
 
--- The cell of the block was found so, with the opening with which it began, and the line was answered by it. What is seen of the cell's history goes on from there.
-pub record AnswersFrom (g : Config) (pool_len : ℕ) (image : Option (List ℕ)) (openings : List (List ℕ)) (seen : List (List Line)) (at : Oid) (op : Op) (reply : Reply) : Type 0 where
+-- ---- what a line did beside its reply, by how its cell was found
+
+-- what was brought is the block that the object map has there, whose bytes are not there; and its key names one of a pool of this length
+abbrev pub BringsAt : (pool_len : ℕ) → Oid → Outline → Brought → Type 0
+BringsAt pool_len at o Nothing = Unit {0}
+BringsAt pool_len at o (Loaded ptr from) = WasToBring at ptr o × IsValid pool_len ptr.key
+BringsAt pool_len at o (Refused ptr) = WasToBring at ptr o × IsValid pool_len ptr.key
+
+-- What an answered line of n's did to its cell, which it found so, and with the cell's number: the operation let go what it writes over, and then each
+-- evicted block was given back.
+pub record ActsAt (g : Config) (n : ℕ) (own : OwnEvent) (o : Outline) (work : Work) : Type 0 where
+  pub evictions : List Oid
+  pub noted : work.noted ≡ noted_in (cell_of g.cells own.at) (loads_of n own.at work.brought ++ own.event ∷ map (events.Evict n) evictions)
+  pub released : List Event
+  pub drops : List Event
+  pub releases : ReleasesFor (cell_number g (cell_of g.cells own.at)) own.event (after_all o (loads_of n own.at work.brought)) released
+  pub evicted : AreEvictions n (cell_number g (cell_of g.cells own.at)) (after_all o (loads_of n own.at work.brought ++ own.event ∷ [])) (map (events.Evict n) evictions) drops
+  pub acts : work.acts ≡ acts_of_events (released ++ drops)
+
+-- by its reply: a refused line did nothing there
+abbrev pub ActsBy : Config → (n : ℕ) → OwnEvent → Outline → Work → Reply → Type 0
+ActsBy g n own o work (replies.Got size shown) = ActsAt g n own o work
+ActsBy g n own o work replies.Done = ActsAt g n own o work
+ActsBy g n own o work (replies.Refused refusal) = NotesNothing work
+ActsBy g n own o work (replies.Read served digest shown) = ⊥
+ActsBy g n own o work (replies.Kept served) = ⊥
+ActsBy g n own o work replies.Dropped = ⊥
+ActsBy g n own o work (replies.Fed report) = ⊥
+ActsBy g n own o work replies.FedNone = ⊥
+ActsBy g n own o work (replies.Synced group blocks bytes) = ⊥
+ActsBy g n own o work (replies.Capped c) = ⊥
+
+-- by the line's own event
+abbrev pub ActsFor : Config → (n : ℕ) → Option OwnEvent → Outline → Work → Reply → Type 0
+ActsFor g n None o work reply = work ≡ no_work
+ActsFor g n (Some own) o work reply = ActsBy g n own o work reply
+
+-- The line of the caller n looked at the cell of its block, which was so, with the opening with which it began: the caller had done just this to it. By that front of the cell's
+-- history go what was brought for the line, what the line did and what it was answered. What is seen of the history goes on from there, with what the line did first.
+pub record AnswersFrom (g : Config) (pool_len : ℕ) (image : Option (List ℕ)) (openings : List (List ℕ)) (seen : List (List Seen)) (n : ℕ) (had : List Noted) (at : Oid) (l : Line) : Type 0 where
   pub cell : OnHeap
   pub sound : IsSound cell.value
   pub opening : opening_numbers cell.value.limit cell.value.opening ≡ slice_index_or openings (cell_of g.cells at) []
-  pub front : StartsWith (front_of (cell_of g.cells at) seen) (cell_lines cell)
-  pub answer : AnswersObject pool_len image cell.value.limit cell.value.opening cell.value.history op reply
+  pub mine : done_by n cell.value.history ≡ events_of_cell (cell_of g.cells at) had
+  pub front : StartsWith (front_of (cell_of g.cells at) seen) (cell_lines cell ++ lines_of_cell (cell_of g.cells at) l.work.noted)
+  pub brought : BringsAt pool_len at (outline_after cell.value.limit cell.value.opening cell.value.history) l.work.brought
+  pub acts : ActsFor g n (own_event l.op) (outline_after cell.value.limit cell.value.opening cell.value.history) l.work l.reply
+  pub answer : AnswersObject pool_len image cell.value.limit cell.value.opening cell.value.history l.work.brought l.op l.reply

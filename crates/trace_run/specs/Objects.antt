@@ -8,13 +8,12 @@ use Rattle.arc_core.specs.declared.served.Served.{Served}
 use Rattle.arc_core.specs.Operations.{Act, Fails, Loads, actor_of}
 use Rattle.arc_table.specs.Geometry.{cell_number}
 use Rattle.dbuf_cells.specs.Places.{cell_of}
-use Rattle.dbuf_state.specs.Outline.{Outline, mapped_at, mapped_size, outline_after}
+use Rattle.dbuf_state.specs.Outline.{Outline, mapped_at, mapped_size}
 use Rattle.dbuf_state.specs.declared.event.CellEvent.{CellEvent}
 use Rattle.dbuf_state.specs.declared.event.CellEvent.TheVariants as events
 use Rattle.dbuf_state.specs.declared.oid.Oid.{Oid}
 use Rattle.dbuf_state.specs.declared.state.Mapped.{Mapped}
 use Rattle.dbuf_state.specs.declared.state.Mapped.TheVariants.{Clean}
-use Rattle.dbuf_state.specs.declared.state.Mapping.{Mapping}
 use Rattle.trace_text.specs.declared.op.Op.{Op}
 use Rattle.trace_text.specs.declared.op.Op.TheVariants as ops
 use Rattle.trace_text.specs.declared.reply.Refusal.{Refusal}
@@ -47,6 +46,13 @@ pub record Line : Type 0 where
   pub op : Op
   pub reply : Reply
   pub work : Work
+
+-- the operations of these lines, and their replies
+abbrev pub ops_of : List Line → List Op
+ops_of = map (λ l. l.op)
+
+abbrev pub replies_of : List Line → List Reply
+replies_of = map (λ l. l.reply)
 
 -- ---- which go together
 
@@ -150,12 +156,6 @@ acts_of_bringing n t cell (Loaded ptr from) = Loads n t ptr from cell ∷ []
 acts_of_bringing n t cell (Refused ptr) = Fails n t ptr ∷ []
 
 -- ---- what it may be answered, by what had been done to its cell then
-
--- The cell's history has this front, at which the line looked.
-pub record LooksAt (limit : ℕ) (opening : List Mapping) (history front : List CellEvent) (o : Outline) : Type 0 where
-  pub rest : List CellEvent
-  pub whole : history ≡ front ++ rest
-  pub outline : o ≡ outline_after limit opening front
 
 -- no such block is mapped
 abbrev pub AnswersNoBlock : Oid → Oid → Outline → Type 0

@@ -1,7 +1,7 @@
 -- What a run answers, status by status.
 use Rattle.std.specs.Prelude.{◌≡◌, ◌⊎◌, ℕ, ◌+◌, ◌*◌, ◌^◌, ◌<◌, ◌≤◌, List, [], Option, Some, None, is_some, map, replicate, sum_by, Bool, true, false}
 use Rattle.std.specs.Bool.{OnFalse}
-use Rattle.std.specs.List.{range_with_len}
+use Rattle.std.specs.List.{AllByRecursion, range_with_len}
 use Rattle.std.specs.Io.KnownBytes.{Appends}
 use Rattle.trace_text.specs.Grammar.{IsTraceText, IsFirstFault, longest_text}
 use Rattle.trace_text.specs.Pages.{IsFirstPageFault, IsPageText}
@@ -39,12 +39,13 @@ use Rattle.trace_run.specs.DeviceUse.{WasUsed}
 use Rattle.trace_run.specs.Devices.{Finds, MayLose, usable}
 use Rattle.trace_run.specs.Explaining.{Explain, RunsAlone}
 use Rattle.trace_run.specs.Lines.{has_undone}
+use Rattle.trace_run.specs.ObjectAnswers.{AreAnsweredByCells}
 use Rattle.trace_run.specs.one_caller.PlainRun.{images, report_of}
 use Rattle.trace_run.specs.Restores.{found_keys}
 use Rattle.trace_run.specs.States.{Handed}
 use Rattle.vdev_io.specs.Streams.{NoneFailed, OneFailed, StreamState}
 use Rattle.vdev_io.specs.Streams.{Gives, AppendsFront, TakesAtMost}
-use Rattle.trace_run.specs.callers.Together.{RunsTogether, StopsSo, TellsClosed, answered_ops, faults_told, report_status}
+use Rattle.trace_run.specs.callers.Together.{IsFirstPlace, RunsTogether, StopsSo, TellsClosed, answered_ops, faults_told, report_status}
 use Rattle.trace_run.specs.Words.{IsCommand, IsFirstWrong}
 
 -- The words are a command, and this is what it did; or they are none, and their first wrong word is told.
@@ -96,7 +97,12 @@ pub record IsRun {P D : Type 0} (pool : Ghosts P) (device : Devices D) (before a
   pub reads : pool.reads before < 2 ^ 63 → pool.reads after ≡ pool.reads before + sum_by pool_reads report.histories
   pub faults : pool.faults before < 2 ^ 63 → pool.faults after ≡ pool.faults before + faults_told ending report.replies
   pub alone : trace.config.callers ≡ 1 → (ending ≡ Whole) × RunsAlone pool device before after lent back trace report
-  pub together : 2 ≤ trace.config.callers → RunsTogether pool before after trace ending closed.cells report
+  -- syncs write from this place on
+  pub place : ℕ
+  pub first : IsFirstPlace (pool.size before) trace.blocks place
+  -- a line on an object is answered by its cell
+  pub objects : AreAnsweredByCells trace.config (pool.size before) (pool.told before) place closed.cells work.lines
+  pub together : 2 ≤ trace.config.callers → RunsTogether pool before after place trace ending work closed.cells report
   -- a trace without an operation has no work: no fork is made for it, and the pool is as it was
   pub idle : trace.ops ≡ [] → (ending ≡ Whole) × (after ≡ before)
   -- a fork failed as a group began, or a sync stopped, which has no reply then
@@ -124,10 +130,10 @@ pub record IsReport {P D : Type 0} (pool : Ghosts P) (device : Devices D) (befor
   -- the device behind its start
   pub started : Option D
   pub found : Finds device before.cache started report.rebuilt
-  pub used : WasUsed device (with_bound trace (device_len device.size before.cache)) report.replies started after.cache
   pub ending : Ending
   -- what the answered lines did beside their replies, and the feeder
   pub work : RunWork
+  pub used : WasUsed device (with_bound trace (device_len device.size before.cache)) work started after.cache
   pub did : IsRunWork trace.config (answered_ops trace ending report.replies) report.replies work
   pub run : IsRun pool device before.pool after.pool (usable device started) (usable device after.cache) (with_bound trace (device_len device.size before.cache)) ending work closed report
   -- the cells began with the trace's lines; that was done to them, and they were ended

@@ -11,7 +11,8 @@ use Rattle.arc_table.specs.Telling.{opening_of}
 use Rattle.trace_text.specs.declared.op.Op.{Op}
 use Rattle.trace_text.specs.declared.rebuilt.Rebuilt.{Rebuilt}
 use Rattle.trace_text.specs.declared.reply.Reply.{Reply}
-use Rattle.trace_run.specs.Acts.{events_of_feeds}
+use Rattle.trace_run.specs.FeedEvents.{events_of_lines}
+use Rattle.trace_run.specs.Feeds.{FeedDone}
 
 -- the keys that were found, where a device was handed in
 abbrev pub found_keys : Option Rebuilt → List Restored
@@ -28,6 +29,6 @@ restores_in config (r ∷ rs) shard =
 abbrev pub restored_shard : Config → List Restored → (shard : ℕ) → PlainShard
 restored_shard config restored shard = replay (opening_of config) (restores_in config restored shard)
 
--- all events that the feeder makes in a shard: the restores, and then what the lines ask for
-abbrev pub events_by_feeder : Config → List Restored → List Op → List Reply → (shard : ℕ) → List Event
-events_by_feeder config restored ops replies shard = restores_in config restored shard ++ events_of_feeds config.callers ops replies
+-- all events that the feeder makes in a shard: the restores, and then what the lines ask for, which were answered by these feeds
+abbrev pub events_by_feeder : Config → List Restored → List Op → List Reply → List FeedDone → (shard : ℕ) → List Event
+events_by_feeder config restored ops replies feeds shard = restores_in config restored shard ++ events_of_lines config shard ops replies feeds

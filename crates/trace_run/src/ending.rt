@@ -106,9 +106,10 @@ pub(crate) fn all_give_back<C: Keeps>(
     requires parties { arcs.now.row.parties ≡ parties_of arcs.now.config }
     requires count { vec_len kept ≡ arcs.now.config.callers }
     requires callers { (acts : ℕ → List Act) × (noted : ℕ → List Noted) × AreWaiting arcs.now acts noted 0 kept.items callers.items }
-    requires feeder { (openings : List (List ℕ)) × (feeds since : (shard : ℕ) → List Event) × IsFed arcs.now openings feeds since feeder }
+    requires feeder { (openings : List (List ℕ)) × (feeds since : (shard : ℕ) → List Event) × (inserted : List Act) × (synced : List Noted) × IsFed arcs.now openings feeds since inserted synced feeder }
     ensures { IfOk result (λ parties. (acts : ℕ → List Act) (noted : ℕ → List Noted) → AreWaiting arcs.now acts noted 0 kept.items callers.items
-        → (openings : List (List ℕ)) (feeds since : (shard : ℕ) → List Event) → IsFed arcs.now openings feeds since feeder → HaveGivenBack arcs.now acts noted openings feeds since kept.items parties.items) }
+        → (openings : List (List ℕ)) (feeds since : (shard : ℕ) → List Event) (inserted : List Act) (synced : List Noted) → IsFed arcs.now openings feeds since inserted synced feeder
+        → HaveGivenBack arcs.now acts noted openings feeds since inserted synced kept.items parties.items) }
 {
     let mut parties = give_back_joined(alloc, rt, arcs, feeder, KeptBlocks::new(alloc), callers)?;
     for reads in kept {

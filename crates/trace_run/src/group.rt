@@ -7,24 +7,23 @@ ghost use Rattle.trace_text.specs.declared.reply.Reply.{Reply};
 ghost use Rattle.vdev_io.specs.Faults.{CountsIoFault, Rose, last_count};
 ghost use Rattle.vdev_io.specs.declared.fault.IoFault.{IoFault};
 ghost use Rattle.dbuf_cells.specs.Turns.{dbuf_meanings};
-ghost use Rattle.trace_run.specs.DeviceReads.{AsksGiven};
 ghost use Rattle.trace_run.specs.Devices.{WasLent, lent_in};
 ghost use Rattle.trace_run.specs.KeptBlocks.{Stands, read_of};
 ghost use Rattle.trace_run.specs.Lines.{is_of_caller};
-ghost use Rattle.trace_run.specs.callers.CallerLines.{DidLines, at};
+ghost use Rattle.trace_run.specs.callers.CallerLines.{at};
 ghost use Rattle.trace_run.specs.Feeds.{DoesFeeds, IsIdleFeeder, MayBeFed, TriesFeeds, is_feed};
-ghost use Rattle.trace_run.specs.callers.Beside.{TriesBeside, WorksBeside};
-ghost use Rattle.trace_run.specs.callers.DeviceForks.{HasAsked, TakesForkBack, TakesForksBack};
+ghost use Rattle.trace_run.specs.callers.Beside.{TriesBeside};
+ghost use Rattle.trace_run.specs.callers.DeviceForks.{TakesForkBack, TakesForksBack};
 ghost use Rattle.trace_run.specs.one_caller.OverShards.{AreNamed};
-ghost use Rattle.trace_run.specs.callers.Callers.{Absorbs, AbsorbsAll, AreAtStart, AreEnlisted, HasTried, HaveComeBack, IsReady, Replied};
-ghost use Rattle.trace_run.specs.callers.Group.{HaveWorked, IsFork, LeavesPool};
+ghost use Rattle.trace_run.specs.callers.Callers.{Absorbs, AbsorbsAll, AreAtStart, AreEnlisted, CameTo, HasTried, HaveComeBack, IsReady, Replied};
+ghost use Rattle.trace_run.specs.callers.Group.{DidGroup, IsFork, LeavesPool};
 ghost use Rattle.trace_run.specs.Tally.{AreDeclared};
 
 use crate::device::Device;
 use crate::device_forks::{device_forks, take_fork_back};
 use crate::feeder::{feed_lines, has_feed};
 use crate::kept_blocks::KeptBlocks;
-use crate::lines::{all_lines, has_objects};
+use crate::lines::all_lines;
 use arc_core::Keeps;
 use arc_table::Party;
 use blk_ptr::{NoMemory, Ptr};
@@ -166,14 +165,9 @@ fn lines_over<P: Pool, D: CacheDev, G: Gate>(
     requires named { AreNamed blocks.now (map read_of kept.old) }
     requires few { first + length ops.now < 2 ^ 32 }
     ensures stands { IfOk result (λ replies. Stands arcs.now party.new kept.new) }
-    ensures did { IfOk result (λ replies. DidLines arcs.now.config P.Pool blocks.now (filter (is_of_caller party.old.number) ops.now) replies.items
-        (at party.old (map read_of kept.old) pool.old) (at party.new (map read_of kept.new) pool.new)) }
-    ensures asked { IfOk result (λ replies. AsksGiven D.CacheDev blocks.now (filter (is_of_caller party.old.number) ops.now) replies.items device.old device.new) }
+    ensures did { IfOk result (λ replies. CameTo P.Pool D.CacheDev arcs.now.config blocks.now (filter (is_of_caller party.old.number) ops.now) replies.items
+        (at party.old (map read_of kept.old) pool.old) (at party.new (map read_of kept.new) pool.new) device.old device.new) }
 {
-    // A trace with a line on an object is refused before it is run.
-    if has_objects(ops) {
-        return Err(NoMemory);
-    }
     match device {
         Some(device) => all_lines(
             alloc, rt, arcs, party, kept, pool, device, blocks, ops, first, gate,
@@ -208,8 +202,7 @@ fn work<P: Pool, D: CacheDev, G: Gate>(
     requires ready { IsReady arcs.now blocks.now caller.old }
     requires declared { AreDeclared (length blocks.now) ops.now }
     requires few { first + length ops.now < 2 ^ 32 }
-    ensures tried { HasTried arcs.now P.Pool blocks.now ops.now caller.old caller.new }
-    ensures asked { HasAsked D.CacheDev blocks.now ops.now caller.old caller.new }
+    ensures { HasTried arcs.now P.Pool D.CacheDev blocks.now ops.now caller.old caller.new }
 {
     caller.replies = lines_over(
         alloc,
@@ -240,12 +233,11 @@ fn work_all<R: Threads + Wait + Sync, P: Pool, D: CacheDev, G: Gate>(
     requires ready { All (IsReady arcs.now blocks.now) callers.old }
     requires declared { AreDeclared (length blocks.now) ops.now }
     requires few { first + length ops.now < 2 ^ 32 }
-    ensures tried { AllZip (HasTried arcs.now P.Pool blocks.now ops.now) callers.old callers.new }
-    ensures asked { AllZip (HasAsked D.CacheDev blocks.now ops.now) callers.old callers.new }
+    ensures { AllZip (HasTried arcs.now P.Pool D.CacheDev blocks.now ops.now) callers.old callers.new }
 {
     let each = |_: usize, caller: &mut Caller<HeapCell, P, D>|
         requires { IsReady arcs.now blocks.now caller.old × AreDeclared (length blocks.now) ops.now × (first + length ops.now < 2 ^ 32) }
-        ensures { HasTried arcs.entry.now P.Pool blocks.entry.now ops.entry.now caller.old caller.new × HasAsked D.CacheDev blocks.entry.now ops.entry.now caller.old caller.new }
+        ensures { HasTried arcs.entry.now P.Pool D.CacheDev blocks.entry.now ops.entry.now caller.old caller.new }
     { work(alloc, rt, arcs, caller, blocks, ops, first, gate) };
     thread::for_each_mut(rt, callers, MOST_CALLERS, &each);
 }
@@ -264,8 +256,7 @@ fn work_lines<R: Threads + Wait + Sync, P: Pool, D: CacheDev, G: Gate>(
     requires ready { AllByRecursion (IsReady arcs.now blocks.now) callers.old.items }
     requires declared { AreDeclared (length blocks.now) ops.now }
     requires few { first + length ops.now < 2 ^ 32 }
-    ensures tried { AllZip (HasTried arcs.now P.Pool blocks.now ops.now) callers.old.items callers.new.items }
-    ensures asked { AllZip (HasAsked D.CacheDev blocks.now ops.now) callers.old.items callers.new.items }
+    ensures { AllZip (HasTried arcs.now P.Pool D.CacheDev blocks.now ops.now) callers.old.items callers.new.items }
 {
     work_all(alloc, rt, arcs, callers, blocks, ops, first, gate);
 }
@@ -289,16 +280,14 @@ where
     requires declared { AreDeclared (length blocks.now) ops.now }
     requires few { first + length ops.now < 2 ^ 32 }
     ensures feed { F.step feed.old result feed.new }
-    ensures worked { AllZip (HasTried arcs.now P.Pool blocks.now ops.now) callers.old.items callers.new.items }
-    ensures asked { AllZip (HasAsked D.CacheDev blocks.now ops.now) callers.old.items callers.new.items }
+    ensures worked { AllZip (HasTried arcs.now P.Pool D.CacheDev blocks.now ops.now) callers.old.items callers.new.items }
 {
     let (replies, ()) = thread::join_mut(
         rt,
         feed,
         &mut ||
             requires { AllByRecursion (IsReady arcs.now blocks.now) callers.now.items × AreDeclared (length blocks.now) ops.now × (first + length ops.now < 2 ^ 32) }
-            ensures worked { AllZip (HasTried arcs.entry.now P.Pool blocks.entry.now ops.entry.now) callers.entry.now.items callers.exit.now.items }
-            ensures asked { AllZip (HasAsked D.CacheDev blocks.entry.now ops.entry.now) callers.entry.now.items callers.exit.now.items }
+            ensures { AllZip (HasTried arcs.entry.now P.Pool D.CacheDev blocks.entry.now ops.entry.now) callers.entry.now.items callers.exit.now.items }
         { work_lines(alloc, rt, arcs, callers, blocks, ops, first, gate) },
     );
     replies
@@ -322,8 +311,7 @@ fn work_and_feed<R: Threads + Wait + Sync, P: Pool, D: CacheDev, G: Gate>(
     requires few { first + length ops.now < 2 ^ 32 }
     requires feeder { IsIdleFeeder arcs.now feeder.old }
     requires device { MayBeFed D.CacheDev arcs.now.config device.old }
-    ensures worked { AllZip (HasTried arcs.now P.Pool blocks.now ops.now) callers.old.items callers.new.items }
-    ensures asked { AllZip (HasAsked D.CacheDev blocks.now ops.now) callers.old.items callers.new.items }
+    ensures worked { AllZip (HasTried arcs.now P.Pool D.CacheDev blocks.now ops.now) callers.old.items callers.new.items }
     ensures feeder { IsIdleFeeder arcs.now feeder.new }
     ensures device { MayBeFed D.CacheDev arcs.now.config device.new }
     ensures tried { TriesFeeds dbuf_meanings D.CacheDev arcs.now (filter is_feed ops.now) device.old device.new feeder.old feeder.new }
@@ -429,9 +417,8 @@ pub(crate) fn run_group<R: Threads + Wait + Sync, P: Pool, D: CacheDev, G: Gate>
     requires same { vec_len forks ≡ vec_len parties }
     requires declared { AreDeclared (length blocks.now) ops.now }
     requires few { first + length ops.now < 2 ^ 32 }
-    ensures worked { IfOk result (λ done. HaveWorked arcs.now P.Pool blocks.now ops.now (vec_len parties) pool.old pool.new (map (λ v. v.items) done.0.replies.items)
-        kept.items parties.items done.0.kept.items done.0.parties.items) }
-    ensures beside { IfOk result (λ done. WorksBeside dbuf_meanings D.CacheDev arcs.now blocks.now ops.now (vec_len parties) (map (λ v. v.items) done.0.replies.items) done.1.items device.old device.new feeder.old feeder.new) }
+    ensures did { IfOk result (λ done. DidGroup dbuf_meanings arcs.now P.Pool D.CacheDev blocks.now ops.now (length parties.items) pool.old pool.new device.old device.new
+        kept.items parties.items feeder.old done.0.kept.items done.0.parties.items feeder.new (map (λ v. v.items) done.0.replies.items) done.1.items) }
     ensures tried { TriesBeside dbuf_meanings D.CacheDev arcs.now ops.now device.old device.new feeder.old feeder.new }
     ensures feeder { IsIdleFeeder arcs.now feeder.new }
     ensures device { MayBeFed D.CacheDev arcs.now.config device.new }

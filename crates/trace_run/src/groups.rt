@@ -11,18 +11,17 @@ ghost use Rattle.blk_ptr.specs.Size.{sector};
 ghost use Rattle.trace_text.specs.Grammar.{IsFormed, IsOperation};
 ghost use Rattle.trace_text.specs.declared.op.Op.{Op};
 ghost use Rattle.trace_text.specs.declared.reply.Reply.{Reply};
-ghost use Rattle.trace_run.specs.Devices.{WasLent, lent_in};
+ghost use Rattle.trace_run.specs.Devices.{lent_in};
 ghost use Rattle.trace_run.specs.callers.Callers.{AreAtStart};
 ghost use Rattle.trace_run.specs.Feeds.{IsIdleFeeder, MayBeFed};
-ghost use Rattle.trace_run.specs.callers.Beside.{TriesBeside, WorksInOrder};
-ghost use Rattle.trace_run.specs.callers.DeviceForks.{HaveReadSoFar, ReadAtOnce, these};
+ghost use Rattle.trace_run.specs.RunWork.{RunWork};
+ghost use Rattle.trace_run.specs.callers.Beside.{TriesBeside, WasInUse};
 ghost use Rattle.trace_run.specs.callers.InOrder.{AreInGroup};
-ghost use Rattle.trace_run.specs.callers.Group.{IsFork, LeavesPool};
-ghost use Rattle.trace_run.specs.callers.Groups.{AreBetween, AreOfCallers, DidEndLine, DidLinesAtOnce, AreDone, KeepNothing, MaySync, StepsOn, goes_on};
-ghost use Rattle.trace_run.specs.Making.{AreNoEntries};
+ghost use Rattle.trace_run.specs.callers.Group.{IsFork, LeavesFront, LeavesPool};
+ghost use Rattle.trace_run.specs.callers.Groups.{AreBetween, DidEndLine, DidLinesAtOnce, AreDone, KeepNothing, MaySync, StepsOn, goes_on};
 ghost use Rattle.trace_run.specs.Meeting.{MayGoOn};
 ghost use Rattle.trace_run.specs.Tally.{AreDeclared};
-ghost use Rattle.trace_run.specs.callers.Together.{BeginsGroup, IsFirstPlace, BetweenGroups, ends_group, between_groups};
+ghost use Rattle.trace_run.specs.callers.Together.{IsFirstPlace, BetweenGroups, ends_group, between_groups};
 
 use crate::device::Device;
 use crate::group::{Worked, forks, run_group};
@@ -102,11 +101,11 @@ fn ends_group(op: &Op) -> bool
     ensures { result ≡ ends_group op.now }
 {
     match *op {
-        Op::Read { .. } | Op::Hold { .. } | Op::Drop { .. } => false,
+        Op::Read { .. } | Op::Hold { .. } | Op::Drop { .. } | Op::Feed => false,
         Op::Get { .. } | Op::Put { .. } | Op::Patch { .. } | Op::Pin { .. } | Op::Unpin { .. } => {
             false
         }
-        Op::Feed | Op::Txg { .. } | Op::Cap { .. } => true,
+        Op::Txg { .. } | Op::Cap { .. } => true,
     }
 }
 
@@ -148,8 +147,7 @@ fn lines_at_once<R: Threads + Wait + Sync, P: Pool, D: CacheDev, G: Gate>(
     requires feeder { IsIdleFeeder arcs.now crew.feeder }
     requires device { MayBeFed D.CacheDev arcs.now.config device.old }
     requires few { first + length ops.now < 2 ^ 32 }
-    ensures did { IfOk result (λ done. DidLinesAtOnce arcs.now P.Pool blocks.now ops.now pool.old pool.new crew done.0 done.1.items) }
-    ensures beside { IfOk result (λ done. WorksInOrder dbuf_meanings D.CacheDev arcs.now blocks.now ops.now (vec_len crew.parties) done.1.items device.old device.new crew.feeder done.0.feeder) }
+    ensures did { IfOk result (λ done. DidLinesAtOnce dbuf_meanings arcs.now P.Pool D.CacheDev blocks.now ops.now pool.old pool.new device.old device.new crew done.0 done.1.items) }
     ensures tried { (p : Place (Known OnHeap)) × TriesBeside dbuf_meanings D.CacheDev arcs.now ops.now device.old device.new crew.feeder p }
     ensures feeder { IfOk result (λ done. IsIdleFeeder arcs.now done.0.feeder) }
     ensures device { MayBeFed D.CacheDev arcs.now.config device.new }
@@ -187,39 +185,6 @@ fn lines_at_once<R: Threads + Wait + Sync, P: Pool, D: CacheDev, G: Gate>(
         kept,
     };
     Ok((crew, replies))
-}
-
-/// The lines of a group none of which asks for a feed: the feeder is as before, and the cache device was only lent.
-fn callers_at_once<R: Threads + Wait + Sync, P: Pool, D: CacheDev, G: Gate>(
-    alloc: Global,
-    rt: &R,
-    arcs: &Cells,
-    crew: Crew<HeapCell>,
-    forks: Vec<P>,
-    pool: &mut P,
-    device: &mut Device<D>,
-    blocks: &[Ptr],
-    ops: &[Op],
-    first: u32,
-    gate: &G,
-) -> Result<(Crew<HeapCell>, Vec<Reply>), NoMemory>
-    requires start { AreAtStart arcs.now blocks.now 0 crew.kept.items crew.parties.items }
-    requires forks { AllByRecursion (IsFork P.Pool pool.old) forks.items }
-    requires same { vec_len forks ≡ vec_len crew.parties }
-    requires declared { AreDeclared (length blocks.now) ops.now }
-    requires callers { AreOfCallers (vec_len crew.parties) ops.now }
-    requires feeder { IsIdleFeeder arcs.now crew.feeder }
-    requires device { MayBeFed D.CacheDev arcs.now.config device.old }
-    requires few { first + length ops.now < 2 ^ 32 }
-    ensures did { IfOk result (λ done. DidLinesAtOnce arcs.now P.Pool blocks.now ops.now pool.old pool.new crew done.0 done.1.items) }
-    ensures feeder { IfOk result (λ done. done.0.feeder ≡ crew.feeder) }
-    ensures read { IfOk result (λ done. ReadAtOnce D.CacheDev blocks.now (vec_len crew.parties) (these ops.now done.1.items) (lent_in device.old) (lent_in device.new)) }
-    ensures pool { LeavesPool P.Pool pool.old pool.new }
-    ensures device { WasLent D.CacheDev device.old device.new }
-{
-    lines_at_once(
-        alloc, rt, arcs, crew, forks, pool, device, blocks, ops, first, gate,
-    )
 }
 
 /// Where the syncs of a run stand.
@@ -267,11 +232,11 @@ fn end_line<P: Pool>(
 ) -> Result<(Crew<HeapCell>, Syncs, Result<Reply, Ending>), NoMemory>
     requires may { MayGoOn arcs.now [] crew.feeder crew.parties.items }
     requires feeder { crew.feeder.number ≡ arcs.now.config.callers }
-    requires unwritten { AllByRecursion (λ o. AreNoEntries arcs.now.config o.own.mine) (crew.feeder ∷ crew.parties.items) }
     requires possible { IsOperation arcs.now.config.callers arcs.now.config.shards op.now }
+    requires ends { ends_group op.now ≡ true }
     requires sync { (lines : ℕ) × (lines < 2 ^ 32) × MaySync P.Pool lines (between_groups pool.old syncs.group syncs.next) }
     ensures did { IfOk result (λ done. DidEndLine arcs.now P.Pool op.now (between_groups pool.old syncs.group syncs.next) (between_groups pool.new done.1.group done.1.next) crew done.0 done.2) }
-    ensures pool { LeavesPool P.Pool pool.old pool.new }
+    ensures pool { LeavesFront P.Pool syncs.next pool.old pool.new }
 {
     let Crew {
         feeder,
@@ -324,8 +289,10 @@ fn end_line<P: Pool>(
                 Err(SyncFault::NoMemory) => Err(NoMemory),
             }
         }
-        // A trace with a line that is not done yet is refused before it is run.
-        _ => Err(NoMemory),
+        Op::Read { .. } | Op::Hold { .. } | Op::Drop { .. } | Op::Feed => unreachable!(),
+        Op::Get { .. } | Op::Put { .. } | Op::Patch { .. } | Op::Pin { .. } | Op::Unpin { .. } => {
+            unreachable!()
+        }
     }
 }
 
@@ -357,14 +324,16 @@ fn next_group<R: Threads + Wait + Sync, P: Pool, D: CacheDev, G: Gate>(
     requires config { arcs.now.config ≡ trace.now.config }
     requires rows { arcs.now.row.parties ≡ parties_of arcs.now.config }
     requires device { MayBeFed D.CacheDev arcs.now.config device.old }
-    requires between { (start : BetweenGroups P) × (restored : List Restored) × AreBetween arcs.now restored P.Pool trace.now start (between_groups pool.old syncs.group syncs.next) replies.old.items crew }
+    requires between { (start : BetweenGroups P) × (restored : List Restored) × (was : Option D) × (work : RunWork)
+        × AreBetween arcs.now restored P.Pool D.CacheDev trace.now start (between_groups pool.old syncs.group syncs.next) was (lent_in device.old) replies.old.items work crew }
     requires more { vec_len replies.old < length trace.now.ops }
-    ensures steps { (start : BetweenGroups P) (restored : List Restored) → AreBetween arcs.now restored P.Pool trace.now start (between_groups pool.old syncs.group syncs.next) replies.old.items crew
-        → IfOk result (λ done. StepsOn arcs.now restored P.Pool trace.now start (between_groups pool.old syncs.group syncs.next) (between_groups pool.new done.1.group done.1.next) replies.old.items replies.new.items done.2 crew done.0) }
-    ensures read { (start : Option D) → HaveReadSoFar D.CacheDev trace.now replies.old.items start (lent_in device.old)
-        → IfOk result (λ done. HaveReadSoFar D.CacheDev trace.now replies.new.items start (lent_in device.new)) }
-    ensures pool { LeavesPool P.Pool pool.old pool.new }
-    ensures device { WasLent D.CacheDev device.old device.new }
+    ensures did { (start : BetweenGroups P) (restored : List Restored) (was : Option D) (work : RunWork)
+        → AreBetween arcs.now restored P.Pool D.CacheDev trace.now start (between_groups pool.old syncs.group syncs.next) was (lent_in device.old) replies.old.items work crew
+        → IfOk result (λ done. StepsOn arcs.now restored P.Pool D.CacheDev trace.now start (between_groups pool.new done.1.group done.1.next) was (lent_in device.new) replies.old.items replies.new.items done.2 done.0) }
+    ensures later { IfOk result (λ done. syncs.next ≤ done.1.next) }
+    ensures pool { LeavesFront P.Pool syncs.next pool.old pool.new }
+    ensures used { WasInUse D.CacheDev device.old device.new }
+    ensures device { MayBeFed D.CacheDev arcs.now.config device.new }
 {
     let blocks = trace.blocks.as_slice();
     let ops = trace.ops.as_slice();
@@ -375,7 +344,7 @@ fn next_group<R: Threads + Wait + Sync, P: Pool, D: CacheDev, G: Gate>(
         Err(IoFault::Failed) => return Ok((crew, syncs, Ending::Fork)),
         Err(IoFault::NoMemory) => return Err(NoMemory),
     };
-    let (crew, answered) = callers_at_once(
+    let (crew, answered) = lines_at_once(
         alloc,
         rt,
         arcs,
@@ -428,12 +397,13 @@ pub(crate) fn all_groups<R: Threads + Wait + Sync, P: Pool, D: CacheDev, G: Gate
     requires config { arcs.now.config ≡ trace.now.config }
     requires rows { arcs.now.row.parties ≡ parties_of arcs.now.config }
     requires device { MayBeFed D.CacheDev arcs.now.config device.old }
-    requires between { (restored : List Restored) × AreBetween arcs.now restored P.Pool trace.now (between_groups pool.old syncs.group syncs.next) (between_groups pool.old syncs.group syncs.next) [] crew }
-    ensures stopped { (restored : List Restored) → AreBetween arcs.now restored P.Pool trace.now (between_groups pool.old syncs.group syncs.next) (between_groups pool.old syncs.group syncs.next) [] crew
-        → IfOk result (λ came. AreDone arcs.now restored P.Pool trace.now (between_groups pool.old syncs.group syncs.next) pool.new came.ending came.replies.items came.crew) }
-    ensures read { IfOk result (λ came. HaveReadSoFar D.CacheDev trace.now came.replies.items (lent_in device.old) (lent_in device.new)) }
-    ensures pool { LeavesPool P.Pool pool.old pool.new }
-    ensures device { WasLent D.CacheDev device.old device.new }
+    requires between { (restored : List Restored) × (work : RunWork)
+        × AreBetween arcs.now restored P.Pool D.CacheDev trace.now (between_groups pool.old syncs.group syncs.next) (between_groups pool.old syncs.group syncs.next) (lent_in device.old) (lent_in device.old) [] work crew }
+    ensures done { (restored : List Restored) (work : RunWork)
+        → AreBetween arcs.now restored P.Pool D.CacheDev trace.now (between_groups pool.old syncs.group syncs.next) (between_groups pool.old syncs.group syncs.next) (lent_in device.old) (lent_in device.old) [] work crew
+        → IfOk result (λ came. (all : RunWork) × AreDone arcs.now restored P.Pool D.CacheDev trace.now (between_groups pool.old syncs.group syncs.next) pool.new (lent_in device.old) (lent_in device.new) came.ending came.replies.items all came.crew) }
+    ensures pool { LeavesFront P.Pool syncs.next pool.old pool.new }
+    ensures used { WasInUse D.CacheDev device.old device.new }
 {
     let mut crew = crew;
     let mut syncs = syncs;

@@ -1,6 +1,5 @@
 //! One caller's lines over the shared cache.
 ghost use Rattle.std.specs.Prelude.{◌≡◌, ◌≢◌, ◌<◌, ◌+◌, ◌^◌, [], IfOk, IfSome, List, None, OnErr, filter, is_some, length, map, true};
-ghost use Rattle.std.specs.List.{list_any};
 ghost use Rattle.arc_table.specs.Reading.{KeepsDevice, outside};
 ghost use Rattle.arc_table.specs.Seen.{HasAll};
 ghost use Rattle.blk_ptr.specs.Hash.{shard_of};
@@ -229,13 +228,6 @@ pub(crate) fn is_on_object(op: &Op) -> bool
         Op::Read { .. } | Op::Hold { .. } | Op::Drop { .. } => false,
         Op::Feed | Op::Txg { .. } | Op::Cap { .. } => false,
     }
-}
-
-/// Whether one of the operations is on an object.
-pub(crate) fn has_objects(ops: &[Op]) -> bool
-    ensures { result ≡ list_any (λ op. is_some (on_object op)) ops.now }
-{
-    ops.iter().any(|op| is_on_object(op))
 }
 
 /// The caller of an operation, where it is a caller's.

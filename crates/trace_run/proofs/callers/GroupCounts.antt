@@ -44,20 +44,29 @@ use Rattle.trace_run.proofs.one_caller.TellLemmas.{act-caller}
 
 -- ---- the reads that an act stands for
 
--- what the acts of a caller's lines may be
-abbrev IsLineAct : Act → Type 0
+-- what the acts of a caller's lines with its own number may be
+abbrev pub IsLineAct : Act → Type 0
 IsLineAct (Reads n t ptr from) = Unit {0}
 IsLineAct (Keeps n t ptr from) = Unit {0}
 IsLineAct (GivesBack n k) = Unit {0}
+IsLineAct (Loads n t ptr from cell) = Unit {0}
 IsLineAct (Fails n t ptr) = Unit {0}
-IsLineAct _ = ⊥
+IsLineAct (RunsOut n t ptr) = ⊥
+IsLineAct (RunsOutAtDbuf n t ptr cell) = ⊥
+IsLineAct (MakesPrivate cell k) = ⊥
+IsLineAct (Writes cell t ptr) = ⊥
 
 -- how many reads of the pool each stands for
-abbrev reads_of_act : Act → ℕ
+abbrev pub reads_of_act : Act → ℕ
 reads_of_act (Reads n t ptr from) = length (calls_from from)
 reads_of_act (Keeps n t ptr from) = length (calls_from from)
+reads_of_act (GivesBack n k) = 0
+reads_of_act (Loads n t ptr from cell) = length (calls_from from)
 reads_of_act (Fails n t ptr) = 1
-reads_of_act _ = 0
+reads_of_act (RunsOut n t ptr) = 0
+reads_of_act (RunsOutAtDbuf n t ptr cell) = 0
+reads_of_act (MakesPrivate cell k) = 0
+reads_of_act (Writes cell t ptr) = 0
 
 past-reads : (n : ℕ) (ptr : Ptr) (es : List Event) → IsPast n ptr es → pool_reads es ≡ 1
 past-reads n ptr es past = ap pool_reads past.1
@@ -74,7 +83,7 @@ act-reads (Keeps n t ptr from) es line are = served-reads n t ptr from [] es ref
 act-reads (GivesBack n k) es line are = ap pool_reads are
 act-reads (Fails n t ptr) es line (inl is) = ap pool_reads is
 act-reads (Fails n t ptr) es line (inr past) = past-reads n ptr es past
-act-reads (Loads n t ptr from cell) es line are = absurd line
+act-reads (Loads n t ptr from cell) es line are = served-reads n t ptr from (event.Hand n ptr.key cell ∷ []) es refl are
 act-reads (RunsOut n t ptr) es line are = absurd line
 act-reads (RunsOutAtDbuf n t ptr cell) es line are = absurd line
 act-reads (MakesPrivate cell k) es line are = absurd line
@@ -176,11 +185,11 @@ all-two P [] ys first second = second
 all-two P (x ∷ xs) ys first second = (first.0, all-two P xs ys first.1 second)
 
 -- acts of lines, which stand for so many reads of the pool
-record Stand (acts : List Act) (reads : ℕ) : Type 0 where
+pub record Stand (acts : List Act) (reads : ℕ) : Type 0 where
   pub line : AllByRecursion IsLineAct acts
   pub count : sum_by reads_of_act acts ≡ reads
 
-stand-two : (xs ys : List Act) (a b : ℕ) → Stand xs a → Stand ys b → Stand (xs ++ ys) (a + b)
+pub stand-two : (xs ys : List Act) (a b : ℕ) → Stand xs a → Stand ys b → Stand (xs ++ ys) (a + b)
 stand-two xs ys a b first second = record { line = all-two IsLineAct xs ys first.line second.line; count = omega (arith, first.count, second.count, sum_by-append reads_of_act xs ys) }
 
 stand-drop : (n : ℕ) (held : Option Key) → Stand (acts_of_drop n held) 0
@@ -206,7 +215,7 @@ stand-dropping n x had gave kept (replies.Refused other) answer = absurd answer
 stand-dropping n x had gave kept other answer = absurd answer
 
 module _ (len : ℕ) (image : Option (List ℕ)) (blocks : List Ptr) where
-  stand-line : (kept : List KeptRead) (op : Op) (reply : Reply) → AnswersNow len image blocks kept op reply → Stand (acts_of blocks kept op reply) (length (calls_of (effect_of reply)))
+  pub stand-line : (kept : List KeptRead) (op : Op) (reply : Reply) → AnswersNow len image blocks kept op reply → Stand (acts_of blocks kept op reply) (length (calls_of (effect_of reply)))
   stand-line kept (ops.Read n t x window) reply answer = rw answer.1 (stand-read n t answer.0 (effect_of reply))
   stand-line kept (ops.Hold n t x) reply answer = rw answer.1 (stand-hold n t answer.0 (effect_of reply))
   stand-line kept (ops.Drop n x) reply answer = stand-dropping n x (kept_of_block x kept) 0 kept reply answer
@@ -221,7 +230,7 @@ module _ (len : ℕ) (image : Option (List ℕ)) (blocks : List Ptr) where
       subst (Stand (acts_of_all blocks kept (o ∷ os) (r ∷ rs))) (sym (length-append (calls_of (effect_of r)) (calls_of_all rs)))
       (stand-two (acts_of blocks kept o r) (acts_of_all blocks (kept_after blocks o r kept) os rs) _ _ (stand-line kept o r answers.0) (stand-lines (kept_after blocks o r kept) os rs answers.1))
 
-  stand-drops : (n : ℕ) (kept : List KeptRead) → Stand (acts_of_drops n kept) 0
+  pub stand-drops : (n : ℕ) (kept : List KeptRead) → Stand (acts_of_drops n kept) 0
   stand-drops n [] = record { line = tt; count = refl }
   stand-drops n (read ∷ reads) = stand-two (acts_of_drop n read.held) (acts_of_drops n reads) 0 0 (stand-drop n read.held) (stand-drops n reads)
 
@@ -240,26 +249,19 @@ get-there [] k d lt = absurd (omega arith)
 get-there (x ∷ xs) zero d lt = refl
 get-there (x ∷ xs) (suc k) d lt = get-there xs k d (omega arith)
 
--- A caller whose lines were answered, and whose acts the histories tell, read its fork once for each of its events that stands for a read of the pool.
-pub caller-reads : (g : Config) (len : ℕ) (image : Option (List ℕ)) (blocks : List Ptr) (n : ℕ) (all : List Op) (rs : List Reply) (histories : List (List Event)) → IsConfig g → length histories ≡ g.shards
-    → AreAnswered len image blocks [] (filter (is_of_caller n) all) rs
-    → ((i : ℕ) (h : List Event) → get_elem? histories i ≡ some h → Tell (acts_in (shard_of g.shards) i n (acts_of_caller blocks n (filter (is_of_caller n) all) rs)) (own_moments n (moments (opening_of g) h)))
-    → length (calls_of_all rs) ≡ reads_of_caller n histories
-caller-reads g len image blocks n all rs histories valid long answers told =
-    let os : List Op = filter (is_of_caller n) all in
-    let acts : List Act = acts_of_caller blocks n os rs in
+-- A caller whose acts the histories tell has as many events that stand for reads of the pool as its acts stand for.
+pub acts-counted : (g : Config) (n : ℕ) (acts : List Act) (histories : List (List Event)) → IsConfig g → length histories ≡ g.shards → AllByRecursion IsLineAct acts → AllByRecursion (λ act. actor_of act ≡ n) acts
+    → ((i : ℕ) (h : List Event) → get_elem? histories i ≡ some h → Tell (acts_in (shard_of g.shards) i n acts) (own_moments n (moments (opening_of g) h))) → sum_by reads_of_act acts ≡ reads_of_caller n histories
+acts-counted g n acts histories valid long line own told =
     let f : Key → ℕ = shard_of g.shards in
-    let stand = stand-caller len image blocks n os rs answers in
-    let own : AllByRecursion (λ act. actor_of act ≡ n) acts = act-caller blocks n os rs (own-lines n all) in
     let below : (key : Key) → f key < g.shards = λ key. mod_below (hash_of_key key) g.shards (let a = valid.counts.shards.0 in omega arith) in
     let each : (i : ℕ) → i < length histories → reads_by n (get_or histories i []) ≡ sum_by reads_of_act (acts_in f i n acts) = λ i lt.
     sym (own-reads n (opening_of g) (get_or histories i []))
-    ∙ tell-reads (acts_in f i n acts) _ (all-filter (λ act. actor_of act == n && f (act_key act) == i) acts stand.line) (told i (get_or histories i []) (get-there histories i [] lt)) in
-    sym stand.count
-    ∙ (sym (shards-acts f g.shards n acts own below)
+    ∙ tell-reads (acts_in f i n acts) _ (all-filter (λ act. actor_of act == n && f (act_key act) == i) acts line) (told i (get_or histories i []) (get-there histories i [] lt)) in
+    sym (shards-acts f g.shards n acts own below)
     ∙ (ap (λ (k : ℕ). over_callers k (λ i. sum_by reads_of_act (acts_in f i n acts))) (sym long)
     ∙ (sym (over-same (length histories) (λ i. reads_by n (get_or histories i [])) (λ i. sum_by reads_of_act (acts_in f i n acts)) each)
-    ∙ over-sum (reads_by n) histories [])))
+    ∙ over-sum (reads_by n) histories []))
   where
     all-filter : (test : Act → Bool) (xs : List Act) → AllByRecursion IsLineAct xs → AllByRecursion IsLineAct (filter test xs)
     all-filter test [] line = tt
@@ -267,6 +269,15 @@ caller-reads g len image blocks n all rs histories valid long answers told =
       | inl passes ↦ rw passes (line.0, all-filter test xs line.1)
       | inr fails ↦ rw fails (all-filter test xs line.1)
     ]
+
+-- A caller whose lines were answered, and whose acts the histories tell, read its fork once for each of its events that stands for a read of the pool.
+pub caller-reads : (g : Config) (len : ℕ) (image : Option (List ℕ)) (blocks : List Ptr) (n : ℕ) (all : List Op) (rs : List Reply) (histories : List (List Event)) → IsConfig g → length histories ≡ g.shards
+    → AreAnswered len image blocks [] (filter (is_of_caller n) all) rs
+    → ((i : ℕ) (h : List Event) → get_elem? histories i ≡ some h → Tell (acts_in (shard_of g.shards) i n (acts_of_caller blocks n (filter (is_of_caller n) all) rs)) (own_moments n (moments (opening_of g) h)))
+    → length (calls_of_all rs) ≡ reads_of_caller n histories
+caller-reads g len image blocks n all rs histories valid long answers told =
+    let stand = stand-caller len image blocks n (filter (is_of_caller n) all) rs answers in
+    sym stand.count ∙ acts-counted g n (acts_of_caller blocks n (filter (is_of_caller n) all) rs) histories valid long stand.line (act-caller blocks n (filter (is_of_caller n) all) rs (own-lines n all)) told
 
 -- ---- no other's
 
@@ -309,23 +320,3 @@ all-reads callers (es ∷ histories) all =
       all-reads callers histories all.1,
       sum_by-cons pool_reads es histories,
     )
-
-no-other : (callers : ℕ) (es : List Event) → ((x : ℕ) (e : Event) → get_elem? es x ≡ some e → number_of e < suc callers) → reads_by callers es ≡ 0 → AllByRecursion (IsReadOfCaller callers) es
-no-other callers [] party none = tt
-no-other callers (e ∷ es) party none =
-    (λ read. below read (party 0 e refl), no-other callers es (λ x y at. party (suc x) y at) (omega (arith, none, sum_by-cons (λ x. cond (is_pool_read x && number_of x == callers) 1 0) e es)))
-  where
-    less : (a b : ℕ) → a < suc b → (a ≡ b → ⊥) → a < b
-    less a b lt differs = omega arith
-
-    below : is_pool_read e ≡ true → number_of e < suc callers → number_of e < callers
-    below read lt = dite (ℕ_discrete (number_of e) callers)
-        (λ same.
-        let one : cond {A = ℕ} (is_pool_read e && number_of e == callers) 1 0 ≡ 1 = rw (read, eq-eqb (number_of e) callers same) refl in
-        absurd (omega (arith, one, none, sum_by-cons (λ x. cond (is_pool_read x && number_of x == callers) 1 0) e es)))
-        (λ differs. less (number_of e) callers lt differs)
-
--- Each event is of a party, and the last of these, the feeder, made none: so each read of the pool is a caller's.
-pub history-of-callers : (callers : ℕ) (s : PlainShard) (es : List Event) → ((x : ℕ) (e : Event) → get_elem? es x ≡ some e → number_of e < suc callers) → own_moments callers (moments s es) ≡ []
-    → AllByRecursion (IsReadOfCaller callers) es
-history-of-callers callers s es party none = no-other callers es party (sym (own-reads callers s es) ∙ ap (λ (ms : List Moment). pool_reads (map (λ m. m.event) ms)) none)

@@ -21,12 +21,13 @@ use Rattle.trace_run.specs.KeptReads.{KeptRead}
 use Rattle.trace_run.specs.declared.group.Caller.{Caller}
 use Rattle.trace_run.specs.declared.kept_blocks.KeptBlock.{KeptBlock}
 use Rattle.trace_run.specs.callers.CallerLines.{At, DidLines, at}
-use Rattle.trace_run.specs.callers.Callers.{AbsorbsAll, AllReplied, AreAtStart, AreEnlisted, HasDone, HasTried, HaveComeBack, IsReady, Replied}
-use Rattle.trace_run.specs.DeviceReads.{AsksGiven}
-use Rattle.trace_run.specs.callers.DeviceForks.{AllAsk, HasAsked}
-use Rattle.trace_run.specs.callers.Group.{HasWorked, HaveWorked, IsFork}
+use Rattle.trace_run.specs.callers.Callers.{AbsorbsAll, AllReplied, AreAtStart, AreEnlisted, CameTo, HasDone, HasTried, HaveComeBack, IsReady, Replied}
+use Rattle.trace_run.specs.callers.DeviceForks.{AllAsk}
+use Rattle.trace_run.specs.callers.Group.{HasWorked, HaveWorked, IsFork, RepliedAt}
+use Rattle.trace_run.specs.callers.WorkLines.{AnswersLines, AreLinesOf, AsksGiven, IsWorkOf}
 use Rattle.trace_run.specs.KeptBlocks.{Stands, read_of}
 use Rattle.trace_run.specs.Lines.{caller_of, is_of_caller}
+use Rattle.trace_run.specs.Objects.{Line}
 use Rattle.trace_run.specs.one_caller.OneCaller.{kept_after}
 use Rattle.trace_run.specs.one_caller.OverShards.{AreNamed}
 use Rattle.trace_run.specs.Tally.{AreAnswered}
@@ -81,49 +82,62 @@ answers-length len image blocks kept [] (r ∷ rs) answers = absurd answers
 answers-length len image blocks kept (o ∷ os) [] answers = absurd answers
 answers-length len image blocks kept (o ∷ os) (r ∷ rs) answers = ap suc (answers-length len image blocks (kept_after blocks o r kept) os rs answers.1)
 
-module _ {C P D : Type 0} (cache : Cache) (pools : Ghosts P) (blocks : List Ptr) (ops : List Op) where
-  -- what the lines come to
-  pub lines-done : (n : ℕ) (old new : Caller C P D) (rs : List Reply) → IsReady cache blocks old → old.party.number ≡ n → Stands cache new.party new.kept
-      → DidLines cache.config pools blocks (filter (is_of_caller n) ops) rs (at old.party (map read_of old.kept) old.pool) (at new.party (map read_of new.kept) new.pool)
-      → HasDone cache pools blocks ops n old new rs
-  lines-done n old new rs ready his stands did =
-      let g : Config = cache.config in
-      let os : List Op = filter (is_of_caller n) ops in
-      let a : At C P = at old.party (map read_of old.kept) old.pool in
-      let b : At C P = at new.party (map read_of new.kept) new.pool in
-      record {
-        number = lines-number g pools blocks os rs a b did ∙ his;
-        alone = lines-joined g pools blocks n os rs a b (own-lines n ops) did ∙ ready.alone;
-        stands = stands;
-        kept = lines-kept g pools blocks os rs a b did;
-        told = λ before told. lines-told g pools blocks os rs a b did before told;
-        answers = lines-answers g pools blocks os rs a b did;
-        calls = lines-calls g pools blocks os rs a b did;
-      }
+module _ {C P D : Type 0} (cache : Cache) (pools : Ghosts P) (devices : DeviceGhosts D) (blocks : List Ptr) (ops : List Op) where
+  -- the caller's operations, as it was before them
+  abbrev his_ops : Caller C P D → List Op
+  his_ops old = filter (is_of_caller old.party.number) ops
+
+  -- what they came to
+  abbrev DoneBy : (old new : Caller C P D) → List Reply → Type 0
+  DoneBy old new rs = HasDone cache pools devices blocks ops old.party.number old new rs
+
+  abbrev pub CameBy : (old new : Caller C P D) → List Reply → Type 0
+  CameBy old new rs = CameTo pools devices cache.config blocks (his_ops old) rs (at old.party (map read_of old.kept) old.pool) (at new.party (map read_of new.kept) new.pool) old.device new.device
+
+  lines-done : (old new : Caller C P D) (rs : List Reply) → IsReady cache blocks old → Stands cache new.party new.kept → CameBy old new rs → DoneBy old new rs
+  lines-done old new rs ready stands came = record {
+    number = came.number;
+    alone = came.joined ∙ ready.alone;
+    stands = stands;
+    lines = came.lines;
+    are = came.are;
+    fits = came.fits;
+    kept = came.kept;
+    told = came.told;
+    cells = came.cells;
+    answers = came.answers;
+    calls = came.calls;
+    asked = came.asked;
+  }
 
   -- and of one whose lines are tried, where memory may be short
-  pub lines-tried : (old new : Caller C P D) → IsReady cache blocks old → IfOk new.replies (λ replies. Stands cache new.party new.kept)
-      → IfOk new.replies (λ replies. DidLines cache.config pools blocks (filter (is_of_caller old.party.number) ops) replies.items (at old.party (map read_of old.kept) old.pool) (at new.party (map read_of new.kept) new.pool))
-      → HasTried cache pools blocks ops old new
-  lines-tried old new ready stands did = record { done = both new.replies stands did }
+  pub lines-tried : (old new : Caller C P D) → IsReady cache blocks old → IfOk new.replies (λ replies. Stands cache new.party new.kept) → IfOk new.replies (λ replies. CameBy old new replies.items) → HasTried cache pools devices blocks ops old new
+  lines-tried old new ready stands came = record { done = both new.replies stands came }
     where
-      both : (r : Result (Vec Reply Global) NoMemory) → IfOk r (λ replies. Stands cache new.party new.kept)
-          → IfOk r (λ replies. DidLines cache.config pools blocks (filter (is_of_caller old.party.number) ops) replies.items (at old.party (map read_of old.kept) old.pool) (at new.party (map read_of new.kept) new.pool))
-          → IfOk r (λ replies. HasDone cache pools blocks ops old.party.number old new replies.items)
-      both (Ok v) stood done = lines-done old.party.number old new v.items ready refl stood done
+      both : (r : Result (Vec Reply Global) NoMemory) → IfOk r (λ replies. Stands cache new.party new.kept) → IfOk r (λ replies. CameBy old new replies.items) → IfOk r (λ replies. DoneBy old new replies.items)
+      both (Ok v) stood done = lines-done old new v.items ready stood done
       both (Err e) stood done = tt
 
-  -- a caller that tried, and was answered so, has worked
-  pub worked-of : (old new : Caller C P D) (rs : List Reply) (n : ℕ) → old.party.number ≡ n → HasTried cache pools blocks ops old new → Replied new rs
-      → HasWorked cache pools blocks ops n old.pool new.pool rs old.kept old.party new.kept new.party
+  -- a caller that tried, and was answered so, has done its lines
+  abbrev done-of : (old new : Caller C P D) (rs : List Reply) → HasTried cache pools devices blocks ops old new → (replied : Replied new rs) → DoneBy old new replied.all.items
+  done-of old new rs tried replied = subst (λ (r : Result (Vec Reply Global) NoMemory). IfOk r (λ replies. DoneBy old new replies.items)) replied.replied tried.done
+
+  replied-of : (old new : Caller C P D) (rs : List Reply) (n : ℕ) → old.party.number ≡ n → (tried : HasTried cache pools devices blocks ops old new) (replied : Replied new rs) → AreLinesOf (filter (is_of_caller n) ops) rs (done-of old new rs tried replied).lines
+  replied-of old new rs n his tried replied =
+      let done = done-of old new rs tried replied in
+      subst (λ (x : ℕ × List Reply). AreLinesOf (filter (is_of_caller x.0) ops) x.1 done.lines) (λ i. (his i, replied.replies_are i)) done.are
+
+  worked-of : (old new : Caller C P D) (rs : List Reply) (n : ℕ) → old.party.number ≡ n → (tried : HasTried cache pools devices blocks ops old new) (replied : Replied new rs)
+      → HasWorked cache pools blocks n old.pool new.pool (done-of old new rs tried replied).lines old.kept old.party new.kept new.party
   worked-of old new rs n his tried replied =
-      let there : HasDone cache pools blocks ops old.party.number old new replied.all.items =
-      subst (λ (r : Result (Vec Reply Global) NoMemory). IfOk r (λ replies. HasDone cache pools blocks ops old.party.number old new replies.items)) replied.replied tried.done in
-      let done : HasDone cache pools blocks ops n old new rs = subst (λ (x : ℕ × List Reply). HasDone cache pools blocks ops x.0 old new x.1) (λ h. (his h, replied.replies_are h)) there in
+      let done = done-of old new rs tried replied in
       record {
-        waits = λ acts noted waits. record { number = done.number; alone = done.alone; stands = done.stands; told = done.told acts noted waits.told };
+        fits = subst (λ (m : ℕ). AllByRecursion (IsWorkOf cache.config m) done.lines) his done.fits;
+        waits = λ acts noted waits. record { number = done.number ∙ his; alone = done.alone; stands = done.stands; told = done.told acts noted waits.told };
         keeps = done.kept;
-        answers = done.answers;
+        cells = done.cells;
+        answers = λ acts noted told place. subst
+            (λ (m : ℕ). AnswersLines cache.config (pools.size old.pool) (pools.told old.pool) place blocks old.party.own.about.openings new.party.own.seen m noted (map read_of old.kept) done.lines) his (done.answers acts noted told place);
         calls = done.calls;
       }
 
@@ -185,7 +199,7 @@ module _ {C P D : Type 0} (cache : Cache) (pools : Ghosts P) (blocks : List Ptr)
   replied-length (new ∷ news) [] replied = absurd replied
   replied-length (new ∷ news) (rs ∷ rss) replied = ap suc (replied-length news rss replied.1)
 
-  tried-length : (olds news : List (Caller C P D)) → AllZip (HasTried cache pools blocks ops) olds news → length news ≡ length olds
+  tried-length : (olds news : List (Caller C P D)) → AllZip (HasTried cache pools devices blocks ops) olds news → length news ≡ length olds
   tried-length [] [] tried = refl
   tried-length [] (new ∷ news) tried = absurd tried
   tried-length (old ∷ olds) [] tried = absurd tried
@@ -194,15 +208,27 @@ module _ {C P D : Type 0} (cache : Cache) (pools : Ghosts P) (blocks : List Ptr)
   abbrev pool_of : Caller C P D → P
   pool_of caller = caller.pool
 
+  abbrev device_of : Caller C P D → Option D
+  device_of caller = caller.device
+
+  -- the lines of the caller at a place
+  abbrev lines_at : (olds news : List (Caller C P D)) (rss : List (List Reply)) → AllZip (HasTried cache pools devices blocks ops) olds news → AllReplied news rss → (k : ℕ) → List Line
+  lines_at [] news rss tried replied k = []
+  lines_at (old ∷ olds) [] rss tried replied k = absurd tried
+  lines_at (old ∷ olds) (new ∷ news) [] tried replied k = absurd replied
+  lines_at (old ∷ olds) (new ∷ news) (rs ∷ rss) tried replied zero = (done-of old new rs tried.0 replied.0).lines
+  lines_at (old ∷ olds) (new ∷ news) (rs ∷ rss) tried replied (suc k) = lines_at olds news rss tried.1 replied.1 k
+
   -- the work of one of these callers, by its place
-  record WorkedHere (m k : ℕ) (fork done : P) (rss : List (List Reply)) (olds news : List (Caller C P D)) : Type 0 where
+  record WorkedHere (m k : ℕ) (fork done : P) (lines : List Line) (rss : List (List Reply)) (olds news : List (Caller C P D)) : Type 0 where
     pub own : List Reply
     pub own_at : get_elem? rss k ≡ some own
+    pub are : AreLinesOf (filter (is_of_caller m) ops) own lines
     pub old : Caller C P D
     pub before : get_elem? olds k ≡ some old
     pub new : Caller C P D
     pub after : get_elem? news k ≡ some new
-    pub worked : HasWorked cache pools blocks ops m fork done own old.kept old.party new.kept new.party
+    pub worked : HasWorked cache pools blocks m fork done lines old.kept old.party new.kept new.party
 
   starts-fork : (pool : P) (n : ℕ) (olds : List (Caller C P D)) → AllStart pool n olds → (k : ℕ) → k < length olds → IsFork pools pool (get_or (map pool_of olds) k pool)
   starts-fork pool n [] start k lt = absurd (omega arith)
@@ -210,15 +236,16 @@ module _ {C P D : Type 0} (cache : Cache) (pools : Ghosts P) (blocks : List Ptr)
   starts-fork pool n (old ∷ olds) start (suc k) lt = starts-fork pool (suc n) olds start.3 k (omega arith)
 
   -- what the caller of each number has done
-  worked-each : (pool : P) (n : ℕ) (olds news : List (Caller C P D)) (rss : List (List Reply)) → AllStart pool n olds → AllZip (HasTried cache pools blocks ops) olds news
-      → AllReplied news rss → (k m : ℕ) → m ≡ n + k → k < length olds
-      → WorkedHere m k (get_or (map pool_of olds) k pool) (get_or (map pool_of news) k pool) rss olds news
+  worked-each : (pool : P) (n : ℕ) (olds news : List (Caller C P D)) (rss : List (List Reply)) → AllStart pool n olds → (tried : AllZip (HasTried cache pools devices blocks ops) olds news)
+      (replied : AllReplied news rss) → (k m : ℕ) → m ≡ n + k → k < length olds
+      → WorkedHere m k (get_or (map pool_of olds) k pool) (get_or (map pool_of news) k pool) (lines_at olds news rss tried replied k) rss olds news
   worked-each pool n [] news rss start tried replied k m is lt = absurd (omega arith)
   worked-each pool n (old ∷ olds) [] rss start tried replied k m is lt = absurd tried
   worked-each pool n (old ∷ olds) (new ∷ news) [] start tried replied k m is lt = absurd replied
   worked-each pool n (old ∷ olds) (new ∷ news) (rs ∷ rss) start tried replied zero m is lt = record {
     own = rs;
     own_at = refl;
+    are = replied-of old new rs m (start.0 ∙ omega arith) tried.0 replied.0;
     old = old;
     before = refl;
     new = new;
@@ -227,70 +254,91 @@ module _ {C P D : Type 0} (cache : Cache) (pools : Ghosts P) (blocks : List Ptr)
   }
   worked-each pool n (old ∷ olds) (new ∷ news) (rs ∷ rss) start tried replied (suc k) m is lt =
       let h = worked-each pool (suc n) olds news rss start.3 tried.1 replied.1 k m (omega arith) (omega arith) in
-      record { own = h.own; own_at = h.own_at; old = h.old; before = h.before; new = h.new; after = h.after; worked = h.worked }
+      record { own = h.own; own_at = h.own_at; are = h.are; old = h.old; before = h.before; new = h.new; after = h.after; worked = h.worked }
 
   -- what each asked its fork of the device
-  asked-each : (devices : DeviceGhosts D) (pool : P) (n : ℕ) (olds news : List (Caller C P D)) (rss : List (List Reply)) → AllStart pool n olds → AllZip (HasAsked devices blocks ops) olds news → AllReplied news rss
-      → AllAsk devices blocks ops n (map (λ caller. caller.device) olds) (map (λ caller. caller.device) news) rss
-  asked-each devices pool n [] [] [] start asked replied = tt
-  asked-each devices pool n [] [] (rs ∷ rss) start asked replied = absurd replied
-  asked-each devices pool n [] (new ∷ news) rss start asked replied = absurd asked
-  asked-each devices pool n (old ∷ olds) [] rss start asked replied = absurd asked
-  asked-each devices pool n (old ∷ olds) (new ∷ news) [] start asked replied = absurd replied
-  asked-each devices pool n (old ∷ olds) (new ∷ news) (rs ∷ rss) start asked replied =
-      let here : AsksGiven devices blocks (filter (is_of_caller old.party.number) ops) replied.0.all.items old.device new.device =
-      subst (λ (r : Result (Vec Reply Global) NoMemory). IfOk r (λ replies. AsksGiven devices blocks (filter (is_of_caller old.party.number) ops) replies.items old.device new.device)) replied.0.replied asked.0.asked in (
-        subst (λ (x : ℕ × List Reply). AsksGiven devices blocks (filter (is_of_caller x.0) ops) x.1 old.device new.device) (λ i. (start.0 i, replied.0.replies_are i)) here,
-        asked-each devices pool (suc n) olds news rss start.3 asked.1 replied.1,
-      )
+  asked-each : (n : ℕ) (olds news : List (Caller C P D)) (rss : List (List Reply)) (tried : AllZip (HasTried cache pools devices blocks ops) olds news) (replied : AllReplied news rss)
+      (own : ℕ → List Line) → ((k m : ℕ) → m ≡ n + k → own m ≡ lines_at olds news rss tried replied k) → AllAsk devices blocks own n (map device_of olds) (map device_of news)
+  asked-each n [] [] rss tried replied own are = tt
+  asked-each n [] (new ∷ news) rss tried replied own are = absurd tried
+  asked-each n (old ∷ olds) [] rss tried replied own are = absurd tried
+  asked-each n (old ∷ olds) (new ∷ news) [] tried replied own are = absurd replied
+  asked-each n (old ∷ olds) (new ∷ news) (rs ∷ rss) tried replied own are = (
+    subst (λ (ls : List Line). AsksGiven devices blocks ls old.device new.device) (sym (are 0 n (omega arith))) (done-of old new rs tried.0 replied.0).asked,
+    asked-each (suc n) olds news rss tried.1 replied.1 own (λ k m is. are (suc k) m (omega (arith, is))),
+  )
 
-  -- what all of a group asked
-  pub have-asked : (devices : DeviceGhosts D) (pool : P) (ps : List (Place (Known C))) (ks : List (List KeptBlock)) (forks : List P) (olds news : List (Caller C P D)) (rss : List (List Reply)) → AreAtStart cache blocks 0 ks ps
-      → AllByRecursion (IsFork pools pool) forks → AreEnlisted ps ks forks olds → AllZip (HasAsked devices blocks ops) olds news → AllReplied news rss
-      → AllAsk devices blocks ops 0 (map (λ caller. caller.device) olds) (map (λ caller. caller.device) news) rss
-  have-asked devices pool ps ks forks olds news rss start fresh made asked replied = asked-each devices pool 0 olds news rss (enlisted-start pool 0 ps ks forks olds start fresh made).start asked replied
+  -- What the callers of a group came to: each has these lines, by its number, and asked its fork of the device for them.
+  pub record DidOwn (callers : ℕ) (before after : P) (had : List (List KeptBlock)) (ps : List (Place (Known C))) (kept : List (List KeptBlock)) (qs : List (Place (Known C))) (rss : List (List Reply)) (given left : List (Option D)) : Type 0 where
+    pub own : ℕ → List Line
+    pub replied : length rss ≡ callers
+    pub are : (n : ℕ) → n < callers → RepliedAt ops n (own n) rss
+    pub worked : HaveWorked cache pools blocks callers before after own had ps kept qs
+    pub asked : AllAsk devices blocks own 0 given left
 
-  pub have-worked : (old new : P) (ps : List (Place (Known C))) (ks : List (List KeptBlock)) (forks : List P) (olds news : List (Caller C P D)) (rss : List (List Reply)) (kept : List (List KeptBlock)) (qs : List (Place (Known C)))
-      → AreAtStart cache blocks 0 ks ps → AllByRecursion (IsFork pools old) forks → AreEnlisted ps ks forks olds → AllZip (HasTried cache pools blocks ops) olds news
-      → AbsorbsAll pools (map pool_of news) old new → HaveComeBack news rss qs kept → HaveWorked cache pools blocks ops (length ps) old new rss ks ps kept qs
-  have-worked old new ps ks forks olds news rss kept qs start fresh made tried absorbs came =
-      let begun = enlisted-start old 0 ps ks forks olds start fresh made in
-      let many : length olds ≡ length ps = sym (length-map olds (λ (caller : Caller C P D). caller.party)) ∙ ap length begun.parties in
-      let same : length news ≡ length olds = tried-length olds news tried in
-      let dones : List P = map pool_of news in
-      let long : length dones ≡ length ps = length-map news pool_of ∙ (same ∙ many) in
-      let all_reads : over_callers (length ps) (λ n. pools.reads (get_or dones n old)) ≡ sum_by pools.reads dones = ap (λ (l : ℕ). over_callers l (λ n. pools.reads (get_or dones n old))) (sym long) ∙ over-sum pools.reads dones old in
-      let all_faults : over_callers (length ps) (λ n. pools.faults (get_or dones n old)) ≡ sum_by pools.faults dones = ap (λ (l : ℕ). over_callers l (λ n. pools.faults (get_or dones n old))) (sym long) ∙ over-sum pools.faults dones old in
-      record {
-        replied = replied-length news rss came.replied ∙ (same ∙ many);
-        kepts = ap length came.keeps ∙ (length-map news _ ∙ (same ∙ many));
-        parties = ap length came.parties ∙ (length-map news _ ∙ (same ∙ many));
-        forks = λ n. get_or (map pool_of olds) n old;
-        done = λ n. get_or dones n old;
-        fresh = λ n lt. starts-fork old 0 olds begun.start n (omega (arith, lt, many));
-        each = λ n lt.
-            let h = worked-each old 0 olds news rss begun.start tried came.replied n n (omega arith) (omega (arith, lt, many)) in
-            record {
-              own = h.own;
-              own_at = h.own_at;
-              old = h.old.kept;
-              from = h.old.party;
-              before = record {
-                kept_at = ap (λ (l : List (List KeptBlock)). get_elem? l n) (sym begun.keeps) ∙ map-at (λ (caller : Caller C P D). caller.kept) olds n h.old h.before;
-                party_at = ap (λ (l : List (Place (Known C))). get_elem? l n) (sym begun.parties) ∙ map-at (λ (caller : Caller C P D). caller.party) olds n h.old h.before;
-              };
-              new = h.new.kept;
-              to = h.new.party;
-              after = record {
-                kept_at = ap (λ (l : List (List KeptBlock)). get_elem? l n) came.keeps ∙ map-at (λ (caller : Caller C P D). caller.kept) news n h.new h.after;
-                party_at = ap (λ (l : List (Place (Known C))). get_elem? l n) came.parties ∙ map-at (λ (caller : Caller C P D). caller.party) news n h.new h.after;
-              };
-              worked = h.worked;
+  pub did-own : (old new : P) (ps : List (Place (Known C))) (ks : List (List KeptBlock)) (forks : List P) (olds news : List (Caller C P D)) (rss : List (List Reply)) (kept : List (List KeptBlock)) (qs : List (Place (Known C)))
+      → AreAtStart cache blocks 0 ks ps → AllByRecursion (IsFork pools old) forks → AreEnlisted ps ks forks olds → AllZip (HasTried cache pools devices blocks ops) olds news
+      → AbsorbsAll pools (map pool_of news) old new → HaveComeBack news rss qs kept → DidOwn (length ps) old new ks ps kept qs rss (map device_of olds) (map device_of news)
+  did-own old new ps ks forks olds news rss kept qs start fresh made tried absorbs came = record {
+    own = own;
+    replied = replied-length news rss came.replied ∙ (same ∙ many);
+    are = λ n lt. let h = here n lt in record { own = h.own; own_at = h.own_at; are = h.are };
+    worked = record {
+      kepts = ap length came.keeps ∙ (length-map news _ ∙ (same ∙ many));
+      parties = ap length came.parties ∙ (length-map news _ ∙ (same ∙ many));
+      forks = λ n. get_or (map pool_of olds) n old;
+      done = λ n. get_or dones n old;
+      fresh = λ n lt. starts-fork old 0 olds begun.start n (omega (arith, lt, many));
+      each = λ n lt.
+          let h = here n lt in
+          record {
+            old = h.old.kept;
+            from = h.old.party;
+            before = record {
+              kept_at = ap (λ (l : List (List KeptBlock)). get_elem? l n) (sym begun.keeps) ∙ map-at (λ (caller : Caller C P D). caller.kept) olds n h.old h.before;
+              party_at = ap (λ (l : List (Place (Known C))). get_elem? l n) (sym begun.parties) ∙ map-at (λ (caller : Caller C P D). caller.party) olds n h.old h.before;
             };
-        reads = λ some. sum-of-reads pools dones old new absorbs (omega (arith, some, long)) ∙ ap (sum_of_counts (pools.reads old)) (sym all_reads);
-        faults = λ some. sum-of-faults pools dones old new absorbs (omega (arith, some, long)) ∙ ap (sum_of_counts (pools.faults old)) (sym all_faults);
-        keeps = absorbed-leaves pools dones old new absorbs;
-      }
+            new = h.new.kept;
+            to = h.new.party;
+            after = record {
+              kept_at = ap (λ (l : List (List KeptBlock)). get_elem? l n) came.keeps ∙ map-at (λ (caller : Caller C P D). caller.kept) news n h.new h.after;
+              party_at = ap (λ (l : List (Place (Known C))). get_elem? l n) came.parties ∙ map-at (λ (caller : Caller C P D). caller.party) news n h.new h.after;
+            };
+            worked = h.worked;
+          };
+      reads = λ some. sum-of-reads pools dones old new absorbs (omega (arith, some, long)) ∙ ap (sum_of_counts (pools.reads old)) (sym all_reads);
+      faults = λ some. sum-of-faults pools dones old new absorbs (omega (arith, some, long)) ∙ ap (sum_of_counts (pools.faults old)) (sym all_faults);
+      keeps = absorbed-leaves pools dones old new absorbs;
+    };
+    asked = asked-each 0 olds news rss tried came.replied own (λ k m is. let same : m ≡ k = omega (arith, is) in ap own same);
+  }
+    where
+      begun : Enlisted old 0 ps ks olds
+      begun = enlisted-start old 0 ps ks forks olds start fresh made
+
+      own : ℕ → List Line
+      own n = lines_at olds news rss tried came.replied n
+
+      many : length olds ≡ length ps
+      many = sym (length-map olds (λ (caller : Caller C P D). caller.party)) ∙ ap length begun.parties
+
+      same : length news ≡ length olds
+      same = tried-length olds news tried
+
+      dones : List P
+      dones = map pool_of news
+
+      long : length dones ≡ length ps
+      long = length-map news pool_of ∙ (same ∙ many)
+
+      all_reads : over_callers (length ps) (λ n. pools.reads (get_or dones n old)) ≡ sum_by pools.reads dones
+      all_reads = ap (λ (l : ℕ). over_callers l (λ n. pools.reads (get_or dones n old))) (sym long) ∙ over-sum pools.reads dones old
+
+      all_faults : over_callers (length ps) (λ n. pools.faults (get_or dones n old)) ≡ sum_by pools.faults dones
+      all_faults = ap (λ (l : ℕ). over_callers l (λ n. pools.faults (get_or dones n old))) (sym long) ∙ over-sum pools.faults dones old
+
+      here : (n : ℕ) → n < length ps → WorkedHere n n (get_or (map pool_of olds) n old) (get_or dones n old) (own n) rss olds news
+      here n lt = worked-each old 0 olds news rss begun.start tried came.replied n n (omega arith) (omega (arith, lt, many))
 
 -- there is a list of kept reads for each party
 pub start-length : {C : Type 0} (cache : Cache) (blocks : List Ptr) (n : ℕ) (ks : List (List KeptBlock)) (ps : List (Place (Known C))) → AreAtStart cache blocks n ks ps → length ks ≡ length ps

@@ -15,12 +15,13 @@ use Rattle.turn_table.specs.declared.standing.Kept.{Kept}
 use Rattle.turn_table.specs.Moments.{WasSo}
 use Rattle.turn_table.specs.Places.{AllShow, IsLast, Place, kept, met, parted, rest_of, stayed}
 use Rattle.arc_table.specs.declared.view.Known.{Known}
+use Rattle.arc_table.specs.declared.view.Ledger.{Ledger}
 use Rattle.arc_table.specs.declared.view.Line.{Line}
 use Rattle.arc_table.specs.declared.view.Line.TheVariants as line
 use Rattle.arc_table.specs.declared.view.Mine.{Mine}
 use Rattle.arc_table.specs.pact.Attached.{IsShown}
 use Rattle.arc_table.specs.Cache.{Cache, IsPartyOf}
-use Rattle.arc_table.specs.Fronts.{StartsWith, front_of, seen_by_both}
+use Rattle.arc_table.specs.Fronts.{StartsWith, front_of, list_at, seen_by_both}
 use Rattle.arc_table.specs.Geometry.{IsCell, parties_of}
 use Rattle.arc_table.specs.Items.{Meanings, lines_in}
 use Rattle.arc_table.specs.pact.Logged.{HasPlace}
@@ -38,7 +39,7 @@ use Rattle.trace_run.specs.declared.kept_blocks.KeptBlock.{KeptBlock}
 use Rattle.trace_run.specs.Deeds.{Noted}
 use Rattle.trace_run.specs.Meeting.{AreLast, HasLearned, HasParted, HasSameOwn, IsFed, IsLevel, JoinAll, Joins, MayJoin, PartAll, Waits}
 use Rattle.trace_run.proofs.CellsLeft.{CellsGrow, all-entries-more, entries-more}
-use Rattle.trace_run.proofs.deeds.DeedLemmas.{told-still}
+use Rattle.trace_run.proofs.deeds.DeedLemmas.{others-still, told-still}
 use Rattle.trace_run.proofs.deeds.MakesLemmas.{grown-same}
 
 -- ---- lists that begin alike
@@ -467,6 +468,7 @@ module _ {C : Type 0} (cache : Cache) (q r o : Place (Known C)) (learned : HasLe
     own = x-own;
     starts = λ shard. starts-events (front_of (turn_of cache.config shard) parting.own.seen) (front_of (turn_of cache.config shard) o.own.seen) (x-starts shard);
     mine = refl;
+    ledger = refl;
     only = λ only. record { events = own-seen-more cache.config o.number o.own.mine o.own.seen parting.own.seen x-starts only.events; entries = only.entries };
     same = λ kept stands. grown-same cache.config o parting refl refl refl x-starts x-cells stands.seen stands.cells;
   }
@@ -484,8 +486,9 @@ parted-waits cache lines old new parted n acts noted kept waits = record {
 }
 
 -- and the feeder's has made what it had
-pub parted-fed : {C : Type 0} (cache : Cache) (lines : ℕ → List Line) (old new : Place (Known C)) → HasParted cache lines old new → (openings : List (List ℕ)) (fed since : (shard : ℕ) → List Event) → IsFed cache openings fed since old → IsFed cache openings fed since new
-parted-fed cache lines old new parted openings fed since is = record {
+pub parted-fed : {C : Type 0} (cache : Cache) (lines : ℕ → List Line) (old new : Place (Known C)) → HasParted cache lines old new → (openings : List (List ℕ)) (fed since : (shard : ℕ) → List Event) (acts : List Act) (noted : List Noted) → IsFed cache openings fed since acts noted old
+    → IsFed cache openings fed since acts noted new
+parted-fed cache lines old new parted openings fed since acts noted is = record {
   number = parted.number ∙ is.number;
   alone = parted.alone;
   stands = parted.stands [] is.stands;
@@ -494,7 +497,8 @@ parted-fed cache lines old new parted openings fed since is = record {
       ap (λ (k : ℕ). own_events k (seen_of cache.config shard new)) parted.number
       ∙ (same-own-events cache.config old.number (seen_of cache.config shard old) (seen_of cache.config shard new) (parted.own shard) ∙ is.fed shard below);
   since = λ shard. starts-then (seen_of cache.config shard new) (seen_of cache.config shard old) (since shard) (parted.starts shard) (is.since shard);
-  only = parted.only is.only;
+  told = others-still cache.config acts noted old new (parted.same [] is.stands) is.told;
+  settled = λ i. ap (λ (l : Ledger). list_at i l.picked) parted.ledger ∙ is.settled i;
 }
 
 -- ---- lists by their ends

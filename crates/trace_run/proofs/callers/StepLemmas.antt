@@ -1,196 +1,238 @@
--- One group more of several callers: what their pool counts then, which groups were done, and what stands before the next one.
-use Rattle.std.proofs.Common.{◌≡◌, ℕ, zero, suc, ◌+◌, ◌%◌, ◌^◌, ◌<◌, ◌≤◌, true, false, Option, Result, Ok, Err, List, [], ◌∷◌, ◌++◌, Some, None, length, take, drop, refl, sym, ap, ◌∙◌, subst, arith, append_assoc, length-append, ◌-◌, inl, inr}
-use Rattle.std.specs.Prelude.{count_by, slice_get, slice_range}
-use Rattle.std.specs.List.{AllByRecursion}
+-- One group more of several callers: what their pool counts then, which groups were done, and what stands before the next one, or how the lines end.
+use Rattle.std.proofs.Common.{◌≡◌, ◌⊎◌, ℕ, zero, suc, ◌+◌, ◌%◌, ◌^◌, ◌<◌, ◌≤◌, Bool, true, false, Option, List, [], ◌∷◌, ◌++◌, Some, None, Ok, Err, length, map, take, drop, refl, sym, ap, ◌∙◌, subst, arith, append_assoc, append-nil, length-append, ◌-◌, inl, inr}
+use Rattle.std.specs.Prelude.{count_by, filter, slice_get, slice_range}
+use Rattle.std.specs.Option.{option_map}
 use Rattle.std.proofs.lemmas.Bool.{false≢true}
-use Rattle.std.proofs.lemmas.List.{length-drop, length-take-le}
-use Rattle.std.proofs.lemmas.List.Sums.{count_by-le-length, sum_by-append}
+use Rattle.std.proofs.lemmas.List.{length-drop, length-map, length-take-le, map-append}
+use Rattle.std.proofs.lemmas.List.Elements.{filter-append}
+use Rattle.std.proofs.lemmas.List.Sums.{count_by-le-length, length-filter, sum_by-append}
 use Rattle.std.proofs.lemmas.Option.{get_or_from_slice_get, slice_get_within}
 use Rattle.std.proofs.Math.Seq.{take-add, take-suc}
 use Rattle.blk_ptr.specs.Size.{sector}
 use Rattle.blk_ptr.specs.declared.ptr.Ptr.{Ptr}
-use Rattle.turn_table.specs.Places.{Place}
 use Rattle.arc_table.specs.declared.about.About.{About}
-use Rattle.arc_table.specs.declared.view.Known.{Known}
 use Rattle.arc_core.specs.declared.served.Restored.{Restored}
 use Rattle.arc_table.specs.Cache.{Cache}
 use Rattle.arc_table.specs.Geometry.{parties_of}
+use Rattle.arc_table.specs.Items.{Meanings}
 use Rattle.dbuf_cells.specs.Turns.{OnHeap, PartyPlace}
 use Rattle.arc_core.specs.declared.config.Config.{Config}
-use Rattle.trace_run.specs.Making.{AreNoEntries}
-use Rattle.trace_run.specs.Meeting.{MadeJoined, MayGoOn}
-use Rattle.trace_run.specs.Opened.{AreOpened}
-use Rattle.trace_run.specs.Restores.{restores_in}
 use Rattle.trace_text.specs.declared.op.Op.{Op}
 use Rattle.trace_text.specs.declared.op.Op.TheVariants as ops
 use Rattle.trace_text.specs.declared.reply.Reply.{Reply}
-use Rattle.trace_text.specs.declared.reply.Reply.TheVariants.{Capped}
 use Rattle.trace_text.specs.declared.trace.Trace.{Trace}
 use Rattle.trace_text.specs.Grammar.{IsFormed}
-use Rattle.vdev_io.specs.Calls.{MakesCalls}
 use Rattle.vdev_io.specs.Faults.{last_count, sum_of_counts}
+use Rattle.vdev_io.specs.declared.device.CacheDev.{Ghosts as Devices}
 use Rattle.vdev_io.specs.declared.pool.Pool.{Ghosts}
+use Rattle.trace_run.specs.declared.device.Device.{Device}
 use Rattle.trace_run.specs.declared.groups.Crew.{Crew}
 use Rattle.trace_run.specs.declared.ran.Ending.{Ending}
 use Rattle.trace_run.specs.declared.ran.Ending.TheVariants.{Fork, Full, Sync, Whole}
 use Rattle.trace_run.specs.declared.kept_blocks.KeptBlock.{KeptBlock}
 use Rattle.trace_run.specs.Answers.{is_pool_fault}
-use Rattle.trace_run.specs.Effects.{calls_of, calls_of_all, effect_of}
-use Rattle.trace_run.specs.callers.Group.{HaveWorked, LeavesPool}
-use Rattle.trace_run.specs.callers.Groups.{AreBetween, AreDone, AreOfCallers, DidEndLine, DidLinesAtOnce, HaveCome, HaveCounted, KeepNothing, MaySync, StepsOn, StoodFresh, goes_on}
-use Rattle.trace_run.specs.callers.InOrder.{AreInOrder}
-use Rattle.trace_run.specs.Lines.{caller_of, is_of_caller}
+use Rattle.trace_run.specs.Devices.{lent_in}
+use Rattle.trace_run.specs.Feeds.{IsIdleFeeder, is_feed}
+use Rattle.trace_run.specs.Lines.{caller_of, is_of_caller, replies_where}
+use Rattle.trace_run.specs.Meeting.{MadeJoined, MayGoOn}
+use Rattle.trace_run.specs.Objects.{Line, ops_of, replies_of}
+use Rattle.trace_run.specs.Opened.{AreOpened}
 use Rattle.trace_run.specs.Openings.{Knows, openings_of}
+use Rattle.trace_run.specs.Restores.{restores_in}
+use Rattle.trace_run.specs.RunWork.{RunWork, lines_of_caller, plain_work}
 use Rattle.trace_run.specs.Tally.{AreDeclared}
-use Rattle.trace_run.specs.callers.Together.{BeginsGroup, EndLine, EndsGroup, GroupLines, OfCells, BetweenGroups, WorkAtOnce, WorkInGroups, ends_group, groups_of, over_callers, replies_of_caller, between_groups}
+use Rattle.trace_run.specs.callers.Beside.{WorksBeside}
+use Rattle.trace_run.specs.callers.DeviceForks.{UsedAtOnce, UsedInGroups}
+use Rattle.trace_run.specs.callers.Group.{HaveWorked, LeavesFront, LeavesPool}
+use Rattle.trace_run.specs.callers.Groups.{AreBetween, AreDone, DidEndLine, DidLinesAtOnce, ForkFailed, HaveCome, HaveCounted, HaveReached, KeepNothing, MaySync, StepsOn, StoodFresh, goes_on}
+use Rattle.trace_run.specs.callers.InOrder.{AreInGroup}
+use Rattle.trace_run.specs.callers.Together.{BeginsGroup, EndsGroup, GroupLines, IsFirstPlace, OfCells, BetweenGroups, WorkAtOnce, WorkInGroups, between_groups, ends_group, groups_done, groups_of, over_callers}
+use Rattle.trace_run.specs.callers.WorkLines.{HasFront, calls_of_lines}
 use Rattle.trace_run.proofs.callers.AbsorbLemmas.{over-few}
+use Rattle.trace_run.proofs.callers.BesideLemmas.{fed-idle}
 use Rattle.trace_run.proofs.callers.CallerActLemmas.{line-kind}
+use Rattle.trace_run.proofs.callers.EndLineLemmas.{Halted, IsUnused, Turned, end-halted, end-turned}
+use Rattle.trace_run.proofs.callers.EndedLemmas.{have-come-ended, have-come-stopped, with_end, with_stop}
+use Rattle.trace_run.proofs.callers.FrontLemmas.{front-before, front-same, front-then, pool-front}
 use Rattle.trace_run.proofs.callers.GroupCounts.{over-add, over-same, over-zero}
-use Rattle.trace_run.proofs.callers.GroupRunLemmas.{all-callers, all-declared, come-unwritten, may-resize, where-few}
-use Rattle.trace_run.proofs.callers.EndLineLemmas.{IsUnused, Turned, end-goes-on, end-turned, not-replied}
-use Rattle.trace_run.proofs.callers.GroupsLemmas.{group-ended, group-last, groups-append, have-come-ended, have-come-more, have-restored, have-started, where-append, whole-of}
-use Rattle.trace_run.proofs.RunLemmas.{calls-faults, calls-few, calls-reads, failed-all}
+use Rattle.trace_run.proofs.callers.GroupLists.{EndsWhole, begun-append, group-begun, group-ended, group-last, groups-append, whole-of}
+use Rattle.trace_run.proofs.callers.GroupRunLemmas.{all-callers, all-declared, may-resize}
+use Rattle.trace_run.proofs.callers.GroupsLemmas.{have-restored, have-started}
+use Rattle.trace_run.proofs.callers.LineLists.{AreInside, all-inside, calls-append, calls-few, ends-nobody, lines-failed, lines-long, nobody-callers}
+use Rattle.trace_run.proofs.callers.MoreLemmas.{fed-about, have-come-more, with_lines}
+use Rattle.trace_run.proofs.feeds.FedLemmas.{ops-are, used-more, used-once}
+use Rattle.trace_run.proofs.RunLemmas.{calls-faults, calls-reads}
 
-pub calls-append : (rs ss : List Reply) → calls_of_all (rs ++ ss) ≡ calls_of_all rs ++ calls_of_all ss
-calls-append [] ss = refl
-calls-append (r ∷ rs) ss = ap (λ l. calls_of (effect_of r) ++ l) (calls-append rs ss) ∙ sym (append_assoc (calls_of (effect_of r)) (calls_of_all rs) (calls_of_all ss))
+-- ---- what callers read of the pool
 
--- how often callers asked the pool by their lines, and how often it failed
-abbrev pub asked : List Op → List Reply → ℕ → ℕ
-asked os rs n = length (calls_of_all (replies_of_caller n os rs))
+-- how often a caller asked the pool by its lines, and how often it failed
+abbrev pub asked : List Line → ℕ → ℕ
+asked ls n = length (calls_of_lines (lines_of_caller n ls))
 
-abbrev pub failed : List Op → List Reply → ℕ → ℕ
-failed os rs n = count_by is_pool_fault (replies_of_caller n os rs)
+abbrev pub failed : List Line → ℕ → ℕ
+failed ls n = count_by is_pool_fault (replies_of (lines_of_caller n ls))
 
-asked-few : (os : List Op) (rs : List Reply) (n most : ℕ) → length rs ≤ most → asked os rs n ≤ most
-asked-few os rs n most few = omega (arith, calls-few (replies_of_caller n os rs), where-few (is_of_caller n) os rs, few)
+his-few : (n : ℕ) (ls : List Line) → length (lines_of_caller n ls) ≤ length ls
+his-few n ls = let his : Line → Bool = λ l. is_of_caller n l.op in let count = count_by-le-length his ls in let many = length-filter his ls in omega (arith, count, many)
 
-failed-few : (os : List Op) (rs : List Reply) (n most : ℕ) → length rs ≤ most → failed os rs n ≤ most
-failed-few os rs n most few = omega (arith, count_by-le-length is_pool_fault (replies_of_caller n os rs), where-few (is_of_caller n) os rs, few)
+asked-few : (ls : List Line) (n most : ℕ) → length ls ≤ most → asked ls n ≤ most
+asked-few ls n most few = omega (arith, calls-few (lines_of_caller n ls), his-few n ls, few)
 
-module _ (os qs : List Op) (rs ss : List Reply) (long : length rs ≡ length os) (callers : ℕ) where
-  asked-one : (n : ℕ) → asked (os ++ qs) (rs ++ ss) n ≡ asked os rs n + asked qs ss n
+failed-few : (ls : List Line) (n most : ℕ) → length ls ≤ most → failed ls n ≤ most
+failed-few ls n most few = omega (arith, count_by-le-length is_pool_fault (replies_of (lines_of_caller n ls)), length-map (lines_of_caller n ls) (λ (l : Line). l.reply), his-few n ls, few)
+
+module _ (ls ms : List Line) (callers : ℕ) where
+  asked-one : (n : ℕ) → asked (ls ++ ms) n ≡ asked ls n + asked ms n
   asked-one n =
-      ap (λ (l : List Reply). length (calls_of_all l)) (where-append n os qs rs ss long)
-      ∙ (ap length (calls-append (replies_of_caller n os rs) (replies_of_caller n qs ss)) ∙ length-append (calls_of_all (replies_of_caller n os rs)) (calls_of_all (replies_of_caller n qs ss)))
+      ap (λ (xs : List Line). length (calls_of_lines xs)) (filter-append _ ls ms)
+      ∙ (ap length (calls-append (lines_of_caller n ls) (lines_of_caller n ms)) ∙ length-append (calls_of_lines (lines_of_caller n ls)) (calls_of_lines (lines_of_caller n ms)))
 
-  failed-one : (n : ℕ) → failed (os ++ qs) (rs ++ ss) n ≡ failed os rs n + failed qs ss n
-  failed-one n = ap (count_by is_pool_fault) (where-append n os qs rs ss long) ∙ sum_by-append _ (replies_of_caller n os rs) (replies_of_caller n qs ss)
+  failed-one : (n : ℕ) → failed (ls ++ ms) n ≡ failed ls n + failed ms n
+  failed-one n =
+      ap (λ (xs : List Line). count_by is_pool_fault (replies_of xs)) (filter-append _ ls ms)
+      ∙ (ap (count_by is_pool_fault) (map-append (λ (l : Line). l.reply) (lines_of_caller n ls) (lines_of_caller n ms)) ∙ sum_by-append _ (replies_of (lines_of_caller n ls)) (replies_of (lines_of_caller n ms)))
 
-  pub asked-more : over_callers callers (asked (os ++ qs) (rs ++ ss)) ≡ over_callers callers (asked os rs) + over_callers callers (asked qs ss)
-  asked-more = over-same callers (asked (os ++ qs) (rs ++ ss)) (λ n. asked os rs n + asked qs ss n) (λ n below. asked-one n) ∙ over-add callers (asked os rs) (asked qs ss)
+  pub asked-more : over_callers callers (asked (ls ++ ms)) ≡ over_callers callers (asked ls) + over_callers callers (asked ms)
+  asked-more = over-same callers (asked (ls ++ ms)) (λ n. asked ls n + asked ms n) (λ n below. asked-one n) ∙ over-add callers (asked ls) (asked ms)
 
-  pub failed-more : over_callers callers (failed (os ++ qs) (rs ++ ss)) ≡ over_callers callers (failed os rs) + over_callers callers (failed qs ss)
-  failed-more = over-same callers (failed (os ++ qs) (rs ++ ss)) (λ n. failed os rs n + failed qs ss n) (λ n below. failed-one n) ∙ over-add callers (failed os rs) (failed qs ss)
+  pub failed-more : over_callers callers (failed (ls ++ ms)) ≡ over_callers callers (failed ls) + over_callers callers (failed ms)
+  failed-more = over-same callers (failed (ls ++ ms)) (λ n. failed ls n + failed ms n) (λ n below. failed-one n) ∙ over-add callers (failed ls) (failed ms)
 
 -- ---- the pool
-
-pub leaves-then : {P : Type 0} (pools : Ghosts P) (a b c : P) → LeavesPool pools a b → LeavesPool pools b c → LeavesPool pools a c
-leaves-then pools a b c first second = record { size = second.size ∙ first.size; told = second.told ∙ first.told; faults = omega (arith, first.faults, second.faults) }
 
 pub unused-leaves : {P : Type 0} (pools : Ghosts P) (a b c : P) → IsUnused pools a b → LeavesPool pools b c → LeavesPool pools a c
 unused-leaves pools a b c first second = record { size = second.size ∙ first.size; told = second.told ∙ first.told; faults = omega (arith, first.faults, second.faults) }
 
-pub leaves-same : {P : Type 0} (pools : Ghosts P) (a : P) → LeavesPool pools a a
-leaves-same pools a = record { size = refl; told = refl; faults = omega arith }
-
 -- What callers who worked at once did to the pool. It was the same before their forks were made.
-module _ {C P : Type 0} (cache : Cache) (pools : Ghosts P) (blocks : List Ptr) (qs : List Op) (callers : ℕ) (was from to : P) (own : List (List Reply)) (had : List (List KeptBlock)) (ps : List (Place (Known C))) (kept : List (List KeptBlock)) (xs : List (Place (Known C))) (ss : List Reply)
-    (unused : IsUnused pools was from) (w : HaveWorked cache pools blocks qs callers from to own had ps kept xs) (fed : List Reply) (ordered : AreInOrder qs own fed ss) (some : 0 < callers) where
-  calls-are : (n : ℕ) → n < callers → MakesCalls pools (calls_of_all (replies_of_caller n qs ss)) (w.forks n) (w.done n)
-  calls-are n below =
-      let h = w.each n below in
-      subst (λ (rs : List Reply). MakesCalls pools (calls_of_all rs) (w.forks n) (w.done n)) (sym (ordered.each n h.own h.own_at)) h.worked.calls
-
-  pub at-once : (end : Option EndLine) → WorkAtOnce pools callers (record { ops = qs; replies = ss; end = end }) was to
+module _ {P : Type 0} (cache : Cache) (pools : Ghosts P) (blocks : List Ptr) (callers : ℕ) (was from to : P) (ms : List Line) (had : List (List KeptBlock)) (ps : List PartyPlace) (kept : List (List KeptBlock)) (xs : List PartyPlace)
+    (unused : IsUnused pools was from) (w : HaveWorked cache pools blocks callers from to (λ n. lines_of_caller n ms) had ps kept xs) (some : 0 < callers) where
+  pub at-once : (end : Option Line) → WorkAtOnce pools callers (record { lines = ms; end = end }) was to
   at-once end = record {
     forks = w.forks;
     done = w.done;
     size = λ n below. (w.fresh n below).size ∙ unused.size;
     told = λ n below. (w.fresh n below).told ∙ unused.told;
     fresh = λ n below. ((w.fresh n below).reads, (w.fresh n below).faults);
-    works = λ n below. record { made = calls-are n below };
+    works = λ n below. record { made = (w.each n below).worked.calls };
     reads = w.reads some ∙ ap (λ (k : ℕ). sum_of_counts k (over_callers callers (λ n. pools.reads (w.done n)))) unused.reads;
     faults = w.faults some ∙ ap (λ (k : ℕ). sum_of_counts k (over_callers callers (λ n. pools.faults (w.done n)))) unused.faults;
     keeps = (w.keeps.size ∙ unused.size, w.keeps.told ∙ unused.told);
   }
 
-  module _ (few : length ss ≤ 1000000) (some_callers : callers ≤ 16) where
-    reads-one : (n : ℕ) → n < callers → pools.reads (w.done n) ≡ asked qs ss n
+  module _ (few : length ms ≤ 1000000) (some_callers : callers ≤ 16) where
+    reads-one : (n : ℕ) → n < callers → pools.reads (w.done n) ≡ asked ms n
     reads-one n below =
         let none = (w.fresh n below).reads in
-        let most = asked-few qs ss n 1000000 few in
-        omega (arith, none, calls-reads pools (calls_of_all (replies_of_caller n qs ss)) (w.forks n) (w.done n) (calls-are n below) (omega (arith, none, most)))
+        let most = asked-few ms n 1000000 few in
+        omega (arith, none, calls-reads pools (calls_of_lines (lines_of_caller n ms)) (w.forks n) (w.done n) (w.each n below).worked.calls (omega (arith, none, most)))
 
-    faults-one : (n : ℕ) → n < callers → pools.faults (w.done n) ≡ failed qs ss n
+    faults-one : (n : ℕ) → n < callers → pools.faults (w.done n) ≡ failed ms n
     faults-one n below =
         let none = (w.fresh n below).faults in
-        let most = asked-few qs ss n 1000000 few in
-        omega (arith, none, failed-all (replies_of_caller n qs ss), calls-faults pools (calls_of_all (replies_of_caller n qs ss)) (w.forks n) (w.done n) (calls-are n below) (omega (arith, none, most)))
+        let most = asked-few ms n 1000000 few in
+        omega (arith, none, lines-failed cache.config n (lines_of_caller n ms) (w.each n below).worked.fits, calls-faults pools (calls_of_lines (lines_of_caller n ms)) (w.forks n) (w.done n) (w.each n below).worked.calls (omega (arith, none, most)))
 
-    all-asked : over_callers callers (λ n. pools.reads (w.done n)) ≡ over_callers callers (asked qs ss)
-    all-asked = over-same callers (λ n. pools.reads (w.done n)) (asked qs ss) reads-one
+    all-asked : over_callers callers (λ n. pools.reads (w.done n)) ≡ over_callers callers (asked ms)
+    all-asked = over-same callers (λ n. pools.reads (w.done n)) (asked ms) reads-one
 
-    all-failed : over_callers callers (λ n. pools.faults (w.done n)) ≡ over_callers callers (failed qs ss)
-    all-failed = over-same callers (λ n. pools.faults (w.done n)) (failed qs ss) faults-one
+    all-failed : over_callers callers (λ n. pools.faults (w.done n)) ≡ over_callers callers (failed ms)
+    all-failed = over-same callers (λ n. pools.faults (w.done n)) (failed ms) faults-one
 
-    few-asked : over_callers callers (asked qs ss) ≤ 16000000
-    few-asked = omega (arith, over-few callers (asked qs ss) 1000000 (λ n below. asked-few qs ss n 1000000 few), some_callers)
+    few-asked : over_callers callers (asked ms) ≤ 16000000
+    few-asked = omega (arith, over-few callers (asked ms) 1000000 (λ n below. asked-few ms n 1000000 few), some_callers)
 
-    few-failed : over_callers callers (failed qs ss) ≤ 16000000
-    few-failed = omega (arith, over-few callers (failed qs ss) 1000000 (λ n below. failed-few qs ss n 1000000 few), some_callers)
+    few-failed : over_callers callers (failed ms) ≤ 16000000
+    few-failed = omega (arith, over-few callers (failed ms) 1000000 (λ n below. failed-few ms n 1000000 few), some_callers)
 
-    pub group-reads : pools.reads was + 16000000 ≤ last_count → pools.reads to ≡ pools.reads was + over_callers callers (asked qs ss)
+    pub group-reads : pools.reads was + 16000000 ≤ last_count → pools.reads to ≡ pools.reads was + over_callers callers (asked ms)
     group-reads room = let same = unused.reads in omega (arith, same, all-asked, few-asked, room, w.reads some)
 
-    pub group-faults : pools.faults was + 16000000 ≤ last_count → pools.faults to ≡ pools.faults was + over_callers callers (failed qs ss)
+    pub group-faults : pools.faults was + 16000000 ≤ last_count → pools.faults to ≡ pools.faults was + over_callers callers (failed ms)
     group-faults room = let same = unused.faults in omega (arith, same, all-failed, few-failed, room, w.faults some)
 
-module _ {P : Type 0} (pools : Ghosts P) (callers : ℕ) (os qs : List Op) (rs ss : List Reply) (long : length rs ≡ length os) (before was to : P) (few : length rs ≤ 1000000) (some_callers : callers ≤ 16) (so_far : HaveCounted pools callers os rs before was) where
-  most-asked : over_callers callers (asked os rs) ≤ 16000000
-  most-asked = omega (arith, over-few callers (asked os rs) 1000000 (λ n below. asked-few os rs n 1000000 few), some_callers)
+module _ {P : Type 0} (pools : Ghosts P) (place callers : ℕ) (ls ms : List Line) (before was to : P) (few : length ls ≤ 1000000) (some_callers : callers ≤ 16) (so_far : HaveCounted pools place callers ls before was) where
+  most-asked : over_callers callers (asked ls) ≤ 16000000
+  most-asked = omega (arith, over-few callers (asked ls) 1000000 (λ n below. asked-few ls n 1000000 few), some_callers)
 
-  most-failed : over_callers callers (failed os rs) ≤ 16000000
-  most-failed = omega (arith, over-few callers (failed os rs) 1000000 (λ n below. failed-few os rs n 1000000 few), some_callers)
+  most-failed : over_callers callers (failed ls) ≤ 16000000
+  most-failed = omega (arith, over-few callers (failed ls) 1000000 (λ n below. failed-few ls n 1000000 few), some_callers)
 
-  pub counted-more : LeavesPool pools was to
-      → (pools.reads was + 16000000 ≤ last_count → pools.reads to ≡ pools.reads was + over_callers callers (asked qs ss))
-      → (pools.faults was + 16000000 ≤ last_count → pools.faults to ≡ pools.faults was + over_callers callers (failed qs ss)) → HaveCounted pools callers (os ++ qs) (rs ++ ss) before to
+  pub counted-more : LeavesFront pools place was to
+      → (pools.reads was + 16000000 ≤ last_count → pools.reads to ≡ pools.reads was + over_callers callers (asked ms))
+      → (pools.faults was + 16000000 ≤ last_count → pools.faults to ≡ pools.faults was + over_callers callers (failed ms)) → HaveCounted pools place callers (ls ++ ms) before to
   counted-more leaves reads faults = record {
-    keeps = leaves-then pools before was to so_far.keeps leaves;
+    keeps = front-then pools place before was to so_far.keeps leaves;
     reads = λ room.
         let first = so_far.reads room in
         let small = most-asked in
-        omega (arith, first, asked-more os qs rs ss long callers, reads (omega (arith, first, small, room)));
+        omega (arith, first, asked-more ls ms callers, reads (omega (arith, first, small, room)));
     faults = λ room.
         let first = so_far.faults room in
         let small = most-failed in
-        omega (arith, first, failed-more os qs rs ss long callers, faults (omega (arith, first, small, room)));
+        omega (arith, first, failed-more ls ms callers, faults (omega (arith, first, small, room)));
   }
 
 -- ---- groups that were done
 
-in-groups-more : {P : Type 0} (pools : Ghosts P) (config : Config) (Cells : OfCells) (gs : List GroupLines) (last : GroupLines) (a b c : BetweenGroups P) (worked : P) → WorkInGroups pools config Cells gs a b → WorkAtOnce pools config.callers last b.pool worked
-    → EndsGroup pools config Cells last.end (between_groups worked b.group b.next) c → WorkInGroups pools config Cells (gs ++ last ∷ []) a c
-in-groups-more pools config Cells [] last a b c worked done once ends =
-    (worked, c, subst (λ x. WorkAtOnce pools config.callers last x.pool worked) done once, subst (λ x. EndsGroup pools config Cells last.end (between_groups worked x.group x.next) c) done ends, refl)
-in-groups-more pools config Cells (g ∷ gs) last a b c worked done once ends = (done.0, done.1, done.2, done.3, in-groups-more pools config Cells gs last done.1 b c worked done.4 once ends)
+-- the lines behind these groups, where these stand before them
+abbrev after_groups : (before : List Line) → List GroupLines → List Line
+after_groups before [] = before
+after_groups before (g ∷ gs) = after_groups (lines_with_end (before ++ g.lines) g.end) gs
 
--- ---- between two groups
+first-more : (before : List Line) (l : Line) (gs : List GroupLines) → after_groups before (with_first l gs) ≡ after_groups (before ++ l ∷ []) gs
+first-more before l [] = refl
+first-more before l (g ∷ gs) = ap (λ (ls : List Line). after_groups (lines_with_end ls g.end) gs) (sym (append_assoc before (l ∷ []) g.lines))
 
-pub between-none : {C P : Type 0} (cache : Cache) (restored : List Restored) (pools : Ghosts P) (trace : Trace) (start : BetweenGroups P) (crew : Crew C) → HaveCome cache restored (pools.size start.pool) (pools.told start.pool) trace.blocks [] [] crew
-    → Knows (openings_of trace) crew.feeder → MaySync pools 0 start → AreBetween cache restored pools trace start start [] crew
-between-none cache restored pools trace start crew come knows may = record {
-  few = omega arith;
-  begins = λ more. tt;
-  come = come;
-  knows = knows;
-  counted = record {
-    keeps = leaves-same pools start.pool;
-    reads = λ room. let none = over-zero cache.config.callers (asked [] []) (λ n below. refl) in omega (arith, none);
-    faults = λ room. let none = over-zero cache.config.callers (failed [] []) (λ n below. refl) in omega (arith, none);
+after-groups : (before ls : List Line) → after_groups before (groups_of ls) ≡ before ++ ls
+after-groups before [] = sym (append-nil before)
+after-groups before (l ∷ ls) = elim (cases_true (ends_group l.op)) [
+  | inl ends ↦
+      ap (after_groups before) (λ i. if ends i then (record { lines = []; end = Some l } ∷ groups_of ls) else with_first l (groups_of ls))
+      ∙ (after-groups ((before ++ []) ++ l ∷ []) ls ∙ (ap (λ (x : List Line). (x ++ l ∷ []) ++ ls) (append-nil before) ∙ append_assoc before (l ∷ []) ls))
+  | inr inside ↦
+      ap (after_groups before) (λ i. if inside i then (record { lines = []; end = Some l } ∷ groups_of ls) else with_first l (groups_of ls))
+      ∙ (first-more before l (groups_of ls) ∙ (after-groups (before ++ l ∷ []) ls ∙ append_assoc before (l ∷ []) ls))
+]
+
+in-groups-more : {P : Type 0} (pools : Ghosts P) (config : Config) (Cells : OfCells) (before : List Line) (gs : List GroupLines) (last : GroupLines) (a b c : BetweenGroups P) (worked : P) → WorkInGroups pools config Cells before gs a b
+    → WorkAtOnce pools config.callers last b.pool worked → EndsGroup pools config Cells (after_groups before gs ++ last.lines) last.end (between_groups worked b.group b.next) c → WorkInGroups pools config Cells before (gs ++ last ∷ []) a c
+in-groups-more pools config Cells before [] last a b c worked done once ends =
+    (worked, c, subst (λ x. WorkAtOnce pools config.callers last x.pool worked) done once, subst (λ x. EndsGroup pools config Cells (before ++ last.lines) last.end (between_groups worked x.group x.next) c) done ends, refl)
+in-groups-more pools config Cells before (g ∷ gs) last a b c worked done once ends =
+    (done.0, done.1, done.2, done.3, in-groups-more pools config Cells (lines_with_end (before ++ g.lines) g.end) gs last done.1 b c worked done.4 once ends)
+
+-- what callers and feeder are told to have done to cells
+told-of : (cache : Cache) (restored : List Restored) (len : ℕ) (image : Option (List ℕ)) (place : ℕ) (blocks : List Ptr) (os : List Op) (rs : List Reply) (w : RunWork) (crew : Crew OnHeap) → HaveCome cache restored len image place blocks os rs w crew → w.stopped ≡ no_work
+    → AreToldOf cache w.lines crew
+told-of cache restored len image place blocks os rs w crew come goes_on = record {
+  number = come.feeder.number;
+  callers = λ n below. let c = come.each n below in (c.party, c.at.party_at, c.come.waits.number, λ i range. c.come.waits.told.entries i range);
+  feeder = λ i range. come.feeder.told.entries i range
+      ∙ ap (lines_of_cell i) (ap (λ (x : Work). noted_of_work (lines_of_feeder w.lines) ++ x.noted) goes_on ∙ append-nil (noted_of_work (lines_of_feeder w.lines)));
+}
+
+-- ---- before the first group
+
+pub between-none : {P D : Type 0} (cache : Cache) (restored : List Restored) (pools : Ghosts P) (devices : Devices D) (trace : Trace) (start : BetweenGroups P) (was : Option D) (crew : Crew OnHeap)
+    → HaveCome cache restored (pools.size start.pool) (pools.told start.pool) start.next trace.blocks [] [] (plain_work [] []) crew → Knows (openings_of trace) crew.feeder → IsFirstPlace (pools.size start.pool) trace.blocks start.next → MaySync pools 0 start
+    → AreBetween cache restored pools devices trace start start was was [] (plain_work [] []) crew
+between-none cache restored pools devices trace start was crew come knows place may = record {
+  reached = record {
+    few = omega arith;
+    come = come;
+    knows = knows;
+    first = place;
+    behind = omega arith;
+    counted = record {
+      keeps = front-same pools start.next start.pool;
+      reads = λ room. let none = over-zero cache.config.callers (asked []) (λ n below. refl) in omega (arith, none);
+      faults = λ room. let none = over-zero cache.config.callers (failed []) (λ n below. refl) in omega (arith, none);
+    };
+    groups = refl;
+    used = (refl, refl);
   };
-  groups = refl;
+  begins = λ more. tt;
+  goes_on = refl;
   may_sync = may;
 }
 
@@ -198,76 +240,133 @@ between-none cache restored pools trace start crew come knows may = record {
 pub first-may : {P : Type 0} (pools : Ghosts P) (pool : P) (place len : ℕ) → place % sector ≡ 0 → place ≤ len → len ≡ pools.size pool → MaySync pools 0 (between_groups pool 1 place)
 first-may pools pool place len aligned inside is = record { born = omega arith; few = omega arith; aligned = aligned; inside = subst (λ (n : ℕ). place ≤ n) is inside }
 
--- before the first one, behind the restores
-pub between-begun : {C P : Type 0} (cache : Cache) (restored : List Restored) (pools : Ghosts P) (trace : Trace) (start : BetweenGroups P) (whole : List (Place (Known C))) (old new : Crew C) → AreOpened cache whole
+-- behind the restores
+pub between-begun : {P D : Type 0} (cache : Cache) (restored : List Restored) (pools : Ghosts P) (devices : Devices D) (trace : Trace) (start : BetweenGroups P) (was : Option D) (whole : List PartyPlace) (old new : Crew OnHeap) → AreOpened cache whole
     → whole ≡ old.parties.items ++ old.feeder ∷ [] → KeepNothing old.kept.items → length old.kept.items ≡ length old.parties.items
-    → MadeJoined cache (restores_in cache.config restored) old.feeder old.parties.items new.feeder new.parties.items → new.kept.items ≡ old.kept.items → Knows (openings_of trace) old.feeder → MaySync pools 0 start
-    → AreBetween cache restored pools trace start start [] new
-between-begun cache restored pools trace start whole old new opened is none many made kept knows may =
-    between-none cache restored pools trace start new
-    (have-restored cache restored (pools.size start.pool) (pools.told start.pool) trace.blocks old new whole opened is (have-started cache whole old opened is none many (pools.size start.pool) (pools.told start.pool) trace.blocks) made kept)
-    (ap (λ (a : About). a.openings) made.about ∙ knows) may
+    → MadeJoined cache (restores_in cache.config restored) old.feeder old.parties.items new.feeder new.parties.items → new.kept.items ≡ old.kept.items → Knows (openings_of trace) old.feeder → IsFirstPlace (pools.size start.pool) trace.blocks start.next → MaySync pools 0 start
+    → AreBetween cache restored pools devices trace start start was was [] (plain_work [] []) new
+between-begun cache restored pools devices trace start was whole old new opened is none many made kept knows place may =
+    between-none cache restored pools devices trace start was new
+    (have-restored cache restored (pools.size start.pool) (pools.told start.pool) start.next trace.blocks old new whole opened is
+    (have-started cache whole old opened is none many (pools.size start.pool) (pools.told start.pool) start.next trace.blocks) made kept)
+    (ap (λ (a : About). a.openings) made.about ∙ knows) place may
 
-module _ {P : Type 0} (cache : Cache) (restored : List Restored) (pools : Ghosts P) (trace : Trace) (start was : BetweenGroups P) (from to : P) (rs ss : List Reply) (qs : List Op) (old new : Crew OnHeap) (few : length trace.ops ≤ 1000000) (some_callers : (0 < cache.config.callers) × (cache.config.callers ≤ 16))
-    (between : AreBetween cache restored pools trace start was rs old) (more : length rs < length trace.ops) (unused : IsUnused pools was.pool from) (did : DidLinesAtOnce cache pools trace.blocks qs from to old new ss) (same_feeder : new.feeder ≡ old.feeder) (leaves : LeavesPool pools from to)
-    (own : AreOfCallers cache.config.callers qs) (inside : length rs + length qs ≤ length trace.ops) (here : take (length qs) (drop (length rs) trace.ops) ≡ qs) where
+-- ---- one group
+
+module _ {P D : Type 0} (m : Meanings OnHeap) (cache : Cache) (restored : List Restored) (pools : Ghosts P) (devices : Devices D) (trace : Trace) (start was : BetweenGroups P) (begun : Option D) (from to : P) (a b : Device D) (rs ss : List Reply) (qs : List Op)
+    (w : RunWork) (old new : Crew OnHeap) (few : length trace.ops ≤ 1000000) (some_callers : (0 < cache.config.callers) × (cache.config.callers ≤ 16)) (between : AreBetween cache restored pools devices trace start was begun (lent_in a) rs w old)
+    (more : length rs < length trace.ops) (unused : IsUnused pools was.pool from) (did : DidLinesAtOnce m cache pools devices trace.blocks qs from to a b old new ss) (again : IsIdleFeeder cache new.feeder) (leaves : LeavesPool pools from to)
+    (own : AreInGroup cache.config.callers qs) (inside : length rs + length qs ≤ length trace.ops) (here : take (length qs) (drop (length rs) trace.ops) ≡ qs) where
   abbrev callers : ℕ
   callers = cache.config.callers
 
-  abbrev Cells : OfCells
-  Cells = StoodFresh (openings_of trace) cache.config.cells
+  abbrev Cells : PartyPlace → OfCells
+  Cells p = StoodSo (openings_of trace) cache.config p
 
   abbrev os : List Op
   os = take (length rs) trace.ops
 
-  long : length rs ≡ length os
-  long = between.come.long
+  abbrev ms : List Line
+  ms = did.lines
 
-  same-length : length ss ≡ length qs
-  same-length = did.ordered.all
+  abbrev reached : HaveReached cache restored pools devices trace start was begun (lent_in a) Whole rs w old
+  reached = between.reached
 
-  both-long : length (rs ++ ss) ≡ length rs + length qs
-  both-long = omega (arith, length-append rs ss, same-length)
+  long : length w.lines ≡ length rs
+  long = let l = lines-long os rs w.lines reached.come.did.lines in l.1 ∙ sym l.0
 
-  taken : take (length (rs ++ ss)) trace.ops ≡ os ++ qs
+  same-these : (length ss ≡ length qs) × (length ms ≡ length qs)
+  same-these = lines-long qs ss ms did.are
+
+  pub both-long : length (rs ++ ss) ≡ length rs + length qs
+  both-long = omega (arith, length-append rs ss, same-these.0)
+
+  pub taken : take (length (rs ++ ss)) trace.ops ≡ os ++ qs
   taken = ap (λ (k : ℕ). take k trace.ops) both-long ∙ (take-add (length rs) (length qs) trace.ops ∙ ap (λ (l : List Op). os ++ l) here)
 
-  worked : HaveWorked cache pools trace.blocks qs callers from to did.own old.kept.items old.parties.items new.kept.items new.parties.items
-  worked = subst (λ (k : ℕ). HaveWorked cache pools trace.blocks qs k from to did.own old.kept.items old.parties.items new.kept.items new.parties.items) between.come.parties did.worked
+  whole-so-far : EndsWhole (ops_of w.lines)
+  whole-so-far = subst EndsWhole (sym (ops-are os rs w.lines reached.come.did.lines).0) (whole-of trace.ops (length rs) reached.few (between.begins more))
 
-  few-so-far : length rs ≤ 1000000
-  few-so-far = omega (arith, more, few)
+  inside-these : AreInside ms
+  inside-these = all-inside callers qs ss ms own did.are
 
-  few-here : length ss ≤ 1000000
-  few-here = omega (arith, same-length, inside, few)
+  worked : HaveWorked cache pools trace.blocks callers from to (λ n. lines_of_caller n ms) old.kept.items old.parties.items new.kept.items new.parties.items
+  worked = subst (λ (k : ℕ). HaveWorked cache pools trace.blocks k from to (λ n. lines_of_caller n ms) old.kept.items old.parties.items new.kept.items new.parties.items) reached.come.parties did.worked
 
-  once : (end : Option EndLine) → WorkAtOnce pools callers (record { ops = qs; replies = ss; end = end }) was.pool to
-  once = at-once cache pools trace.blocks qs callers was.pool from to did.own old.kept.items old.parties.items new.kept.items new.parties.items ss unused worked did.fed did.ordered some_callers.0
+  few-so-far : length w.lines ≤ 1000000
+  few-so-far = omega (arith, more, few, long)
 
-  now-leaves : LeavesPool pools was.pool to
+  few-here : length ms ≤ 1000000
+  few-here = omega (arith, same-these.1, inside, few)
+
+  once : (end : Option Line) → WorkAtOnce pools callers (record { lines = ms; end = end }) was.pool to
+  once = at-once cache pools trace.blocks callers was.pool from to ms old.kept.items old.parties.items new.kept.items new.parties.items unused worked some_callers.0
+
+  pub now-leaves : LeavesPool pools was.pool to
   now-leaves = unused-leaves pools was.pool from to unused leaves
 
-  counted-lines : HaveCounted pools callers (os ++ qs) (rs ++ ss) start.pool to
-  counted-lines = counted-more pools callers os qs rs ss long start.pool was.pool to few-so-far some_callers.1 between.counted now-leaves
-      (group-reads cache pools trace.blocks qs callers was.pool from to did.own old.kept.items old.parties.items new.kept.items new.parties.items ss unused worked did.fed did.ordered some_callers.0 few-here some_callers.1)
-      (group-faults cache pools trace.blocks qs callers was.pool from to did.own old.kept.items old.parties.items new.kept.items new.parties.items ss unused worked did.fed did.ordered some_callers.0 few-here some_callers.1)
+  from-front : HasFront start.next (pools.told start.pool) (pools.told from)
+  from-front = ap (option_map (take start.next)) unused.told ∙ reached.counted.keeps.told
 
-  come-lines : HaveCome cache restored (pools.size start.pool) (pools.told start.pool) trace.blocks (os ++ qs) (rs ++ ss) new
-  come-lines = have-come-more cache restored pools (pools.size start.pool) (pools.told start.pool) trace.blocks os qs rs ss from to old new between.come did same_feeder own (unused.size ∙ between.counted.keeps.size) (unused.told ∙ between.counted.keeps.told)
+  -- the work by then
+  abbrev done : RunWork
+  done = with_lines w ms did.beside.feeds
 
-  -- the trace ends with these lines
-  pub between-last : length rs + length qs ≡ length trace.ops → AreBetween cache restored pools trace start (between_groups to was.group was.next) (rs ++ ss) new
+  counted-lines : HaveCounted pools start.next callers done.lines start.pool to
+  counted-lines = counted-more pools start.next callers w.lines ms start.pool was.pool to few-so-far some_callers.1 reached.counted (pool-front pools start.next was.pool to now-leaves)
+      (group-reads cache pools trace.blocks callers was.pool from to ms old.kept.items old.parties.items new.kept.items new.parties.items unused worked some_callers.0 few-here some_callers.1)
+      (group-faults cache pools trace.blocks callers was.pool from to ms old.kept.items old.parties.items new.kept.items new.parties.items unused worked some_callers.0 few-here some_callers.1)
+
+  pub come-lines : HaveCome cache restored (pools.size start.pool) (pools.told start.pool) start.next trace.blocks (os ++ qs) (rs ++ ss) done new
+  come-lines =
+      have-come-more m cache restored pools devices (pools.size start.pool) (pools.told start.pool) start.next trace.blocks os qs rs ss w from to a b old new reached.come between.goes_on did own again reached.first
+      (unused.size ∙ reached.counted.keeps.size) from-front
+
+  used-here : UsedAtOnce devices trace.blocks callers ms did.beside.feeds (lent_in a) (lent_in b)
+  used-here =
+      let are = ops-are qs ss ms did.are in
+      used-once m devices cache trace.blocks callers ms a b old.feeder new.feeder
+      (subst (λ (x : List Op × List Reply × ℕ). WorksBeside m devices cache trace.blocks x.0 x.2 (λ n. lines_of_caller n ms) (replies_where is_feed x.0 x.1) a b old.feeder new.feeder) (λ i. (sym are.0 i, sym are.1 i, reached.come.parties i)) did.beside)
+
+  used-lines : (last : GroupLines) → last.lines ≡ ms → UsedInGroups devices trace.blocks callers (groups_of w.lines ++ last ∷ []) done.feeds begun (lent_in b)
+  used-lines last is = used-more devices trace.blocks callers (groups_of w.lines) last w.feeds did.beside.feeds begun (lent_in a) (lent_in b) reached.used (subst (λ (ls : List Line). UsedAtOnce devices trace.blocks callers ls did.beside.feeds (lent_in a) (lent_in b)) (sym is) used-here)
+
+  pub knows-new : Knows (openings_of trace) new.feeder
+  knows-new = same ∙ reached.knows
+    where
+      same : new.feeder.own.about.openings ≡ old.feeder.own.about.openings
+      same = ap (λ (x : About). x.openings) (fed-about m devices cache trace.blocks qs (length old.parties.items) (λ n. lines_of_caller n did.lines) ss a b old.feeder new.feeder did.beside (fed-idle cache old.feeder.own.about.openings _ _ _ _ old.feeder reached.come.feeder) again)
+
+  -- it has seen of each cell what it had
+  seen-grown : (i : ℕ) → IsCell cache.config i → StartsWith (front_of i new.feeder.own.seen) (front_of i old.feeder.own.seen)
+  seen-grown = (fed-beside m devices cache trace.blocks qs (length old.parties.items) (λ n. lines_of_caller n did.lines) ss a b old.feeder new.feeder did.beside (fed-idle cache old.feeder.own.about.openings _ _ _ _ old.feeder reached.come.feeder) again).same.keeps.fronts
+
+  groups-so-far : WorkInGroups pools cache.config (Cells new.feeder) [] (groups_of w.lines) start was
+  groups-so-far = in-groups-as pools cache.config (Cells old.feeder) (Cells new.feeder) (stood-more (openings_of trace) cache.config old.feeder new.feeder seen-grown) [] (groups_of w.lines) start was reached.groups
+
+  groups-behind : (last : Crew OnHeap) → ((i : ℕ) → IsCell cache.config i → StartsWith (front_of i last.feeder.own.seen) (front_of i new.feeder.own.seen)) → WorkInGroups pools cache.config (Cells last.feeder) [] (groups_of w.lines) start was
+  groups-behind last grown = in-groups-as pools cache.config (Cells new.feeder) (Cells last.feeder) (stood-more (openings_of trace) cache.config new.feeder last.feeder grown) [] (groups_of w.lines) start was groups-so-far
+
+  -- ---- the trace ends with these lines
+
+  abbrev alone-group : GroupLines
+  alone-group = record { lines = ms; end = None }
+
+  pub between-last : length rs + length qs ≡ length trace.ops → AreBetween cache restored pools devices trace start (between_groups to was.group was.next) begun (lent_in b) (rs ++ ss) done new
   between-last all = record {
-    few = omega (arith, both-long, all);
+    reached = record {
+      few = omega (arith, both-long, all);
+      come = subst (λ (l : List Op). HaveCome cache restored (pools.size start.pool) (pools.told start.pool) start.next trace.blocks l (rs ++ ss) done new) (sym taken) come-lines;
+      knows = knows-new;
+      first = reached.first;
+      behind = reached.behind;
+      counted = counted-lines;
+      groups = subst (λ (gs : List GroupLines). WorkInGroups pools cache.config (Cells new.feeder) [] gs start (between_groups to was.group was.next)) (sym groups-are)
+          (in-groups-more pools cache.config (Cells new.feeder) [] (groups_of w.lines) alone-group start was (between_groups to was.group was.next) to groups-so-far (once None) refl);
+      used = subst (λ (gs : List GroupLines). UsedInGroups devices trace.blocks callers gs done.feeds begun (lent_in b)) (sym groups-are) (used-lines alone-group refl);
+    };
     begins = λ less. absurd (omega (arith, both-long, all, less));
-    come = subst (λ (l : List Op). HaveCome cache restored (pools.size start.pool) (pools.told start.pool) trace.blocks l (rs ++ ss) new) (sym taken) come-lines;
-    knows = ap (λ (p : PartyPlace). p.own.about.openings) same_feeder ∙ between.knows;
-    counted = subst (λ (l : List Op). HaveCounted pools callers l (rs ++ ss) start.pool to) (sym taken) counted-lines;
-    groups = subst (λ (gs : List GroupLines). WorkInGroups pools cache.config Cells gs start (between_groups to was.group was.next))
-        (sym (ap (λ (l : List Op). groups_of l (rs ++ ss)) taken
-        ∙ (groups-append os qs rs ss long (whole-of trace.ops (length rs) between.few (between.begins more))
-        ∙ ap (λ (gs : List GroupLines). groups_of os rs ++ gs) (group-last callers qs ss same-length own (omega (arith, more, all))))))
-        (in-groups-more pools cache.config Cells (groups_of os rs) (record { ops = qs; replies = ss; end = None }) start was (between_groups to was.group was.next) to between.groups (once None) refl);
+    goes_on = refl;
     may_sync = record {
       born = between.may_sync.born;
       few = omega (arith, between.may_sync.few, both-long);
@@ -275,10 +374,42 @@ module _ {P : Type 0} (cache : Cache) (restored : List Restored) (pools : Ghosts
       inside = omega (arith, between.may_sync.inside, now-leaves.size);
     };
   }
+    where
+      groups-are : groups_of (w.lines ++ ms) ≡ groups_of w.lines ++ alone-group ∷ []
+      groups-are = groups-append w.lines ms whole-so-far ∙ ap (λ (gs : List GroupLines). groups_of w.lines ++ gs) (group-last ms inside-these (omega (arith, more, all, same-these.1)))
 
-  -- a line ends them
-  module _ (op : Op) (reply : Reply) (last : Crew OnHeap) (fin : BetweenGroups P) (at : slice_get trace.ops (length rs + length qs) ≡ Some op) (ends : ends_group op ≡ true)
-      (ended : DidEndLine cache pools op (between_groups to was.group was.next) fin new last (Ok reply)) where
+  -- ---- a sync stopped behind them
+
+  pub done-halted : (ending : Ending) (last : Crew OnHeap) (fin : P) (h : Halted cache pools trace (rs ++ ss) done ending (between_groups to was.group was.next) fin new last)
+      → AreDone cache restored pools devices trace start fin begun (lent_in b) ending (rs ++ ss) (with_stop done h.work) last
+  done-halted ending last fin h = record {
+    now = between_groups to was.group was.next;
+    reached = record {
+      few = omega (arith, both-long, inside);
+      come = subst (λ (l : List Op). HaveCome cache restored (pools.size start.pool) (pools.told start.pool) start.next trace.blocks l (rs ++ ss) (with_stop done h.work) last) (sym taken)
+          (have-come-stopped pools devices cache restored (pools.size start.pool) (pools.told start.pool) start.next trace.blocks (os ++ qs) (rs ++ ss) done h.more new last come-lines refl h.tick h.work h.so);
+      knows = ap (λ (x : About). x.openings) h.so.made.about ∙ knows-new;
+      first = reached.first;
+      behind = reached.behind;
+      counted = counted-lines;
+      groups = subst (λ (gs : List GroupLines). WorkInGroups pools cache.config (Cells last.feeder) [] gs start (between_groups to was.group was.next)) (sym groups-are)
+          (in-groups-more pools cache.config (Cells last.feeder) [] (groups_of w.lines) alone-group start was (between_groups to was.group was.next) to (groups-behind last h.so.made.cells) (once None) refl);
+      used = subst (λ (gs : List GroupLines). UsedInGroups devices trace.blocks callers gs done.feeds begun (lent_in b)) (sym groups-are) (used-lines alone-group refl);
+    };
+    ended = h.ended;
+    last = λ t stopped shard below. subst (λ (tick : ℕ). IsCutLast cache.config restored trace.blocks shard tick (with_stop done h.work) (seen_of cache.config shard last.feeder)) (sym (h.ticks t stopped))
+        (stopped-cut pools devices cache restored (pools.size start.pool) (pools.told start.pool) start.next trace.blocks (os ++ qs) (rs ++ ss) done h.more new last come-lines refl h.tick h.work h.so shard below);
+  }
+    where
+      groups-are : groups_done ending (w.lines ++ ms) ≡ groups_of w.lines ++ alone-group ∷ []
+      groups-are = h.begun (w.lines ++ ms) ∙ (begun-append w.lines ms whole-so-far ∙ ap (λ (gs : List GroupLines). groups_of w.lines ++ gs) (group-begun ms inside-these))
+
+  -- ---- a line ends them
+
+  module _ (op : Op) (reply : Reply) (last : Crew OnHeap) (fin : BetweenGroups P) (at : slice_get trace.ops (length rs + length qs) ≡ Some op) (turn : Turned cache pools (openings_of trace) done.lines op reply (between_groups to was.group was.next) fin new last) where
+    abbrev l : Line
+    l = record { op = op; reply = reply; work = turn.work }
+
     abbrev all-replies : List Reply
     all-replies = (rs ++ ss) ++ reply ∷ []
 
@@ -294,58 +425,81 @@ module _ {P : Type 0} (cache : Cache) (restored : List Restored) (pools : Ghosts
         ∙ (take-suc trace.ops (length rs + length qs) op room
         ∙ (λ i. (sym (ap (λ (k : ℕ). take k trace.ops) both-long) ∙ taken) i ++ get_or_from_slice_get trace.ops (length rs + length qs) op op at i ∷ []))
 
-    knows-new : Knows (openings_of trace) new.feeder
-    knows-new = ap (λ (p : PartyPlace). p.own.about.openings) same_feeder ∙ between.knows
+    abbrev all-done : RunWork
+    all-done = with_end done l
 
-    turn : Turned cache pools (openings_of trace) op reply (between_groups to was.group was.next) fin new last
-    turn = end-turned cache pools op (between_groups to was.group was.next) fin new last (come-unwritten cache restored (pools.size start.pool) (pools.told start.pool) trace.blocks (os ++ qs) (rs ++ ss) new come-lines) (openings_of trace) reply knows-new ended
+    not-read : (n : ℕ) → lines_of_caller n (l ∷ []) ≡ []
+    not-read n = let his : is_of_caller n op ≡ false = nobody-callers n op (ends-nobody op turn.so.ends).0 in rw his refl
 
-    come-ended-lines : HaveCome cache restored (pools.size start.pool) (pools.told start.pool) trace.blocks ((os ++ qs) ++ op ∷ []) all-replies last
-    come-ended-lines = have-come-ended cache restored (pools.size start.pool) (pools.told start.pool) trace.blocks (os ++ qs) (rs ++ ss) op reply turn.more new last come-lines turn.so
-
-    none-where : (n : ℕ) → replies_of_caller n (op ∷ []) (reply ∷ []) ≡ []
-    none-where n = not-replied n op reply turn.so.nobody
-
-    counted-end : HaveCounted pools callers ((os ++ qs) ++ op ∷ []) all-replies start.pool fin.pool
+    counted-end : HaveCounted pools start.next callers (done.lines ++ l ∷ []) start.pool fin.pool
     counted-end =
-        counted-more pools callers (os ++ qs) (op ∷ []) (rs ++ ss) (reply ∷ []) come-lines.long start.pool to fin.pool (omega (arith, both-long, room, few)) some_callers.1 counted-lines (unused-leaves pools to fin.pool fin.pool turn.unused (leaves-same pools fin.pool))
-        (λ full. let none = over-zero callers (asked (op ∷ []) (reply ∷ [])) (λ n below. ap (λ (l : List Reply). length (calls_of_all l)) (none-where n)) in let same = turn.unused.reads in omega (arith, none, same))
-        (λ full. let none = over-zero callers (failed (op ∷ []) (reply ∷ [])) (λ n below. ap (count_by is_pool_fault) (none-where n)) in let same = turn.unused.faults in omega (arith, none, same))
+        counted-more pools start.next callers done.lines (l ∷ []) start.pool to fin.pool (omega (arith, length-append w.lines ms, long, same-these.1, room, few)) some_callers.1 counted-lines
+        (front-before pools start.next was.next to fin.pool reached.behind turn.leaves)
+        (λ full. let none = over-zero callers (asked (l ∷ [])) (λ n below. ap (λ (ls : List Line). length (calls_of_lines ls)) (not-read n)) in let same = turn.reads in omega (arith, none, same))
+        (λ full. let none = over-zero callers (failed (l ∷ [])) (λ n below. ap (λ (ls : List Line). count_by is_pool_fault (replies_of ls)) (not-read n)) in let same = turn.faults in omega (arith, none, same))
 
-    pub between-ended : AreBetween cache restored pools trace start fin all-replies last
+    abbrev ended-group : GroupLines
+    ended-group = record { lines = ms; end = Some l }
+
+    groups-ended : groups_of ((w.lines ++ ms) ++ l ∷ []) ≡ groups_of w.lines ++ ended-group ∷ []
+    groups-ended =
+        ap groups_of (append_assoc w.lines ms (l ∷ []))
+        ∙ (groups-append w.lines (ms ++ l ∷ []) whole-so-far ∙ ap (λ (gs : List GroupLines). groups_of w.lines ++ gs) (group-ended ms l inside-these turn.so.ends))
+
+    pub between-ended : AreBetween cache restored pools devices trace start fin begun (lent_in b) all-replies all-done last
     between-ended = record {
-      few = omega (arith, all-long, room);
-      begins = λ less. subst (BeginsGroup trace.ops) (sym all-long) (op, at, ends);
-      come = subst (λ (l : List Op). HaveCome cache restored (pools.size start.pool) (pools.told start.pool) trace.blocks l all-replies last) (sym all-taken) come-ended-lines;
-      knows = ap (λ (a : About). a.openings) turn.so.made.about ∙ knows-new;
-      counted = subst (λ (l : List Op). HaveCounted pools callers l all-replies start.pool fin.pool) (sym all-taken) counted-end;
-      groups = subst (λ (gs : List GroupLines). WorkInGroups pools cache.config Cells gs start fin)
-          (sym (ap (λ (l : List Op). groups_of l all-replies) all-taken
-          ∙ ((λ i. groups_of (append_assoc os qs (op ∷ []) i) (append_assoc rs ss (reply ∷ []) i))
-          ∙ (groups-append os (qs ++ op ∷ []) rs (ss ++ reply ∷ []) long (whole-of trace.ops (length rs) between.few (between.begins more))
-          ∙ ap (λ (gs : List GroupLines). groups_of os rs ++ gs) (group-ended callers qs ss op reply same-length own ends)))))
-          (in-groups-more pools cache.config Cells (groups_of os rs) (record { ops = qs; replies = ss; end = Some (record { op = op; reply = reply }) }) start was fin to between.groups (once (Some (record { op = op; reply = reply }))) turn.ends);
+      reached = record {
+        few = omega (arith, all-long, room);
+        come = subst (λ (x : List Op). HaveCome cache restored (pools.size start.pool) (pools.told start.pool) start.next trace.blocks x all-replies all-done last) (sym all-taken)
+            (have-come-ended pools devices cache restored (pools.size start.pool) (pools.told start.pool) start.next trace.blocks (os ++ qs) (rs ++ ss) done turn.more new last come-lines refl l turn.so);
+        knows = ap (λ (x : About). x.openings) turn.so.made.about ∙ knows-new;
+        first = reached.first;
+        behind = omega (arith, reached.behind, turn.later);
+        counted = counted-end;
+        groups = subst (λ (gs : List GroupLines). WorkInGroups pools cache.config (Cells last.feeder) [] gs start fin) (sym groups-ended)
+            (in-groups-more pools cache.config (Cells last.feeder) [] (groups_of w.lines) ended-group start was fin to (groups-behind last turn.so.made.cells) (once (Some l))
+            (subst (λ (ls : List Line). EndsGroup pools cache.config (Cells last.feeder) (ls ++ ms) (Some l) (between_groups to was.group was.next) fin) (sym (after-groups [] w.lines)) turn.ends));
+        used = subst (λ (gs : List GroupLines). UsedInGroups devices trace.blocks callers gs done.feeds begun (lent_in b)) (sym groups-ended) (used-lines ended-group refl);
+      };
+      begins = λ less. subst (BeginsGroup trace.ops) (sym all-long) (op, at, turn.so.ends);
+      goes_on = refl;
       may_sync = record {
-        born = omega (arith, turn.group);
-        few = omega (arith, turn.group, between.may_sync.few, all-long);
-        aligned = ap (λ (n : ℕ). n % sector) turn.next ∙ between.may_sync.aligned;
-        inside = let n = turn.next in let s = turn.unused.size in omega (arith, between.may_sync.inside, now-leaves.size, n, s);
+        born = let g = turn.group in omega (arith, g);
+        few = let g = turn.group in omega (arith, g, between.may_sync.few, all-long);
+        aligned = turn.aligned;
+        inside = turn.inside;
       };
     }
 
--- ---- the lines of the next group
+-- ---- what a step is where the lines don't go on
 
--- a line that is no caller's ends its group
-none-ends : (op : Op) → caller_of op ≡ None → ends_group op ≡ true
-none-ends (ops.Read n t x window) none = cc
-none-ends (ops.Hold n t x) none = cc
-none-ends (ops.Drop n x) none = cc
-none-ends (ops.Get n t at window) none = cc
-none-ends (ops.Put n t at size fill) none = cc
-none-ends (ops.Patch n t at from bytes) none = cc
-none-ends (ops.Pin n t at) none = cc
-none-ends (ops.Unpin n at) none = cc
-none-ends other none = refl
+-- which endings say that a sync stopped
+pub stops-on : {P D : Type 0} (cache : Cache) (restored : List Restored) (pools : Ghosts P) (devices : Devices D) (trace : Trace) (start after : BetweenGroups P) (begun is : Option D) (replied replies : List Reply) (ending : Ending) (work : RunWork) (crew : Crew OnHeap) → goes_on ending ≡ false
+    → AreDone cache restored pools devices trace start after.pool begun is ending replies work crew → StepsOn cache restored pools devices trace start after begun is replied replies ending crew
+stops-on cache restored pools devices trace start after begun is replied replies Whole work crew stops done = absurd (false≢true (sym stops))
+stops-on cache restored pools devices trace start after begun is replied replies Fork work crew stops done = (work, done)
+stops-on cache restored pools devices trace start after begun is replied replies Sync work crew stops done = (work, done)
+stops-on cache restored pools devices trace start after begun is replied replies (Full need left) work crew stops done = (work, done)
+
+-- where a fork failed, the groups are those before it
+as-forked : {P D : Type 0} (cache : Cache) (restored : List Restored) (pools : Ghosts P) (devices : Devices D) (trace : Trace) (start was : BetweenGroups P) (begun is : Option D) (rs : List Reply) (w : RunWork) (crew : Crew OnHeap)
+    → HaveReached cache restored pools devices trace start was begun is Whole rs w crew → HaveReached cache restored pools devices trace start was begun is Fork rs w crew
+as-forked cache restored pools devices trace start was begun is rs w crew h = record { few = h.few; come = h.come; knows = h.knows; first = h.first; behind = h.behind; counted = h.counted; groups = h.groups; used = h.used }
+
+feed-left : (op : Op) → caller_of op ≡ None → ends_group op ≡ false → is_feed op ≡ true
+feed-left (ops.Read n t x window) none inside = cc
+feed-left (ops.Hold n t x) none inside = cc
+feed-left (ops.Drop n x) none inside = cc
+feed-left (ops.Get n t at window) none inside = cc
+feed-left (ops.Put n t at size fill) none inside = cc
+feed-left (ops.Patch n t at from bytes) none inside = cc
+feed-left (ops.Pin n t at) none inside = cc
+feed-left (ops.Unpin n at) none inside = cc
+feed-left ops.Feed none inside = refl
+feed-left (ops.Txg t) none inside = absurd (false≢true (sym inside))
+feed-left (ops.Cap c) none inside = absurd (false≢true (sym inside))
+
+-- ---- the lines of the next group
 
 module _ {X : Type 0} where
   dropped-at : (xs : List X) (a k : ℕ) → slice_get (drop a xs) k ≡ slice_get xs (a + k)
@@ -378,34 +532,34 @@ module _ (trace : Trace) (formed : IsFormed trace) (a b : ℕ) where
   pub range-declared : AreDeclared (length trace.blocks) (slice_range trace.ops a b)
   range-declared k op at = all-declared trace formed (a + k) op (range-at trace.ops a b k op at).1
 
-  pub range-callers : ((k : ℕ) (op : Op) → a ≤ k → k < b → slice_get trace.ops k ≡ Some op → ends_group op ≡ false) → AreOfCallers trace.config.callers (slice_range trace.ops a b)
-  range-callers inside k op at =
+  pub range-group : ((k : ℕ) (op : Op) → a ≤ k → k < b → slice_get trace.ops k ≡ Some op → ends_group op ≡ false) → AreInGroup trace.config.callers (slice_range trace.ops a b)
+  range-group inside k op at =
       let h = range-at trace.ops a b k op at in
       let within_group = inside (a + k) op (omega arith) h.0 h.1 in
       elim (line-kind op) [
-        | inl caller ↦ (caller.0, caller.1, all-callers trace formed (a + k) op h.1 caller.0 caller.1)
-        | inr none ↦ absurd (false≢true (sym within_group ∙ none-ends op none))
+        | inl caller ↦ inl (caller.0, caller.1, all-callers trace formed (a + k) op h.1 caller.0 caller.1)
+        | inr none ↦ inr (feed-left op none within_group)
       ]
 
 -- ---- one step of all groups
 
 -- What the next group came to, whose lines are these of the trace: they are done at once, and then the line that ends them, where there is one.
-module _ {P : Type 0} (cache : Cache) (restored : List Restored) (pools : Ghosts P) (trace : Trace) (formed : IsFormed trace) (config : cache.config ≡ trace.config) (start was : BetweenGroups P) (from to : P) (rs ss : List Reply) (old new : Crew OnHeap)
-    (first end : ℕ) (bs : List Ptr) (os : List Op) (is_bs : bs ≡ trace.blocks) (is_os : os ≡ trace.ops) (is_first : first ≡ length rs) (le : first ≤ end) (few : end ≤ length os)
-    (inside : (k : ℕ) (op : Op) → first ≤ k → k < end → slice_get os k ≡ Some op → ends_group op ≡ false) (between : AreBetween cache restored pools trace start was rs old) (more : length rs < length trace.ops)
-    (unused : IsUnused pools was.pool from) (did : DidLinesAtOnce cache pools bs (slice_range os first end) from to old new ss) (same_feeder : new.feeder ≡ old.feeder) (leaves : LeavesPool pools from to) where
+module _ {P D : Type 0} (m : Meanings OnHeap) (cache : Cache) (restored : List Restored) (pools : Ghosts P) (devices : Devices D) (trace : Trace) (formed : IsFormed trace) (config : cache.config ≡ trace.config) (start was : BetweenGroups P) (begun : Option D) (from to : P) (a b : Device D)
+    (rs ss : List Reply) (w : RunWork) (old new : Crew OnHeap) (first end : ℕ) (bs : List Ptr) (os : List Op) (is_bs : bs ≡ trace.blocks) (is_os : os ≡ trace.ops) (is_first : first ≡ length rs) (le : first ≤ end) (few : end ≤ length os)
+    (inside : (k : ℕ) (op : Op) → first ≤ k → k < end → slice_get os k ≡ Some op → ends_group op ≡ false) (between : AreBetween cache restored pools devices trace start was begun (lent_in a) rs w old) (more : length rs < length trace.ops)
+    (unused : IsUnused pools was.pool from) (did : DidLinesAtOnce m cache pools devices bs (slice_range os first end) from to a b old new ss) (again : IsIdleFeeder cache new.feeder) (leaves : LeavesPool pools from to) where
   abbrev qs : List Op
   qs = slice_range trace.ops (length rs) end
 
-  did-these : DidLinesAtOnce cache pools trace.blocks qs from to old new ss
-  did-these = subst (λ (x : List Ptr × List Op × ℕ). DidLinesAtOnce cache pools x.0 (slice_range x.1 x.2 end) from to old new ss) (λ i. (is_bs i, is_os i, is_first i)) did
+  did-these : DidLinesAtOnce m cache pools devices trace.blocks qs from to a b old new ss
+  did-these = subst (λ (x : List Ptr × List Op × ℕ). DidLinesAtOnce m cache pools devices x.0 (slice_range x.1 x.2 end) from to a b old new ss) (λ i. (is_bs i, is_os i, is_first i)) did
 
   few-callers : (0 < cache.config.callers) × (cache.config.callers ≤ 16)
   few-callers = subst (λ (g : Config). (0 < g.callers) × (g.callers ≤ 16)) (sym config) (omega (arith, formed.config.counts.callers.0), formed.config.counts.callers.1)
 
-  own : AreOfCallers cache.config.callers qs
-  own = subst (λ (g : Config). AreOfCallers g.callers qs) (sym config)
-      (range-callers trace formed (length rs) end (λ k op low high at. inside k op (omega (arith, is_first, low)) high (ap (λ (l : List Op). slice_get l k) is_os ∙ at)))
+  own : AreInGroup cache.config.callers qs
+  own = subst (λ (g : Config). AreInGroup g.callers qs) (sym config)
+      (range-group trace formed (length rs) end (λ k op low high at. inside k op (omega (arith, is_first, low)) high (ap (λ (l : List Op). slice_get l k) is_os ∙ at)))
 
   few-lines : end ≤ length trace.ops
   few-lines = subst (λ (l : List Op). end ≤ length l) is_os few
@@ -416,84 +570,115 @@ module _ {P : Type 0} (cache : Cache) (restored : List Restored) (pools : Ghosts
   ends-at : length rs + length qs ≡ end
   ends-at = range-length trace.ops (length rs) end low few-lines
 
+  within : length rs + length qs ≤ length trace.ops
+  within = omega (arith, ends-at, few-lines)
+
   here : take (length qs) (drop (length rs) trace.ops) ≡ qs
   here = range-here trace.ops (length rs) end low few-lines
 
-  pub next-last : length os ≤ end → (all : List Reply) → all ≡ rs ++ ss → AreBetween cache restored pools trace start (between_groups to was.group was.next) all new × (length rs < length all)
+  come : HaveCome cache restored (pools.size start.pool) (pools.told start.pool) start.next trace.blocks (take (length rs) trace.ops ++ qs) (rs ++ ss) (with_lines w did-these.lines did-these.beside.feeds) new
+  come = come-lines m cache restored pools devices trace start was begun from to a b rs ss qs w old new formed.few_ops few-callers between more unused did-these again leaves own within here
+
+  pub next-last : length os ≤ end → (all : List Reply) → all ≡ rs ++ ss → StepsOn cache restored pools devices trace start (between_groups to was.group was.next) begun (lent_in b) rs all Whole new
   next-last last all is =
       let long : length os ≡ length trace.ops = ap length is_os in
       let whole : length rs + length qs ≡ length trace.ops = omega (arith, ends-at, few-lines, last, long) in
       let size = ap length is in (
-        subst (λ (l : List Reply). AreBetween cache restored pools trace start (between_groups to was.group was.next) l new) (sym is)
-            (between-last cache restored pools trace start was from to rs ss qs old new formed.few_ops few-callers between more unused did-these same_feeder leaves own (omega (arith, ends-at, few-lines)) here whole),
-        omega (arith, size, length-append rs ss, did-these.ordered.all, whole, more),
+        with_lines w did-these.lines did-these.beside.feeds,
+        subst (λ (l : List Reply). AreBetween cache restored pools devices trace start (between_groups to was.group was.next) begun (lent_in b) l (with_lines w did-these.lines did-these.beside.feeds) new) (sym is)
+            (between-last m cache restored pools devices trace start was begun from to a b rs ss qs w old new formed.few_ops few-callers between more unused did-these again leaves own within here whole),
+        omega (arith, size, both-long m cache restored pools devices trace start was begun from to a b rs ss qs w old new formed.few_ops few-callers between more unused did-these again leaves own within here, whole, more),
       )
 
   -- the callers may join the feeder
   pub next-may : cache.row.parties ≡ parties_of cache.config → MayGoOn cache [] new.feeder new.parties.items
-  next-may rows =
-      may-resize cache restored (pools.size start.pool) (pools.told start.pool) trace.blocks (take (length rs) trace.ops ++ qs) (rs ++ ss) new
-      (come-lines cache restored pools trace start was from to rs ss qs old new formed.few_ops few-callers between more unused did-these same_feeder leaves own (omega (arith, ends-at, few-lines)) here) rows
+  next-may rows = may-resize cache restored (pools.size start.pool) (pools.told start.pool) start.next trace.blocks (take (length rs) trace.ops ++ qs) (rs ++ ss) (with_lines w did-these.lines did-these.beside.feeds) new come rows
 
-  -- none of them has changed a cell
-  pub next-unwritten : AllByRecursion (λ o. AreNoEntries cache.config o.own.mine) (new.feeder ∷ new.parties.items)
-  next-unwritten =
-      come-unwritten cache restored (pools.size start.pool) (pools.told start.pool) trace.blocks (take (length rs) trace.ops ++ qs) (rs ++ ss) new
-      (come-lines cache restored pools trace start was from to rs ss qs old new formed.few_ops few-callers between more unused did-these same_feeder leaves own (omega (arith, ends-at, few-lines)) here)
+  told-now : AreToldOf cache (with_lines w did-these.lines did-these.beside.feeds).lines new
+  told-now = told-of cache restored (pools.size start.pool) (pools.told start.pool) start.next trace.blocks (take (length rs) trace.ops ++ qs) (rs ++ ss) (with_lines w did-these.lines did-these.beside.feeds) new come refl
+
+  pub next-number : new.feeder.number ≡ cache.config.callers
+  next-number = come.feeder.number
+
+  may-now : MaySync pools (length rs) (between_groups to was.group was.next)
+  may-now = record {
+    born = between.may_sync.born;
+    few = between.may_sync.few;
+    aligned = between.may_sync.aligned;
+    inside = omega (arith, between.may_sync.inside, leaves.size, unused.size);
+  }
 
   -- the sync that ends it may be done
   pub next-sync : (lines : ℕ) × (lines < 2 ^ 32) × MaySync pools lines (between_groups to was.group was.next)
-  next-sync = (
-    length rs,
-    omega (arith, more, formed.few_ops),
-    record {
-      born = between.may_sync.born;
-      few = between.may_sync.few;
-      aligned = between.may_sync.aligned;
-      inside = omega (arith, between.may_sync.inside, leaves.size, unused.size);
-    },
-  )
+  next-sync = (length rs, omega (arith, more, formed.few_ops), may-now)
 
-  pub next-ended : (op : Op) → slice_get os end ≡ Some op → ends_group op ≡ true → (last : Crew OnHeap) (fin : BetweenGroups P) (came : Result Reply Ending) (reply : Reply) → came ≡ Ok reply → DidEndLine cache pools op (between_groups to was.group was.next) fin new last came → (so_far all : List Reply)
-      → so_far ≡ rs ++ ss → all ≡ so_far ++ reply ∷ [] → AreBetween cache restored pools trace start fin all last × (length rs < length all)
-  next-ended op at ends last fin came reply answered did so_far all is_far is =
-      let ended = subst (DidEndLine cache pools op (between_groups to was.group was.next) fin new last) answered did in
-      let there : slice_get trace.ops (length rs + length qs) ≡ Some op = ap (slice_get trace.ops) ends-at ∙ (ap (λ (l : List Op). slice_get l end) (sym is_os) ∙ at) in
-      let whole : all ≡ (rs ++ ss) ++ reply ∷ [] = is ∙ ap (λ (l : List Reply). l ++ reply ∷ []) is_far in
-      let size = ap length whole in (
-        subst (λ (l : List Reply). AreBetween cache restored pools trace start fin l last) (sym whole)
-            (between-ended cache restored pools trace start was from to rs ss qs old new formed.few_ops few-callers between more unused did-these same_feeder leaves own (omega (arith, ends-at, few-lines)) here op reply last fin there ends ended),
-        omega (arith, size, length-append (rs ++ ss) (reply ∷ []), length-append rs ss),
-      )
+  module _ (op : Op) (at : slice_get os end ≡ Some op) (last : Crew OnHeap) (fin : BetweenGroups P) where
+    there : slice_get trace.ops (length rs + length qs) ≡ Some op
+    there = ap (slice_get trace.ops) ends-at ∙ (ap (λ (l : List Op). slice_get l end) (sym is_os) ∙ at)
 
-  -- no sync stops
-  pub next-goes-on : (op : Op) (last : Crew OnHeap) (fin : BetweenGroups P) (came : Result Reply Ending) (ending : Ending) → came ≡ Err ending → DidEndLine cache pools op (between_groups to was.group was.next) fin new last came → ⊥
-  next-goes-on op last fin came ending stopped did =
-      end-goes-on cache pools op (between_groups to was.group was.next) fin new last next-unwritten ending (subst (DidEndLine cache pools op (between_groups to was.group was.next) fin new last) stopped did)
+    knows : Knows (openings_of trace) new.feeder
+    knows = knows-new m cache restored pools devices trace start was begun from to a b rs ss qs w old new formed.few_ops few-callers between more unused did-these again leaves own within here
 
--- what a step says, by whether the lines go on
-pub stepped : {C P : Type 0} (cache : Cache) (restored : List Restored) (pools : Ghosts P) (trace : Trace) (start before after : BetweenGroups P) (replied replies : List Reply) (ending : Ending) (old new : Crew C) → goes_on ending ≡ true
-    → StepsOn cache restored pools trace start before after replied replies ending old new → AreBetween cache restored pools trace start after replies new × (length replied < length replies)
-stepped cache restored pools trace start before after replied replies Whole old new is step = step
-stepped cache restored pools trace start before after replied replies Fork old new is step = absurd (false≢true is)
-stepped cache restored pools trace start before after replied replies Sync old new is step = absurd step
-stepped cache restored pools trace start before after replied replies (Full need left) old new is step = absurd step
+    pub next-ended : (reply : Reply) → DidEndLine cache pools op (between_groups to was.group was.next) fin new last (Ok reply) → (so_far all : List Reply) → so_far ≡ rs ++ ss → all ≡ so_far ++ reply ∷ []
+        → StepsOn cache restored pools devices trace start fin begun (lent_in b) rs all Whole last
+    next-ended reply ended so_far all is_far is =
+        let turn = end-turned cache pools (openings_of trace) (with_lines w did-these.lines did-these.beside.feeds).lines (between_groups to was.group was.next) fin new last told-now knows ended.kept (length rs) may-now op reply ended in
+        let whole : all ≡ (rs ++ ss) ++ reply ∷ [] = is ∙ ap (λ (l : List Reply). l ++ reply ∷ []) is_far in
+        let work : RunWork = with_end (with_lines w did-these.lines did-these.beside.feeds) (record { op = op; reply = reply; work = turn.work }) in
+        let size = ap length whole in (
+          work,
+          subst (λ (l : List Reply). AreBetween cache restored pools devices trace start fin begun (lent_in b) l work last) (sym whole)
+              (between-ended m cache restored pools devices trace start was begun from to a b rs ss qs w old new formed.few_ops few-callers between more unused did-these again leaves own within here op reply last fin there turn),
+          omega (arith, size, length-append (rs ++ ss) (reply ∷ []), length-append rs ss),
+        )
 
-pub not-stepped : {C P : Type 0} (cache : Cache) (restored : List Restored) (pools : Ghosts P) (trace : Trace) (start before after : BetweenGroups P) (replied replies : List Reply) (ending : Ending) (old new : Crew C) → goes_on ending ≡ false
-    → StepsOn cache restored pools trace start before after replied replies ending old new → AreBetween cache restored pools trace start before replied old → length replied < length trace.ops → AreDone cache restored pools trace start after.pool ending replies new
-not-stepped cache restored pools trace start before after replied replies Whole old new is step between more = absurd (false≢true (sym is))
-not-stepped {C} cache restored pools trace start before after replied replies Fork old new is step between more = record {
-  reached = before;
-  between = subst (λ (x : List Reply × Crew C). AreBetween cache restored pools trace start before x.0 x.1) (λ i. (sym step.0 i, sym step.1 i)) between;
-  ended = (omega (arith, ap length step.0, more), step.2);
+    pub next-halted : (ending : Ending) → DidEndLine cache pools op (between_groups to was.group was.next) fin new last (Err ending) → (all : List Reply) → all ≡ rs ++ ss
+        → StepsOn cache restored pools devices trace start fin begun (lent_in b) rs all ending last
+    next-halted ending ended all is =
+        let at_line : slice_get trace.ops (length (rs ++ ss)) ≡ Some op =
+        ap (slice_get trace.ops) (both-long m cache restored pools devices trace start was begun from to a b rs ss qs w old new formed.few_ops few-callers between more unused did-these again leaves own within here) ∙ there in
+        let h = end-halted cache pools trace (rs ++ ss) (with_lines w did-these.lines did-these.beside.feeds) (between_groups to was.group was.next) fin new last told-now knows ended.kept op ending at_line ended in
+        let work : RunWork = with_stop (with_lines w did-these.lines did-these.beside.feeds) h.work in
+        subst (λ (l : List Reply). StepsOn cache restored pools devices trace start fin begun (lent_in b) rs l ending last) (sym is)
+        (stops-on cache restored pools devices trace start fin begun (lent_in b) rs (rs ++ ss) ending work last h.stops
+        (done-halted m cache restored pools devices trace start was begun from to a b rs ss qs w old new formed.few_ops few-callers between more unused did-these again leaves own within here ending last fin.pool h))
+
+-- none of it was begun, since a fork failed
+pub next-forked : {P D : Type 0} (cache : Cache) (restored : List Restored) (pools : Ghosts P) (devices : Devices D) (trace : Trace) (start was : BetweenGroups P) (begun is : Option D) (after : P) (rs : List Reply) (w : RunWork) (crew : Crew OnHeap)
+    → AreBetween cache restored pools devices trace start was begun is rs w crew → length rs < length trace.ops → ForkFailed pools was.pool after → StepsOn cache restored pools devices trace start (between_groups after was.group was.next) begun is rs rs Fork crew
+next-forked cache restored pools devices trace start was begun is after rs w crew between more failed = (
+  w,
+  record {
+    now = was;
+    reached = as-forked cache restored pools devices trace start was begun is rs w crew between.reached;
+    ended = (between.goes_on, more, between.begins more, failed);
+    last = λ t never. absurd never;
+  },
+)
+
+-- ---- all steps
+
+pub all-stepped : {P D : Type 0} (cache : Cache) (restored : List Restored) (pools : Ghosts P) (devices : Devices D) (trace : Trace) (start after : BetweenGroups P) (begun is : Option D) (replies : List Reply) (w : RunWork) (crew : Crew OnHeap)
+    → AreBetween cache restored pools devices trace start after begun is replies w crew → length trace.ops ≤ length replies → AreDone cache restored pools devices trace start after.pool begun is Whole replies w crew
+all-stepped cache restored pools devices trace start after begun is replies w crew between all = record {
+  now = after;
+  reached = between.reached;
+  ended = (between.goes_on, omega (arith, between.reached.few, all), refl);
+  last = λ t never. absurd never;
 }
-not-stepped cache restored pools trace start before after replied replies Sync old new is step between more = absurd step
-not-stepped cache restored pools trace start before after replied replies (Full need left) old new is step between more = absurd step
 
-pub all-stepped : {C P : Type 0} (cache : Cache) (restored : List Restored) (pools : Ghosts P) (trace : Trace) (start after : BetweenGroups P) (replies : List Reply) (crew : Crew C) → AreBetween cache restored pools trace start after replies crew → length trace.ops ≤ length replies
-    → AreDone cache restored pools trace start after.pool Whole replies crew
-all-stepped cache restored pools trace start after replies crew between all = record {
-  reached = after;
-  between = between;
-  ended = (omega (arith, between.few, all), refl);
-}
+-- what a step says where the lines go on, and where they don't
+module _ {P D : Type 0} (cache : Cache) (restored : List Restored) (pools : Ghosts P) (devices : Devices D) (trace : Trace) (start after : BetweenGroups P) (begun is : Option D) (replied replies : List Reply) (crew : Crew OnHeap) where
+  pub stepped : (ending : Ending) → goes_on ending ≡ true → StepsOn cache restored pools devices trace start after begun is replied replies ending crew
+      → (work : RunWork) × AreBetween cache restored pools devices trace start after begun is replies work crew × (length replied < length replies)
+  stepped Whole on step = step
+  stepped Fork on step = absurd (false≢true on)
+  stepped Sync on step = absurd (false≢true on)
+  stepped (Full need left) on step = absurd (false≢true on)
+
+  pub not-stepped : (ending : Ending) → goes_on ending ≡ false → StepsOn cache restored pools devices trace start after begun is replied replies ending crew
+      → (work : RunWork) × AreDone cache restored pools devices trace start after.pool begun is ending replies work crew
+  not-stepped Whole on step = absurd (false≢true (sym on))
+  not-stepped Fork on step = step
+  not-stepped Sync on step = step
+  not-stepped (Full need left) on step = step

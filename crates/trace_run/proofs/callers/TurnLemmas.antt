@@ -20,9 +20,8 @@ use Rattle.arc_table.specs.Geometry.{parties_of}
 use Rattle.arc_table.specs.Items.{Meanings}
 use Rattle.arc_table.specs.Seen.{HasAll, HasSeenItsEntries, events_in, seen_of, turn_of}
 use Rattle.arc_table.specs.Telling.{opening_of}
-use Rattle.trace_run.specs.Deeds.{HasToldAll, Noted}
-use Rattle.trace_run.specs.Making.{MadeItsOwn}
-use Rattle.trace_run.proofs.deeds.DeedLemmas.{told-still}
+use Rattle.trace_run.specs.Deeds.{HasToldAll, HasToldOthers, Noted}
+use Rattle.trace_run.proofs.deeds.DeedLemmas.{others-still, told-still}
 use Rattle.trace_run.proofs.deeds.MakesLemmas.{grown-same}
 use Rattle.arc_table.proofs.OwnLemmas.{no-own-moments, own-append}
 use Rattle.trace_run.specs.declared.kept_blocks.KeptBlock.{KeptBlock}
@@ -185,8 +184,8 @@ module _ {C : Type 0} (m : Meanings C) (cache : Cache) (p : Place (Known C)) (ke
     }
 
     -- the feeder's, which kept nothing
-    last-fed : (openings : List (List ℕ)) (fed since : (shard : ℕ) → List Event) → kept ≡ [] → IsFed cache openings fed since p → IsFed cache openings fed since last
-    last-fed openings fed since none is = record {
+    last-fed : (openings : List (List ℕ)) (fed since : (shard : ℕ) → List Event) (acts : List Act) (noted : List Noted) → kept ≡ [] → IsFed cache openings fed since acts noted p → IsFed cache openings fed since acts noted last
+    last-fed openings fed since acts noted none is = record {
       number = number ∙ is.number;
       alone = refl;
       stands = last-stands;
@@ -199,9 +198,13 @@ module _ {C : Type 0} (m : Meanings C) (cache : Cache) (p : Place (Known C)) (ke
           starts-then (seen_of gk shard r) (seen_of gk shard p) (since shard)
           (starts-events (lines shard) (front_of (turn_of gk shard) p.own.seen) (starts-then (lines shard) (front_of (turn_of gk shard) q.own.seen) (front_of (turn_of gk shard) p.own.seen) (more shard) (have.self.starts shard)))
           (is.since shard);
-      only =
-          let then : MadeItsOwn gk r = subst (MadeItsOwn gk) (sym (subst (λ (l : List KeptBlock). GivesAll m gk l q r) none gives)) (have.only is.only) in
-          record { events = then.events; entries = then.entries };
+      told =
+          let then : HasToldOthers gk acts noted r = subst (HasToldOthers gk acts noted) (sym (subst (λ (l : List KeptBlock). GivesAll m gk l q r) none gives))
+          (others-still gk acts noted p q (grown-same gk p q have.number have.about have.mine have.self.starts have.self.cells is.stands.seen is.stands.cells) is.told) in
+          record { cells = then.cells; kinds = then.kinds; entries = then.entries };
+      settled = λ i.
+          ap (λ (x : Place (Known C)). list_at i x.own.ledger.picked) (subst (λ (l : List KeptBlock). GivesAll m gk l q r) none gives)
+          ∙ (ap (λ (l : Ledger). list_at i l.picked) have.ledger ∙ is.settled i);
     }
 
     joined-told : {n : ℕ} {acts : List Act} {noted : List Noted} → Waits cache n acts noted kept p → HasToldAll gk acts noted q
@@ -233,7 +236,7 @@ module _ {C : Type 0} (m : Meanings C) (cache : Cache) (p : Place (Known C)) (ke
         parted = subst (HaveParted cache lines others) (sym parted.0) (all-parted-from others have.all differ);
         level = subst (IsLevel gk lines) (sym parted.1) (λ shard. refl);
         gave = λ n acts noted waits. subst (Waits cache n (acts ++ acts_of_drops n reads) noted []) (sym parted.1) (last-waits n acts noted waits);
-        fed = λ openings fed since none is. subst (IsFed cache openings fed since) (sym parted.1) (last-fed openings fed since none is);
+        fed = λ openings fed since acts noted none is. subst (IsFed cache openings fed since acts noted) (sym parted.1) (last-fed openings fed since acts noted none is);
         drops = λ before own rest shard. drops shard ∙ ap (λ (l : List Line). events_in l ++ events_of_drops p.number (holds_in gk shard reads)) (have.level before own rest shard);
       }
 

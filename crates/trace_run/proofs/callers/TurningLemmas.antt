@@ -68,7 +68,7 @@ drops-last g shard n m (j ∷ ks) k is =
 number-there : (all gone : List (List KeptBlock)) (k : List KeptBlock) (ks : List (List KeptBlock)) → all ≡ gone ++ k ∷ ks → length all ≡ length gone + suc (length ks)
 number-there all gone k ks is = ap length is ∙ length-append gone (k ∷ ks)
 
-module _ {C : Type 0} (cache : Cache) (acts : ℕ → List Act) (noted : ℕ → List Noted) (openings : List (List ℕ)) (feeds since : (shard : ℕ) → List Event) where
+module _ {C : Type 0} (cache : Cache) (acts : ℕ → List Act) (noted : ℕ → List Noted) (openings : List (List ℕ)) (feeds since : (shard : ℕ) → List Event) (inserted : List Act) (synced : List Noted) where
   -- ---- callers that wait, by their numbers
 
   waiting-apart : (n : ℕ) (ks : List (List KeptBlock)) (ps : List (Place (Known C))) → AreWaiting cache acts noted n ks ps → AllByRecursion (IsApart cache) ps
@@ -164,7 +164,7 @@ module _ {C : Type 0} (cache : Cache) (acts : ℕ → List Act) (noted : ℕ →
     pub done : List (Place (Known C))
     pub are : ps ≡ waiting ++ feeder ∷ done
     pub waits : AreWaiting cache acts noted (length gone) left waiting
-    pub fed : IsFed cache openings feeds since feeder
+    pub fed : IsFed cache openings feeds since inserted synced feeder
     pub gave : AllGave cache acts noted 0 gone done
     pub first : ℕ → List Event
     pub lines : ℕ → List Line
@@ -176,7 +176,7 @@ module _ {C : Type 0} (cache : Cache) (acts : ℕ → List Act) (noted : ℕ →
 
   module _ (rows : cache.row.parties ≡ parties_of cache.config) where
     -- the feeder may begin, which keeps nothing
-    pub may-begin : (all : List (List KeptBlock)) (ps : List (Place (Known C))) (feeder : Place (Known C)) → length all ≡ cache.config.callers → AreWaiting cache acts noted 0 all ps → IsFed cache openings feeds since feeder → MayGoOn cache [] feeder ps
+    pub may-begin : (all : List (List KeptBlock)) (ps : List (Place (Known C))) (feeder : Place (Known C)) → length all ≡ cache.config.callers → AreWaiting cache acts noted 0 all ps → IsFed cache openings feeds since inserted synced feeder → MayGoOn cache [] feeder ps
     may-begin all ps feeder count waits fed = record {
       stands = fed.stands;
       alone = fed.alone;
@@ -196,7 +196,7 @@ module _ {C : Type 0} (cache : Cache) (acts : ℕ → List Act) (noted : ℕ →
         waiting-below n m (k ∷ ks) (p ∷ ps) below waits = ((λ is. let number = waits.0.number in absurd (omega (arith, is, number, below))), waiting-below (suc n) m ks ps (omega (arith, below)) waits.1)
 
     -- behind all of it the feeder may go on, with whom all have given back
-    pub may-end : (all : List (List KeptBlock)) (ps rest : List (Place (Known C))) (feeder : Place (Known C)) → length all ≡ cache.config.callers → ps ≡ rest ++ feeder ∷ [] → HaveGivenBack cache acts noted openings feeds since all ps → MayGoOn cache [] feeder rest
+    pub may-end : (all : List (List KeptBlock)) (ps rest : List (Place (Known C))) (feeder : Place (Known C)) → length all ≡ cache.config.callers → ps ≡ rest ++ feeder ∷ [] → HaveGivenBack cache acts noted openings feeds since inserted synced all ps → MayGoOn cache [] feeder rest
     may-end all ps rest feeder count are gone = subst (λ (x : List (Place (Known C)) × Place (Known C)). MayGoOn cache [] x.1 x.0) (λ i. (sym same.0 i, sym same.1 i)) record {
       stands = gone.fed.stands;
       alone = gone.fed.alone;
@@ -212,7 +212,7 @@ module _ {C : Type 0} (cache : Cache) (acts : ℕ → List Act) (noted : ℕ →
         same : (rest ≡ gone.callers) × (feeder ≡ gone.feeder)
         same = last-same rest gone.callers feeder gone.feeder (sym are ∙ gone.are)
 
-    pub begun : (all : List (List KeptBlock)) (ps : List (Place (Known C))) (feeder : Place (Known C)) (news : List (Place (Known C))) → length all ≡ cache.config.callers → AreWaiting cache acts noted 0 all ps → IsFed cache openings feeds since feeder
+    pub begun : (all : List (List KeptBlock)) (ps : List (Place (Known C))) (feeder : Place (Known C)) (news : List (Place (Known C))) → length all ≡ cache.config.callers → AreWaiting cache acts noted 0 all ps → IsFed cache openings feeds since inserted synced feeder
         → GaveBackJoined cache feeder [] ps news → Turning all all news
     begun all ps feeder news count waits fed b = record {
       gone = [];
@@ -222,7 +222,7 @@ module _ {C : Type 0} (cache : Cache) (acts : ℕ → List Act) (noted : ℕ →
       done = [];
       are = b.are;
       waits = parted-waiting b.lines 0 all ps b.rest b.parted waits;
-      fed = b.fed openings feeds since refl fed;
+      fed = b.fed openings feeds since inserted synced refl fed;
       gave = tt;
       first = λ shard. events_in (b.lines shard);
       lines = b.lines;
@@ -233,7 +233,7 @@ module _ {C : Type 0} (cache : Cache) (acts : ℕ → List Act) (noted : ℕ →
     -- the first that is left may give back
     module _ (all : List (List KeptBlock)) (k : List KeptBlock) (ks : List (List KeptBlock)) (count : length all ≡ cache.config.callers) where
       next-may : (p : Place (Known C)) (waiting : List (Place (Known C))) (gone : List (List KeptBlock)) (feeder : Place (Known C)) (done : List (Place (Known C))) → all ≡ gone ++ k ∷ ks → Waits cache (length gone) (acts (length gone)) (noted (length gone)) k p
-          → AreWaiting cache acts noted (suc (length gone)) ks waiting → IsFed cache openings feeds since feeder → AllGave cache acts noted 0 gone done → MayGoOn cache k p (waiting ++ feeder ∷ done)
+          → AreWaiting cache acts noted (suc (length gone)) ks waiting → IsFed cache openings feeds since inserted synced feeder → AllGave cache acts noted 0 gone done → MayGoOn cache k p (waiting ++ feeder ∷ done)
       next-may p waiting gone feeder done is one waits fed gave = record {
         stands = one.stands;
         alone = one.alone;
@@ -262,7 +262,7 @@ module _ {C : Type 0} (cache : Cache) (acts : ℕ → List Act) (noted : ℕ →
           go (p ∷ waiting) waits = next-may p waiting t.gone t.feeder t.done t.parts waits.0 waits.1 t.fed t.gave
 
       next-then : (gone : List (List KeptBlock)) (p : Place (Known C)) (waiting : List (Place (Known C))) (feeder : Place (Known C)) (done news : List (Place (Known C))) (first : ℕ → List Event) (lines : ℕ → List Line)
-          → all ≡ gone ++ k ∷ ks → Waits cache (length gone) (acts (length gone)) (noted (length gone)) k p → AreWaiting cache acts noted (suc (length gone)) ks waiting → IsFed cache openings feeds since feeder → AllGave cache acts noted 0 gone done
+          → all ≡ gone ++ k ∷ ks → Waits cache (length gone) (acts (length gone)) (noted (length gone)) k p → AreWaiting cache acts noted (suc (length gone)) ks waiting → IsFed cache openings feeds since inserted synced feeder → AllGave cache acts noted 0 gone done
           → IsLevel cache.config lines p → AllByRecursion (IsLevel cache.config lines) (waiting ++ feeder ∷ done) → ((shard : ℕ) → events_in (lines shard) ≡ first shard ++ drops_from cache.config shard 0 gone)
           → GaveBackJoined cache p k (waiting ++ feeder ∷ done) news → Turning all ks news
       next-then gone p waiting feeder done news first lines is one waits fed gave own_level level drops b =
@@ -276,7 +276,7 @@ module _ {C : Type 0} (cache : Cache) (acts : ℕ → List Act) (noted : ℕ →
             done = h.2 ++ b.last ∷ [];
             are = b.are ∙ (ap (λ (l : List (Place (Known C))). l ++ b.last ∷ []) h.3 ∙ append_assoc h.0 (h.1 ∷ h.2) (b.last ∷ []));
             waits = subst (λ (n : ℕ). AreWaiting cache acts noted n ks h.0) (let n : suc number ≡ length (gone ++ k ∷ []) = omega (arith, length-append gone (k ∷ [])) in n) (parted-waiting b.lines (suc number) ks waiting h.0 h.4 waits);
-            fed = parted-fed cache b.lines feeder h.1 h.5 openings feeds since fed;
+            fed = parted-fed cache b.lines feeder h.1 h.5 openings feeds since inserted synced fed;
             gave = gave-last 0 number gone h.2 k b.last (omega arith) (parted-gave b.lines 0 gone done h.2 h.6 gave) (b.gave number (acts number) (noted number) one);
             first = first;
             lines = b.lines;
@@ -296,13 +296,13 @@ module _ {C : Type 0} (cache : Cache) (acts : ℕ → List Act) (noted : ℕ →
           go (p ∷ waiting) waits level gave = next-then t.gone p waiting t.feeder t.done news t.first t.lines t.parts waits.0 waits.1 t.fed t.gave level.0 level.1 t.drops gave
 
   -- the feeder's party goes behind the callers'
-  pub turned-all : (all : List (List KeptBlock)) (ps rest news : List (Place (Known C))) (feeder : Place (Known C)) → Turning all [] ps → feeder ≡ get_or ps 0 feeder → rest ≡ remove ps 0 → news ≡ rest ++ feeder ∷ [] → HaveGivenBack cache acts noted openings feeds since all news
+  pub turned-all : (all : List (List KeptBlock)) (ps rest news : List (Place (Known C))) (feeder : Place (Known C)) → Turning all [] ps → feeder ≡ get_or ps 0 feeder → rest ≡ remove ps 0 → news ≡ rest ++ feeder ∷ [] → HaveGivenBack cache acts noted openings feeds since inserted synced all news
   turned-all all ps rest news feeder t first_is rest_are are = go t.waiting t.waits t.are
     where
       whole : t.gone ≡ all
       whole = sym (append-nil t.gone) ∙ sym t.parts
 
-      go : (waiting : List (Place (Known C))) → AreWaiting cache acts noted (length t.gone) [] waiting → ps ≡ waiting ++ t.feeder ∷ t.done → HaveGivenBack cache acts noted openings feeds since all news
+      go : (waiting : List (Place (Known C))) → AreWaiting cache acts noted (length t.gone) [] waiting → ps ≡ waiting ++ t.feeder ∷ t.done → HaveGivenBack cache acts noted openings feeds since inserted synced all news
       go (p ∷ waiting) waits is = absurd waits
       go [] waits is =
           let f : feeder ≡ t.feeder = first_is ∙ ap (λ (l : List (Place (Known C))). get_or l 0 feeder) is in

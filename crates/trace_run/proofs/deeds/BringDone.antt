@@ -263,7 +263,7 @@ module _ {P D : Type 0} (g : Config) (valid : IsConfig g) (pools : PoolGhosts P)
 
     pub served-done : held_through p.number hands q.own.ledger.holds ≡ p.own.ledger.holds → q.own.ledger.readings ≡ p.own.ledger.readings → BringDone g t c (Loaded ptr from) hands p q
     served-done holds readings = record {
-      seen = seen-left g p q only.left;
+      seen = seen-left g p q only.left only.same.entries;
       sees = (only.sees, leaves-seen g p q only.left entries);
       same = only.same;
       holds = holds;
@@ -288,7 +288,7 @@ module _ {P D : Type 0} (g : Config) (valid : IsConfig g) (pools : PoolGhosts P)
   -- the pool failed, or gave other bytes
   pub failed-done : AddsFailed dbuf_meanings g valid pools devices ptr t p q → q.own.ledger.holds ≡ p.own.ledger.holds → q.own.ledger.readings ≡ p.own.ledger.readings → BringDone g t c (Refused ptr) [] p q
   failed-done a holds readings = record {
-    seen = seen-left g p q only.left;
+    seen = seen-left g p q only.left only.same.entries;
     sees = (only.sees, leaves-seen g p q only.left entries);
     same = only.same;
     holds = holds;

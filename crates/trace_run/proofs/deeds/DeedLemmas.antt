@@ -17,7 +17,7 @@ use Rattle.arc_table.specs.declared.view.Line.TheVariants as line
 use Rattle.arc_table.specs.Geometry.{IsCell}
 use Rattle.arc_table.specs.Seen.{turn_of}
 use Rattle.arc_table.specs.Told.{IsTold}
-use Rattle.trace_run.specs.Deeds.{HasAct, HasToldAll, Noted, SameMade, act_of_event, acts_of_events, events_there, lines_of_cell, with_number}
+use Rattle.trace_run.specs.Deeds.{HasAct, HasToldAll, HasToldOthers, Noted, SameMade, act_of_event, acts_of_events, events_there, lines_of_cell, with_number}
 use Rattle.trace_run.specs.MadeLines.{made_in, made_of}
 use Rattle.trace_run.proofs.deeds.CellsDone.{lines-append}
 use Rattle.trace_run.proofs.deeds.MakesLemmas.{in-more}
@@ -138,6 +138,14 @@ module _ {C : Type 0} (g : Config) where
     cells = λ shard c other. let differs : c ≢ p.number = λ is. other (is ∙ sym same.number) in before.cells shard c differs ∙ ap acts_of_events (sym (same.cells shard c differs));
     kinds = λ shard c other. let differs : c ≢ p.number = λ is. other (is ∙ sym same.number) in subst (AllByRecursion HasAct) (sym (same.cells shard c differs)) (before.kinds shard c differs);
     entries = λ i in_range. same.entries i in_range ∙ before.entries i in_range;
+  }
+
+  -- nothing more was made with other numbers, and nothing of a cell
+  pub others-still : (did : List Act) (noted : List Noted) (p q : Place (Known C)) → SameMade g p q → HasToldOthers g did noted p → HasToldOthers g did noted q
+  others-still did noted p q same h = record {
+    cells = λ shard c other. let differs : c ≢ p.number = λ is. other (is ∙ sym same.number) in h.cells shard c differs ∙ ap acts_of_events (sym (same.cells shard c differs));
+    kinds = λ shard c other. let differs : c ≢ p.number = λ is. other (is ∙ sym same.number) in subst (AllByRecursion HasAct) (sym (same.cells shard c differs)) (h.kinds shard c differs);
+    entries = λ i in_range. same.entries i in_range ∙ h.entries i in_range;
   }
 
   -- a turn's events under a cell's number, and what was done to cells

@@ -57,10 +57,10 @@ use Rattle.trace_text.specs.declared.reply.Reply.TheVariants as replies
 use Rattle.trace_run.specs.declared.kept_blocks.KeptBlock.{KeptBlock}
 use Rattle.trace_run.specs.DbufTurns.{CellsDone}
 use Rattle.trace_run.specs.Answers.{IsReadRefusal}
-use Rattle.trace_run.specs.Deeds.{noted_in}
+use Rattle.trace_run.specs.Deeds.{lines_of_cell, noted_in}
 use Rattle.trace_run.specs.Effects.{Answered, PoolRefused}
 use Rattle.trace_run.specs.KeptBlocks.{AllQuiet, IsOwnedBy, Stands, times}
-use Rattle.trace_run.specs.ObjectLines.{Brings as BringsLine, Did, DidGet, DidNot, DidPatch, DidPin, DidPut, DidUnpin, DidWork, EndsInside, FailsToBring, FindsCell, IsBrought, RefusesBlock, RefusesBytes, ReleasesFor, SpentOn, SpentOnRead, TellsFault, WasToBring}
+use Rattle.trace_run.specs.ObjectLines.{Brings as BringsLine, Did, DidGet, DidNot, DidPatch, DidPin, DidPut, DidUnpin, DidWork, EndsInside, FailsToBring, FindsCell, IsBrought, RefusesBlock, RefusesBytes, ReleasesFor, SpentOn, SpentOnRead, TellsFault, WasToBring, cell_lines}
 use Rattle.trace_run.specs.Objects.{Brought, Nothing, Loaded, Refused, loads_of}
 use Rattle.trace_run.specs.Reads.{IsRefused, now_of}
 use Rattle.trace_run.proofs.DeviceReadLemmas.{DeviceDid}
@@ -68,9 +68,10 @@ use Rattle.trace_run.proofs.DeviceReadLemmas as device
 use Rattle.trace_run.proofs.GetLemmas.{PoolDid, fault-calls, fault-cause, held-calls, ok-valid, pool-did}
 use Rattle.trace_run.proofs.one_caller.AskingLemmas as asking
 use Rattle.trace_run.proofs.deeds.BringDone.{BringDone, bring-then, bytes-refuse, nothing-brought, pool-refuses, read-brings, source_of_read}
-use Rattle.trace_run.proofs.deeds.CellFound.{LeavesSeen, found-before, found-behind, seen-done, turn-finds}
+use Rattle.trace_run.proofs.deeds.CellFound.{LeavesSeen, found-before, found-behind, seen-done, turn-finds, turn-placed}
 use Rattle.trace_run.proofs.deeds.CellsDone.{done-then, turn-done, turn-low, waits-done}
 use Rattle.trace_run.proofs.deeds.OperatesDone.{AreOfCell, all-both, both-of, cell-there, evictions-of, operates-done, release-of}
+use Rattle.trace_run.proofs.deeds.OutlineFound.{uncached-there}
 use Rattle.trace_run.proofs.deeds.TurnMakes.{AreTurnEvents, IsTurnEvent, starts-on}
 use Rattle.trace_run.proofs.deeds.WorkDone.{AreHands, hand-kinds, holds-same, of-kinds, work-done}
 
@@ -214,8 +215,13 @@ module _ (g : Config) (valid : IsConfig g) (at : Oid) (t : ℕ) (p q : PartyPlac
     pub own-found : FindsCell g i mid p q
     own-found = found-before g i in_range mid p back q b.seen (turn-finds g valid i in_range mid ((own_loads ++ own ∷ []) ++ o.evictions) ((hands ++ released) ++ o.drops) back q back-config b.sees turn-kinds-all o.turn)
 
-    pub own-grows : StartsWith (front_of i q.own.seen) (front_of i back.own.seen)
-    own-grows = own-done.cells i in_range
+    pub own-placed : StartsWith (front_of i q.own.seen) (cell_lines mid ++ lines_of_cell i (noted_in i (own_loads ++ own ∷ map (events.Evict p.number) oids)))
+    own-placed = (
+      [],
+      subst (λ (l : List CellEvent). front_of i q.own.seen ≡ cell_lines mid ++ lines_of_cell i (noted_in i l)) (append_assoc own_loads (own ∷ []) o.evictions ∙ ap (λ (l : List CellEvent). own_loads ++ own ∷ l) are-oids)
+          (turn-placed g valid i in_range mid ((own_loads ++ own ∷ []) ++ o.evictions) ((hands ++ released) ++ o.drops) back q back-config b.sees turn-kinds-all o.turn)
+          ∙ sym (append-nil (cell_lines mid ++ lines_of_cell i (noted_in i (own_loads ++ own ∷ map (events.Evict p.number) oids)))),
+    )
 
     pub own-evicted : AreEvictions p.number c (after_all (outline_in mid) (own_loads ++ own ∷ [])) (map (events.Evict p.number) oids) o.drops
     own-evicted = subst (λ (x : ℕ × List CellEvent). AreEvictions x.0 c (after_all (outline_in mid) (own_loads ++ own ∷ [])) x.1 o.drops) (λ k. (b.seen.number k, are-oids k)) o.evicted
@@ -268,6 +274,7 @@ module _ (g : Config) (valid : IsConfig g) (at : Oid) (t : ℕ) (p q : PartyPlac
             evicted = oids Nothing ready [] b tt cell own es of o;
             drops = o.drops;
             evictions = own-evicted Nothing ready [] b tt cell own es of o;
+            placed = own-placed Nothing ready [] b tt cell own es of o;
             work = own-work Nothing ready [] b tt cell own es of o;
           },
           own-keeps Nothing ready [] b tt cell own es of o,
@@ -341,11 +348,11 @@ module _ (g : Config) (valid : IsConfig g) (at : Oid) (t : ℕ) (p q : PartyPlac
 
     -- ---- how the bytes came
 
-    pub record Came (brought : Brought) (back : PartyPlace) (loads : List CellEvent) (hands : List Event) : Type 0 where
+    pub record Came (brought : Brought) (back : PartyPlace) (mid : OnHeap) (loads : List CellEvent) (hands : List Event) : Type 0 where
       pub done : BringDone g t c brought hands p back
       pub loads_are : loads ≡ loads_of p.number at brought
       pub handing : AreHands p.number c hands
-      pub brings : StartsWith (front_of i q.own.seen) (front_of i back.own.seen) → IsBrought g at t p q brought
+      pub brings : (own : CellEvent) (es : List Event) → Operates g i mid (loads ++ own ∷ []) es back q → IsBrought at (outline_in mid) brought
       pub spent : (reply : Reply) → SpentOn pools devices g p before now brought reply
 
     module _ (ready : PartyPlace) (w : CellsDone g [] [] p ready) (cell : OnHeap) where
@@ -363,14 +370,14 @@ module _ (g : Config) (valid : IsConfig g) (at : Oid) (t : ℕ) (p q : PartyPlac
         was-to-bring : WasToBring at ptr (outline_in cell)
         was-to-bring = record { pointer = reads.pointer; uncached = reads.uncached }
 
-      come : (back : PartyPlace) (mid : OnHeap) (loads : List CellEvent) (hands : List Event) → Brings pools devices g i at t before now cell ready back mid loads hands → (brought : Brought) × Came brought back loads hands
+      come : (back : PartyPlace) (mid : OnHeap) (loads : List CellEvent) (hands : List Event) → Brings pools devices g i at t before now cell ready back mid loads hands → (brought : Brought) × Came brought back mid loads hands
       come back mid loads hands (here same is none nothing unchanged) = (
         Nothing,
         record {
           done = subst (λ (x : PartyPlace × List Event). BringDone g t c Nothing x.1 p x.0) (λ k. (sym same k, sym nothing k)) (nothing-brought g t c p ready w);
           loads_are = none;
           handing = subst (AreHands p.number c) (sym nothing) tt;
-          brings = λ grows. tt;
+          brings = λ own es o. tt;
           spent = λ reply. unchanged;
         },
       )
@@ -385,11 +392,9 @@ module _ (g : Config) (valid : IsConfig g) (at : Oid) (t : ℕ) (p q : PartyPlac
               done = bring-then g t c (Loaded ptr (source_of_read got)) hands p reads.marked back d b;
               loads_are = are ∙ ap (λ (n : ℕ). events.Load n at ∷ []) number;
               handing = subst (AreHands p.number c) (sym (handed_are ∙ ap (λ (n : ℕ). handed n c got) number)) (are-hands p.number got);
-              brings = λ grows. (
-                cell,
-                idle-found ready w cell reads.marked q reads.turn (starts-on g (front_of i q.own.seen) (front_of i back.own.seen) (front_of i reads.marked.own.seen) grows (b.seen.cells i in_range)),
-                was-to-bring ptr back (Ok got) reads,
-              );
+              brings = λ own es o.
+                  let with_load : Operates g i mid (events.Load ready.number at ∷ own ∷ []) es back q = subst (λ (l : List CellEvent). Operates g i mid (l ++ own ∷ []) es back q) are o in
+                  record { pointer = pointer; uncached = uncached-there at mid with_load.turn.sound.evicting ready.number with_load.turn.leads.0 };
               spent = λ reply. spent-loaded ptr reads.marked back d got reads.answered;
             },
           )
@@ -543,12 +548,13 @@ module _ (g : Config) (valid : IsConfig g) (at : Oid) (t : ℕ) (p q : PartyPlac
                 cell = acts.mid;
                 found = own-found br.0 acts.back acts.hands br.1.done br.1.handing acts.mid (own p.number) [] tt o;
                 fits = fits acts.mid o.turn.sound acts.fits;
-                brings = br.1.brings (own-grows br.0 acts.back acts.hands br.1.done br.1.handing acts.mid (own p.number) [] tt o);
+                brings = br.1.brings (own ready.number) acts.hands acts.operates;
                 released = [];
                 releases = none _;
                 evicted = oids br.0 acts.back acts.hands br.1.done br.1.handing acts.mid (own p.number) [] tt o;
                 drops = o.drops;
                 evictions = own-evicted br.0 acts.back acts.hands br.1.done br.1.handing acts.mid (own p.number) [] tt o;
+                placed = own-placed br.0 acts.back acts.hands br.1.done br.1.handing acts.mid (own p.number) [] tt o;
                 work = own-work br.0 acts.back acts.hands br.1.done br.1.handing acts.mid (own p.number) [] tt o;
               },
               br.1.spent reply,
@@ -570,12 +576,13 @@ module _ (g : Config) (valid : IsConfig g) (at : Oid) (t : ℕ) (p q : PartyPlac
                 cell = a.mid;
                 found = own-found br.0 a.back a.hands br.1.done br.1.handing a.mid own a.es of o;
                 fits = tt;
-                brings = br.1.brings (own-grows br.0 a.back a.hands br.1.done br.1.handing a.mid own a.es of o);
+                brings = br.1.brings (events.Patch ready.number at from bytes) (a.hands ++ a.es) a.operates;
                 released = a.es;
                 releases = subst (λ (l : List CellEvent). ReleasesAtMost c at (after_all (outline_in a.mid) l) a.es) br.1.loads_are a.releases;
                 evicted = oids br.0 a.back a.hands br.1.done br.1.handing a.mid own a.es of o;
                 drops = o.drops;
                 evictions = own-evicted br.0 a.back a.hands br.1.done br.1.handing a.mid own a.es of o;
+                placed = own-placed br.0 a.back a.hands br.1.done br.1.handing a.mid own a.es of o;
                 work = own-work br.0 a.back a.hands br.1.done br.1.handing a.mid own a.es of o;
               },
               br.1.spent replies.Done,

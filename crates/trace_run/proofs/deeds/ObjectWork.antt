@@ -1,19 +1,20 @@
 -- A line on an object, with what it did beside its reply: by what the contract of its call says it came to.
-use Rattle.std.proofs.Common.{◌≡◌, ℕ, ◌+◌, true, List, [], ◌∷◌, ◌++◌, length, map, refl, sym, ap, subst}
-use Rattle.std.specs.Prelude.{IsSome}
+use Rattle.std.proofs.Common.{◌≡◌, ℕ, ◌+◌, true, List, [], ◌∷◌, ◌++◌, length, map, refl, sym, ap, ◌∙◌, subst}
+use Rattle.std.specs.Prelude.{IfSome, IsSome}
 use Rattle.std.proofs.lemmas.Bool.{eqb-true, false≢true}
 use Rattle.std.specs.List.{AllByRecursion}
 use Rattle.blk_ptr.specs.declared.ptr.Ptr.{Ptr}
 use Rattle.vdev_io.specs.declared.device.CacheDev.{Ghosts as DeviceGhosts}
 use Rattle.vdev_io.specs.declared.pool.Pool.{Ghosts as PoolGhosts}
 use Rattle.vdev_io.specs.Calls.{KeepsPool, MakesCalls}
+use Rattle.arc_core.specs.Config.{IsConfig}
 use Rattle.arc_core.specs.declared.config.Config.{Config}
 use Rattle.arc_core.specs.declared.event.Event.{Event}
 use Rattle.arc_core.specs.Operations.{Act, actor_of}
 use Rattle.arc_table.specs.Geometry.{cell_number}
 use Rattle.arc_table.specs.Reading.{KeepsDevice, Outside}
 use Rattle.dbuf_cells.specs.Places.{cell_of}
-use Rattle.dbuf_cells.specs.Turns.{OnHeap, PartyPlace}
+use Rattle.dbuf_cells.specs.Turns.{OnHeap, PartyPlace, outline_in}
 use Rattle.dbuf_state.specs.Outline.{Outline}
 use Rattle.dbuf_state.specs.declared.event.CellEvent.{CellEvent}
 use Rattle.dbuf_state.specs.declared.event.CellEvent.TheVariants as events
@@ -26,13 +27,15 @@ use Rattle.trace_text.specs.declared.reply.Refusal.TheVariants as refusals
 use Rattle.trace_text.specs.declared.reply.Reply.{Reply}
 use Rattle.trace_text.specs.declared.reply.Reply.TheVariants as replies
 use Rattle.trace_run.specs.callers.WorkLines.{DidWorkLine, IsWorkOf, acts_with_op, effect_with, size_brought}
-use Rattle.trace_run.specs.Deeds.{HasToldAll, Noted, acts_of_events, noted_in}
+use Rattle.trace_run.specs.Deeds.{HasToldAll, Noted, acts_of_events}
 use Rattle.trace_run.specs.DeviceReads.{AsksFor}
 use Rattle.trace_run.specs.Effects.{Effect, NoEffect, calls_of, effect_of}
 use Rattle.trace_run.specs.KeptReads.{KeptRead}
 use Rattle.trace_run.specs.Lines.{is_of_caller}
-use Rattle.trace_run.specs.ObjectLines.{Did, DidGet, DidObjectLine, DidPatch, DidPin, DidPut, DidUnpin, DidWork, IsBrought, RefusesBlock, RefusesBytes, RefusesUnpin, ReleasesFor, SpentOn, its_number, on_object}
-use Rattle.trace_run.specs.Objects.{Brought, IsAnswered, IsRefusedWith, NotesOwn, Nothing, Loaded, Refused, Work, loads_of}
+use Rattle.trace_run.specs.ObjectLines.{Did, DidGet, DidNot, DidObjectLine, DidPatch, DidPin, DidPut, DidUnpin, DidWork, IsBrought, RefusesBlock, RefusesBytes, RefusesUnpin, ReleasesFor, SpentOn, its_number, on_object}
+use Rattle.trace_run.specs.ObjectReplies.{ActsFor, AnswersFrom, BringsAt, RefusesAt}
+use Rattle.trace_run.specs.Objects.{Brought, IsAnswered, IsRefusedWith, Loaded, NotesNothing, NotesOwn, Nothing, Refused, Work, own_event}
+use Rattle.trace_run.proofs.deeds.ObjectReplies.{By, From, bad-key, brings-so, dbufs-so, did-work, found_outline, from-done, from-not, inside-it, no-block, past-it, same-pin, to-bring, tried}
 use Rattle.trace_run.proofs.deeds.OperatesDone.{AreOfCell, both-of, evictions-of, release-of}
 use Rattle.trace_run.proofs.deeds.WorkDone.{of-acts}
 
@@ -49,33 +52,21 @@ released-of c (events.Synced n at ptr) o es r = subst (AreOfCell c) (sym r) tt
 released-of c (events.End n) o es r = subst (AreOfCell c) (sym r) tt
 
 module _ (g : Config) (at : Oid) (t : ℕ) (p q : PartyPlace) where
-  answered : (brought : Brought) → IsBrought g at t p q brought → IsAnswered brought
-  answered Nothing b = tt
-  answered (Loaded ptr from) b = tt
-  answered (Refused ptr) b = absurd b
+  answered : (o : Outline) (brought : Brought) → IsBrought at o brought → IsAnswered brought
+  answered o Nothing b = tt
+  answered o (Loaded ptr from) b = tt
+  answered o (Refused ptr) b = absurd b
 
   module _ (own : CellEvent) (brought : Brought) (Fits : OnHeap → Type 0) (d : Did g at t p q own brought Fits) where
-    -- what it did
-    abbrev pub did-work : Work
-    did-work = record {
-      brought = brought;
-      noted = noted_in (cell_of g.cells at) (loads_of p.number at brought ++ own ∷ map (events.Evict p.number) d.evicted);
-      acts = acts_of_events (d.released ++ d.drops);
-    }
-
     pub did-acts : AllByRecursion (λ (act : Act). actor_of act ≡ cell_number g (cell_of g.cells at)) (acts_of_events (d.released ++ d.drops))
     did-acts = of-acts (its_number g at t p q) (d.released ++ d.drops)
         (both-of (its_number g at t p q) d.released d.drops (released-of (its_number g at t p q) own _ d.released d.releases) (evictions-of p.number (its_number g at t p q) _ (map (events.Evict p.number) d.evicted) d.drops d.evictions))
 
-    pub did-notes : NotesOwn g p.number (record { at = at; event = own }) did-work
+    pub did-notes : NotesOwn g p.number (record { at = at; event = own }) (did-work g at t p q own brought Fits d)
     did-notes = record { evictions = d.evicted; noted = refl; acts = did-acts }
 
     pub did-answered : IsAnswered brought
-    did-answered = answered brought d.brings
-
--- what a refused line did: at most the access that was refused
-abbrev pub tried : Brought → Work
-tried brought = record { brought = brought; noted = []; acts = [] }
+    did-answered = answered (outline_in d.cell) brought d.brings
 
 module _ {P D : Type 0} (pools : PoolGhosts P) (devices : DeviceGhosts D) (g : Config) (blocks : List Ptr) (kept : List KeptRead) (before now : Outside P D) (p q : PartyPlace) (pool : KeepsPool pools before.pool now.pool)
     (device : KeepsDevice devices before.device now.device) where
@@ -98,47 +89,142 @@ module _ {P D : Type 0} (pools : PoolGhosts P) (devices : DeviceGhosts D) (g : C
   spent-on (Loaded ptr from) reply quiet s = record { calls = s.calls; asked = s.asked }
   spent-on (Refused ptr) reply quiet s = record { calls = s.calls; asked = s.asked }
 
+  -- what a line that has this work was answered, by the cell that was found
+  abbrev AnswersSo : Op → Reply → Work → Type 0
+  AnswersSo op reply work = IsConfig g → (did : List Act) (had : List Noted) → HasToldAll g did had p
+      → IfSome (on_object op) (λ on. AnswersFrom g (pools.size before.pool) (pools.told before.pool) p.own.about.openings q.own.seen p.number had on.at (record { op = op; reply = reply; work = work }))
+
   -- a line that was answered, and one that was refused
   done-line : (op : Op) (reply : Reply) (at : Oid) (t : ℕ) (own : CellEvent) (brought : Brought) (Fits : OnHeap → Type 0) (d : Did g at t p q own brought Fits) → DidObjectLine pools devices g before now p q op reply → Spent brought reply
       → IsWorkOf g p.number (record { op = op; reply = reply; work = did-work g at t p q own brought Fits d })
       → ((did : List Act) (had : List Noted) → HasToldAll g did had p
-      → HasToldAll g (did ++ acts_with_op g blocks kept op reply (did-work g at t p q own brought Fits d)) (had ++ (did-work g at t p q own brought Fits d).noted) q) → HasWork op reply
-  done-line op reply at t own brought Fits d came spent fits told =
-      (did-work g at t p q own brought Fits d, record { came = came; fits = fits; number = d.work.number; told = told; joined = d.work.joined; keeps = d.work.keeps; calls = spent.calls; asked = spent.asked; pool = pool; device = device })
+      → HasToldAll g (did ++ acts_with_op g blocks kept op reply (did-work g at t p q own brought Fits d)) (had ++ (did-work g at t p q own brought Fits d).noted) q)
+      → AnswersSo op reply (did-work g at t p q own brought Fits d) → HasWork op reply
+  done-line op reply at t own brought Fits d came spent fits told answers = (
+    did-work g at t p q own brought Fits d,
+    record {
+      came = came;
+      answers = answers;
+      fits = fits;
+      number = d.work.number;
+      told = told;
+      joined = d.work.joined;
+      keeps = d.work.keeps;
+      calls = spent.calls;
+      asked = spent.asked;
+      pool = pool;
+      device = device;
+    },
+  )
 
   not-line : (op : Op) (reply : Reply) (at : Oid) (t : ℕ) (brought : Brought) → DidWork g t (cell_number g (cell_of g.cells at)) brought [] [] p q → DidObjectLine pools devices g before now p q op reply → Spent brought reply
       → IsWorkOf g p.number (record { op = op; reply = reply; work = tried brought })
-      → ((did : List Act) (had : List Noted) → HasToldAll g did had p → HasToldAll g (did ++ acts_with_op g blocks kept op reply (tried brought)) (had ++ []) q) → HasWork op reply
-  not-line op reply at t brought w came spent fits told = (tried brought, record { came = came; fits = fits; number = w.number; told = told; joined = w.joined; keeps = w.keeps; calls = spent.calls; asked = spent.asked; pool = pool; device = device })
+      → ((did : List Act) (had : List Noted) → HasToldAll g did had p → HasToldAll g (did ++ acts_with_op g blocks kept op reply (tried brought)) (had ++ []) q)
+      → AnswersSo op reply (tried brought) → HasWork op reply
+  not-line op reply at t brought w came spent fits told answers = (
+    tried brought,
+    record {
+      came = came;
+      answers = answers;
+      fits = fits;
+      number = w.number;
+      told = told;
+      joined = w.joined;
+      keeps = w.keeps;
+      calls = spent.calls;
+      asked = spent.asked;
+      pool = pool;
+      device = device;
+    },
+  )
 
-  -- why a line that asks for a block's bytes was refused
-  refused-bytes : (at : Oid) (t last : ℕ) (refusal : Refusal) → RefusesBytes pools devices g at t before now p q last refusal → (brought : Brought) × IsRefusedWith refusal brought × DidWork g t (cell_number g (cell_of g.cells at)) brought [] [] p q × Spent brought (replies.Refused refusal)
-  refused-bytes at t last (refusals.NoBlock named) r = (Nothing, refl, r.0.work, none-spent (replies.Refused (refusals.NoBlock named)) refl r.1)
-  refused-bytes at t last (refusals.Range end size) r = (Nothing, refl, r.0.work, none-spent (replies.Refused (refusals.Range end size)) refl r.1)
-  refused-bytes at t last (refusals.Key why) r = (Nothing, refl, r.0.work, none-spent (replies.Refused (refusals.Key why)) refl r.1)
-  refused-bytes at t last refusals.PoolFault r = (Refused r.0, (r.0, refl), r.1.work, record { calls = r.2.calls; asked = r.2.asked })
-  refused-bytes at t last (refusals.Mismatch found) r = (Refused r.0, (r.0, refl), r.1.work, record { calls = r.2.calls; asked = r.2.asked })
-  refused-bytes at t last (refusals.NoHold block) r = absurd r
-  refused-bytes at t last (refusals.NoPin named) r = absurd r
-  refused-bytes at t last refusals.NoMemory r = absurd r
+  -- Why a line that asks for a block's bytes was refused, and what had been brought then; such a line did nothing.
+  module _ (at : Oid) (t last : ℕ) (op : Op) (quiet : (o : Outline) (brought : Brought) (refusal : Refusal) → NotesNothing (tried brought) → ActsFor g p.number (own_event op) o (tried brought) (replies.Refused refusal)) where
+    -- the line tells this cause as any line does
+    abbrev So : Refusal → Type 0
+    So refusal = (cell : OnHeap) (brought : Brought) → RefusesAt (pools.size before.pool) (pools.told before.pool) cell.value.limit cell.value.opening cell.value.history brought at last refusal
+        → By pools devices g before now p q cell brought op (replies.Refused refusal)
 
-  block-bytes : (at : Oid) (t : ℕ) (refusal : Refusal) → RefusesBlock pools devices g at t before now p q refusal → RefusesBytes pools devices g at t before now p q 0 refusal
-  block-bytes at t (refusals.NoBlock named) r = r
-  block-bytes at t (refusals.Range end size) r = absurd r
-  block-bytes at t (refusals.Key why) r = r
-  block-bytes at t refusals.PoolFault r = r
-  block-bytes at t (refusals.Mismatch found) r = r
-  block-bytes at t (refusals.NoHold block) r = absurd r
-  block-bytes at t (refusals.NoPin named) r = absurd r
-  block-bytes at t refusals.NoMemory r = absurd r
+    abbrev Tried : Refusal → Brought → Type 0
+    Tried refusal brought = IsRefusedWith refusal brought × DidWork g t (cell_number g (cell_of g.cells at)) brought [] [] p q × Spent brought (replies.Refused refusal)
+        × From pools devices g before now p q at (record { op = op; reply = replies.Refused refusal; work = tried brought })
+
+    refused-from : (brought : Brought) (Why : OnHeap → Type 0) (refusal : Refusal) → So refusal → (d : DidNot g at t p q brought Why) → BringsAt (pools.size before.pool) at (found_outline d.cell) brought
+        → RefusesAt (pools.size before.pool) (pools.told before.pool) d.cell.value.limit d.cell.value.opening d.cell.value.history brought at last refusal
+        → From pools devices g before now p q at (record { op = op; reply = replies.Refused refusal; work = tried brought })
+    refused-from brought Why refusal so d brings why =
+        from-not pools devices g before now p q at t brought Why op (replies.Refused refusal) d (quiet (found_outline d.cell) brought refusal) brings (so d.cell brought why)
+
+    refused-bytes : (refusal : Refusal) → So refusal → RefusesBytes pools devices g at t before now p q last refusal → (brought : Brought) × Tried refusal brought
+    refused-bytes (refusals.NoBlock named) so r =
+        let d = r.0 in (
+          Nothing,
+          (
+            refl,
+            d.work,
+            none-spent (replies.Refused (refusals.NoBlock named)) refl r.1,
+            refused-from Nothing _ (refusals.NoBlock named) so d tt (no-block at (outline_in d.cell) (found_outline d.cell) (dbufs-so d.cell d.found.sound) named d.why),
+          ),
+        )
+    refused-bytes (refusals.Range end size) so r =
+        let d = r.0 in (
+          Nothing,
+          (
+            refl,
+            d.work,
+            none-spent (replies.Refused (refusals.Range end size)) refl r.1,
+            refused-from Nothing _ (refusals.Range end size) so d tt (past-it at (outline_in d.cell) (found_outline d.cell) (dbufs-so d.cell d.found.sound) last end size d.why),
+          ),
+        )
+    refused-bytes (refusals.Key why) so r =
+        let d = r.0 in
+        let same = dbufs-so d.cell d.found.sound in (
+          Nothing,
+          (
+            refl,
+            d.work,
+            none-spent (replies.Refused (refusals.Key why)) refl r.1,
+            refused-from Nothing _ (refusals.Key why) so d tt
+                (inside-it at (outline_in d.cell) (found_outline d.cell) same last d.why.0, bad-key at (outline_in d.cell) (found_outline d.cell) same (pools.size before.pool) why d.why.1),
+          ),
+        )
+    refused-bytes refusals.PoolFault so r =
+        let d = r.1 in
+        let same = dbufs-so d.cell d.found.sound in
+        let brings = to-bring at (outline_in d.cell) (found_outline d.cell) same r.0 d.why.1 in (
+          Refused r.0,
+          (
+            (r.0, refl),
+            d.work,
+            record { calls = r.2.calls; asked = r.2.asked },
+            refused-from (Refused r.0) _ refusals.PoolFault so d (brings, r.2.valid) (r.0, refl, inside-it at (outline_in d.cell) (found_outline d.cell) same last d.why.0, brings, d.why.2),
+          ),
+        )
+    refused-bytes (refusals.Mismatch found) so r =
+        let d = r.1 in
+        let same = dbufs-so d.cell d.found.sound in
+        let brings = to-bring at (outline_in d.cell) (found_outline d.cell) same r.0 d.why.1 in (
+          Refused r.0,
+          (
+            (r.0, refl),
+            d.work,
+            record { calls = r.2.calls; asked = r.2.asked },
+            refused-from (Refused r.0) _ (refusals.Mismatch found) so d (brings, r.2.valid) (r.0, refl, inside-it at (outline_in d.cell) (found_outline d.cell) same last d.why.0, brings, d.why.2),
+          ),
+        )
+    refused-bytes (refusals.NoHold block) so r = absurd r
+    refused-bytes (refusals.NoPin named) so r = absurd r
+    refused-bytes refusals.NoMemory so r = absurd r
 
   get-work : (t : ℕ) (at : Oid) (w : Window) (reply : Reply) → DidGet pools devices g at t before now p q w reply → HasWork (ops.Get p.number t at w) reply
   get-work t at w (replies.Got size shown) d =
       done-line (ops.Get p.number t at w) (replies.Got size shown) at t (events.Get p.number at) d.0 _ d.1 d (spent-on d.0 (replies.Got size shown) refl d.2)
       record { together = did-answered g at t p q (events.Get p.number at) d.0 _ d.1; notes = did-notes g at t p q (events.Get p.number at) d.0 _ d.1 } d.1.work.told
+      (from-done pools devices g before now p q at t (events.Get p.number at) d.0 _ (ops.Get p.number t at w) (replies.Got size shown) d.1 (λ a. a)
+      (brings-so pools devices g before now p q at d.0 (replies.Got size shown) d.1.cell d.1.found.sound d.1.brings d.2) d.1.fits)
   get-work t at w (replies.Refused refusal) d =
-      let r = refused-bytes at t (w.at + w.len) refusal d in
-      not-line (ops.Get p.number t at w) (replies.Refused refusal) at t r.0 r.2 d r.3 record { together = r.1; notes = (refl, refl) } r.2.told
+      let r = refused-bytes at t (w.at + w.len) (ops.Get p.number t at w) (λ o brought why x. x) refusal (λ cell brought x. x) d in
+      not-line (ops.Get p.number t at w) (replies.Refused refusal) at t r.0 r.1.1 d r.1.2 record { together = r.1.0; notes = (refl, refl) } r.1.1.told r.1.3
   get-work t at w replies.Done d = absurd d
   get-work t at w (replies.Read served digest shown) d = absurd d
   get-work t at w (replies.Kept served) d = absurd d
@@ -152,9 +238,11 @@ module _ {P D : Type 0} (pools : PoolGhosts P) (devices : DeviceGhosts D) (g : C
   patch-work t at from bytes replies.Done d =
       done-line (ops.Patch p.number t at from bytes) replies.Done at t (events.Patch p.number at from bytes) d.0 _ d.1 d (spent-on d.0 replies.Done refl d.2)
       record { together = did-answered g at t p q (events.Patch p.number at from bytes) d.0 _ d.1; notes = did-notes g at t p q (events.Patch p.number at from bytes) d.0 _ d.1 } d.1.work.told
+      (from-done pools devices g before now p q at t (events.Patch p.number at from bytes) d.0 _ (ops.Patch p.number t at from bytes) replies.Done d.1 (λ a. a)
+      (brings-so pools devices g before now p q at d.0 replies.Done d.1.cell d.1.found.sound d.1.brings d.2) tt)
   patch-work t at from bytes (replies.Refused refusal) d =
-      let r = refused-bytes at t (from + length bytes) refusal d in
-      not-line (ops.Patch p.number t at from bytes) (replies.Refused refusal) at t r.0 r.2 d r.3 record { together = r.1; notes = (refl, refl) } r.2.told
+      let r = refused-bytes at t (from + length bytes) (ops.Patch p.number t at from bytes) (λ o brought why x. x) refusal (λ cell brought x. x) d in
+      not-line (ops.Patch p.number t at from bytes) (replies.Refused refusal) at t r.0 r.1.1 d r.1.2 record { together = r.1.0; notes = (refl, refl) } r.1.1.told r.1.3
   patch-work t at from bytes (replies.Got size shown) d = absurd d
   patch-work t at from bytes (replies.Read served digest shown) d = absurd d
   patch-work t at from bytes (replies.Kept served) d = absurd d
@@ -164,13 +252,31 @@ module _ {P D : Type 0} (pools : PoolGhosts P) (devices : DeviceGhosts D) (g : C
   patch-work t at from bytes (replies.Synced group blocks_of written) d = absurd d
   patch-work t at from bytes (replies.Capped c) d = absurd d
 
+  -- a pin asks for the block alone
+  pin-refused : (t : ℕ) (at : Oid) (refusal : Refusal) → RefusesBytes pools devices g at t before now p q 0 refusal → DidPin pools devices g at t before now p q (replies.Refused refusal)
+      → ((cell : OnHeap) (brought : Brought) → RefusesAt (pools.size before.pool) (pools.told before.pool) cell.value.limit cell.value.opening cell.value.history brought at 0 refusal
+      → By pools devices g before now p q cell brought (ops.Pin p.number t at) (replies.Refused refusal)) → HasWork (ops.Pin p.number t at) (replies.Refused refusal)
+  pin-refused t at refusal bytes d so =
+      let r = refused-bytes at t 0 (ops.Pin p.number t at) (λ o brought why x. x) refusal so bytes in
+      not-line (ops.Pin p.number t at) (replies.Refused refusal) at t r.0 r.1.1 d r.1.2 record { together = r.1.0; notes = (refl, refl) } r.1.1.told r.1.3
+
+  pin-not : (t : ℕ) (at : Oid) (refusal : Refusal) → RefusesBlock pools devices g at t before now p q refusal → HasWork (ops.Pin p.number t at) (replies.Refused refusal)
+  pin-not t at (refusals.NoBlock named) d = pin-refused t at (refusals.NoBlock named) d d (λ cell brought x. x)
+  pin-not t at (refusals.Range end size) d = absurd d
+  pin-not t at (refusals.Key why) d = pin-refused t at (refusals.Key why) d d (λ cell brought x. x)
+  pin-not t at refusals.PoolFault d = pin-refused t at refusals.PoolFault d d (λ cell brought x. x)
+  pin-not t at (refusals.Mismatch found) d = pin-refused t at (refusals.Mismatch found) d d (λ cell brought x. x)
+  pin-not t at (refusals.NoHold block) d = absurd d
+  pin-not t at (refusals.NoPin named) d = absurd d
+  pin-not t at refusals.NoMemory d = absurd d
+
   pin-work : (t : ℕ) (at : Oid) (reply : Reply) → DidPin pools devices g at t before now p q reply → HasWork (ops.Pin p.number t at) reply
   pin-work t at replies.Done d =
       done-line (ops.Pin p.number t at) replies.Done at t (events.Pin p.number at) d.0 _ d.1 d (spent-on d.0 replies.Done refl d.2)
       record { together = did-answered g at t p q (events.Pin p.number at) d.0 _ d.1; notes = did-notes g at t p q (events.Pin p.number at) d.0 _ d.1 } d.1.work.told
-  pin-work t at (replies.Refused refusal) d =
-      let r = refused-bytes at t 0 refusal (block-bytes at t refusal d) in
-      not-line (ops.Pin p.number t at) (replies.Refused refusal) at t r.0 r.2 d r.3 record { together = r.1; notes = (refl, refl) } r.2.told
+      (from-done pools devices g before now p q at t (events.Pin p.number at) d.0 _ (ops.Pin p.number t at) replies.Done d.1 (λ a. a)
+      (brings-so pools devices g before now p q at d.0 replies.Done d.1.cell d.1.found.sound d.1.brings d.2) tt)
+  pin-work t at (replies.Refused refusal) d = pin-not t at refusal d
   pin-work t at (replies.Got size shown) d = absurd d
   pin-work t at (replies.Read served digest shown) d = absurd d
   pin-work t at (replies.Kept served) d = absurd d
@@ -184,6 +290,7 @@ module _ {P D : Type 0} (pools : PoolGhosts P) (devices : DeviceGhosts D) (g : C
   put-work t at size fill replies.Done d none =
       done-line (ops.Put p.number t at size fill) replies.Done at 0 (events.Put p.number at size fill) Nothing _ d (d, none) (none-spent replies.Done refl none)
       record { together = refl; notes = did-notes g at 0 p q (events.Put p.number at size fill) Nothing _ d } d.work.told
+      (from-done pools devices g before now p q at 0 (events.Put p.number at size fill) Nothing _ (ops.Put p.number t at size fill) replies.Done d (λ a. a) tt tt)
   put-work t at size fill (replies.Refused refusal) d none = absurd d
   put-work t at size fill (replies.Got most shown) d none = absurd d
   put-work t at size fill (replies.Read served digest shown) d none = absurd d
@@ -195,7 +302,13 @@ module _ {P D : Type 0} (pools : PoolGhosts P) (devices : DeviceGhosts D) (g : C
   put-work t at size fill (replies.Capped c) d none = absurd d
 
   no-pin : (at : Oid) (refusal : Refusal) → RefusesUnpin g at p q refusal → (effect_of (replies.Refused refusal) ≡ NoEffect) × DidWork g 0 (cell_number g (cell_of g.cells at)) Nothing [] [] p q
-  no-pin at (refusals.NoPin named) r = (refl, r.work)
+      × From pools devices g before now p q at (record { op = ops.Unpin p.number at; reply = replies.Refused refusal; work = tried Nothing })
+  no-pin at (refusals.NoPin named) r = (
+    refl,
+    r.work,
+    from-not pools devices g before now p q at 0 Nothing _ (ops.Unpin p.number at) (replies.Refused (refusals.NoPin named)) r (λ a. a) tt
+        (r.why.0, same-pin at (outline_in r.cell) (found_outline r.cell) (dbufs-so r.cell r.found.sound) p.number ∙ r.why.1),
+  )
   no-pin at (refusals.NoBlock named) r = absurd r
   no-pin at (refusals.Range end size) r = absurd r
   no-pin at (refusals.Key why) r = absurd r
@@ -207,9 +320,10 @@ module _ {P D : Type 0} (pools : PoolGhosts P) (devices : DeviceGhosts D) (g : C
   unpin-work : (at : Oid) (reply : Reply) → DidUnpin g at p q reply → now ≡ before → HasWork (ops.Unpin p.number at) reply
   unpin-work at replies.Done d none =
       done-line (ops.Unpin p.number at) replies.Done at 0 (events.Unpin p.number at) Nothing _ d (d, none) (none-spent replies.Done refl none) record { together = refl; notes = did-notes g at 0 p q (events.Unpin p.number at) Nothing _ d } d.work.told
+      (from-done pools devices g before now p q at 0 (events.Unpin p.number at) Nothing _ (ops.Unpin p.number at) replies.Done d (λ a. a) tt tt)
   unpin-work at (replies.Refused refusal) d none =
       let w = no-pin at refusal d in
-      not-line (ops.Unpin p.number at) (replies.Refused refusal) at 0 Nothing w.1 (d, none) (none-spent (replies.Refused refusal) w.0 none) record { together = refl; notes = (refl, refl) } w.1.told
+      not-line (ops.Unpin p.number at) (replies.Refused refusal) at 0 Nothing w.1 (d, none) (none-spent (replies.Refused refusal) w.0 none) record { together = refl; notes = (refl, refl) } w.1.told w.2
   unpin-work at (replies.Got size shown) d none = absurd d
   unpin-work at (replies.Read served digest shown) d none = absurd d
   unpin-work at (replies.Kept served) d none = absurd d

@@ -142,7 +142,6 @@ module _ {C D : Type 0} (m : Meanings C) (devices : Ghosts D) (cache : Cache) (w
         number = still.left.stays.number ∙ idle.number;
         alone = fed.joined ∙ idle.alone;
         stands = still.stands;
-        only = still.only idle.only;
         settled = ready.settled;
       }
 

@@ -1,5 +1,5 @@
 -- What the feeder's party is behind a feed: it stands as it did, keeps nothing, and has seen more.
-use Rattle.std.proofs.Common.{◌≡◌, ◌≢◌, ◌-◌, ℕ, zero, suc, false, List, [], ◌∷◌, ◌++◌, length, refl, sym, ap, ◌∙◌, subst, inl, inr, arith}
+use Rattle.std.proofs.Common.{◌≡◌, ◌≢◌, ◌-◌, ℕ, zero, suc, false, List, [], ◌∷◌, ◌++◌, length, refl, sym, ap, ◌∙◌, subst, inl, inr, arith, length-append}
 use mathlib.Core.Option.{some, some-injective, some-ne-none}
 use lib.ListN.{get_elem?}
 use Rattle.blk_ptr.specs.declared.key.Key.{Key}
@@ -41,11 +41,13 @@ use Rattle.arc_table.proofs.Reached.{SameButNotes, loses_same, took_is}
 use Rattle.arc_table.proofs.TableLaws.{front_else}
 use Rattle.l2_feed.specs.Acts.{Act, Absent, Cleared, DoesAct, DoesActs, Left, Picked, Placed, Refused, Unpicked}
 use Rattle.l2_feed.specs.Ready.{IsFeederReady}
+use Rattle.trace_run.specs.Deeds.{SameMade}
 use Rattle.trace_run.specs.Feeds.{IsIdleFeeder}
 use Rattle.trace_run.specs.KeptBlocks.{AllQuiet, Stands, times}
-use Rattle.trace_run.specs.Making.{HasSeenItsEvents, MadeItsOwn}
+use Rattle.trace_run.specs.Making.{HasSeenItsEvents}
 use Rattle.trace_run.proofs.CellsLeft.{LeavesCells, does-leaves, leaves-same, leaves-seen, leaves-then}
-use Rattle.trace_run.proofs.MoveLemmas.{does-made-own, made-only, only-then, own-wider}
+use Rattle.trace_run.proofs.deeds.MakesLemmas.{does-long, makes-more, numbers-of, own-same, same-none, same-then}
+use Rattle.trace_run.proofs.MoveLemmas.{does-made-own, own-wider}
 use Rattle.trace_run.proofs.callers.MeetLemmas.{starts-then}
 
 -- ---- picks
@@ -80,18 +82,18 @@ module _ {C : Type 0} (m : Meanings C) (cache : Cache) where
   abbrev g : Config
   g = cache.config
 
-  -- the party stands still, has seen what it had and maybe more, and made only events of its own number, where it did before
+  -- the party stands still, has seen what it had and maybe more, and made nothing more with other numbers than its own
   pub record StandsStill (p q : Place (Known C)) : Type 0 where
     pub stands : Stands cache q []
     pub left : LeavesCells g p q
-    pub only : MadeItsOwn g p → MadeItsOwn g q
+    pub same : SameMade g p q
     pub starts : (i : ℕ) → StartsWith (front_of (turn_of g i) q.own.seen) (front_of (turn_of g i) p.own.seen)
 
   pub still-same : (p q : Place (Known C)) → Stands cache p [] → q ≡ p → StandsStill p q
   still-same p q stands is = subst (StandsStill p) (sym is) (record {
     stands = stands;
     left = leaves-same g p p refl;
-    only = λ only. only;
+    same = same-none g p;
     starts = λ i. starts_whole (front_of (turn_of g i) p.own.seen);
   })
 
@@ -99,7 +101,7 @@ module _ {C : Type 0} (m : Meanings C) (cache : Cache) where
   still-then p q r a b = record {
     stands = b.stands;
     left = leaves-then g p q r a.left b.left;
-    only = λ only. b.only (a.only only);
+    same = same-then g p q r a.same b.same;
     starts = λ i. starts-then (front_of (turn_of g i) r.own.seen) (front_of (turn_of g i) q.own.seen) (front_of (turn_of g i) p.own.seen) (b.starts i) (a.starts i);
   }
 
@@ -136,7 +138,8 @@ module _ {C : Type 0} (m : Meanings C) (cache : Cache) where
               (ap (λ (l : Ledger). l.claims) ledger)
               (made-sees g (shard_of g.shards k) d.before es p q made stands.seen);
           left = left;
-          only = only-then g p q left (made-only g (shard_of g.shards k) d.before es p q made own);
+          same = own-same g (shard_of g.shards k) es p q made.same.number (numbers-of (parties_of g) p.number es own)
+              (makes-more g (shard_of g.shards k) d.before es p q made (does-long m g stands.valid k p q stands.of.config es d made) stands.seen.own left.fronts) left;
           starts = grows g (shard_of g.shards k) d.before es p q made;
         }
 
@@ -183,6 +186,15 @@ module _ {C : Type 0} (m : Meanings C) (cache : Cache) where
     abbrev news : List Mine
     news = mines_of turn (length f.before.history) (length f.tried.own.notes - passes_in es) es
 
+    made-mine : q.own.mine ≡ p.own.mine ++ news
+    made-mine = ap (λ (x : Place (Known C)). x.own.mine) f.gave ∙ ap (λ (l : List Mine). l ++ news) (f.tries.mine ∙ (took_is m turn (item.Shard f.before) p f.reached f.takes).mine)
+
+    -- as many lines more as events
+    long : (more : List Mine) → q.own.mine ≡ p.own.mine ++ more → length more ≡ length es
+    long more is =
+        omega (arith, ap length is, ap length made-mine, length-append p.own.mine more, length-append p.own.mine news)
+        ∙ (mines_of_are turn (length f.before.history) (length f.tried.own.notes - passes_in es) es).long
+
     left : LeavesCells g p q
     left =
         let t = took_is m turn (item.Shard f.before) p f.reached f.takes in
@@ -194,8 +206,7 @@ module _ {C : Type 0} (m : Meanings C) (cache : Cache) where
               ∙ (f.tries.seen i (no-bucket i cell)
               ∙ (ap (front_of i) t.seen ∙ front_else turn i _ p.own.seen (no-cell i cell))));
           mine = λ j a cell at.
-              let is : q.own.mine ≡ p.own.mine ++ news = ap (λ (x : Place (Known C)). x.own.mine) f.gave ∙ ap (λ (l : List Mine). l ++ news) (f.tries.mine ∙ t.mine) in
-              elim (get-either p.own.mine news j a (subst (λ (l : List Mine). get_elem? l j ≡ some a) is at)) [
+              elim (get-either p.own.mine news j a (subst (λ (l : List Mine). get_elem? l j ≡ some a) made-mine at)) [
                 | inl old ↦ old
                 | inr new ↦ absurd (no-cell a.turn cell ((mines_of_are turn (length f.before.history) (length f.tried.own.notes - passes_in es) es).each new.0 a new.1).0)
               ];
@@ -212,7 +223,7 @@ module _ {C : Type 0} (m : Meanings C) (cache : Cache) where
           (ap (λ (x : Place (Known C)). x.own.ledger.claims) f.gave ∙ ap (λ (l : Ledger). l.claims) same-ledger)
           (made-sees g shard f.before es p q made stands.seen);
       left = left;
-      only = only-then g p q left (made-only g shard f.before es p q made own);
+      same = own-same g shard es p q made.same.number (numbers-of (parties_of g) p.number es own) (makes-more g shard f.before es p q made (long made.news made.mine) stands.seen.own left.fronts) left;
       starts = grows g shard f.before es p q made;
     }
 

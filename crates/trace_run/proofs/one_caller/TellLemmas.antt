@@ -176,7 +176,7 @@ act-dropping n x kept GivenBack = act-drop n (oldest_key x kept)
 act-dropping n x kept (PoolRefused call) = tt
 act-dropping n x kept NoEffect = tt
 
-act-of : (blocks : List Ptr) (kept : List KeptRead) (op : Op) (reply : Reply) (n : ℕ) → caller_of op ≡ Some n → AllByRecursion (IsActOf n) (acts_of blocks kept op reply)
+pub act-of : (blocks : List Ptr) (kept : List KeptRead) (op : Op) (reply : Reply) (n : ℕ) → caller_of op ≡ Some n → AllByRecursion (IsActOf n) (acts_of blocks kept op reply)
 act-of blocks kept (ops.Read n t x window) reply m his = subst (λ (k : ℕ). AllByRecursion (IsActOf k) (acts_of blocks kept (ops.Read n t x window) reply)) (some-number n m his) (go (slice_get blocks x))
   where
     go : (o : Option Ptr) → AllByRecursion (IsActOf n) (option_map_or (λ ptr. acts_of_read n t ptr (effect_of reply)) o [])
@@ -200,7 +200,7 @@ act-all n blocks kept (op ∷ os) (reply ∷ replies) own =
 pub act-lines : (n : ℕ) (blocks : List Ptr) (kept : List KeptRead) (os : List Op) (replies : List Reply) → AllByRecursion (λ op. caller_of op ≡ Some n) os → AllByRecursion (λ act. actor_of act ≡ n) (acts_of_all blocks kept os replies)
 act-lines n blocks kept os replies own = all-map (IsActOf n) (λ act. actor_of act ≡ n) _ (λ act is. is.0) (act-all n blocks kept os replies own)
 
-act-drops : (n : ℕ) (kept : List KeptRead) → AllByRecursion (IsActOf n) (acts_of_drops n kept)
+pub act-drops : (n : ℕ) (kept : List KeptRead) → AllByRecursion (IsActOf n) (acts_of_drops n kept)
 act-drops n [] = tt
 act-drops n (read ∷ reads) = all-append (IsActOf n) (acts_of_drop n read.held) _ (act-drop n read.held) (act-drops n reads)
 

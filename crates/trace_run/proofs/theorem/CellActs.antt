@@ -33,8 +33,7 @@ use Rattle.arc_table.specs.Seen.{IsNumberOrCell, IsSeenBy, events_in, pass_owner
 use Rattle.arc_table.specs.TableLaws.{get_front, within}
 use Rattle.arc_table.specs.Telling.{opening_of}
 use Rattle.arc_table.proofs.SeenLemmas.{events-at, events-map}
-use Rattle.trace_run.specs.CellEnds.{HasToldOthers}
-use Rattle.trace_run.specs.Deeds.{HasAct, Noted, act_of_event, acts_of_events, with_number}
+use Rattle.trace_run.specs.Deeds.{HasAct, HasToldOthers, Noted, act_of_event, acts_of_events, with_number}
 use Rattle.trace_run.specs.MadeLines.{made_in, owned_from}
 use Rattle.trace_run.specs.Making.{AreEventsSeen}
 use Rattle.trace_run.specs.RunWork.{AreMadeBy}

@@ -35,9 +35,9 @@ use Rattle.trace_text.specs.declared.trace.Trace.{Trace}
 use Rattle.trace_text.specs.Grammar.{IsFormed}
 use Rattle.trace_run.specs.declared.groups.Crew.{Crew}
 use Rattle.trace_run.specs.declared.ran.Ending.{Ending}
-use Rattle.trace_run.specs.CellEnds.{AreCellsOf, EndedCrew, HasSeenEnds, HasToldOthers, IsCellOf, done_by, end_entry, ends_from}
+use Rattle.trace_run.specs.CellEnds.{AreCellsOf, EndedCrew, HasSeenEnds, IsCellOf, done_by, end_entry, ends_from}
 use Rattle.trace_run.specs.RunWork.{only_ended}
-use Rattle.trace_run.specs.Deeds.{Noted, events_of_cell, events_there, lines_of_cell}
+use Rattle.trace_run.specs.Deeds.{HasToldOthers, Noted, events_of_cell, events_there, lines_of_cell}
 use Rattle.trace_run.specs.MadeLines.{made_from, made_of}
 use Rattle.trace_run.specs.callers.GroupRun.{HaveClosed, HaveStopped}
 use Rattle.trace_run.specs.callers.Groups.{AreDone}
@@ -234,7 +234,7 @@ module _ (cache : Cache) (olds news : List PartyPlace) (c : EndedCrew cache olds
       }
 
   shown : (n : ℕ) (x : PartyPlace) → get_elem? news n ≡ some x → x.number ≡ n → get_elem? ends.views n ≡ some x.own
-  shown n x at number = subst (λ (k : ℕ). get_elem? ends.views k ≡ some x.own) number (shown-at g ends.views news n x at ends.shown)
+  shown n x at number = subst (λ (k : ℕ). get_elem? ends.views k ≡ some x.own) number (shown-at ends.views news n x at ends.shown)
 
   last-at : get_elem? news (length c.parted) ≡ some z
   last-at = ap (λ (l : List PartyPlace). get_elem? l (length c.parted)) c.then ∙ get_last c.parted z

@@ -17,13 +17,14 @@ use Rattle.arc_table.specs.Seen.{events_in, seen_of}
 use Rattle.arc_table.specs.Telling.{opening_of}
 use Rattle.arc_table.specs.TableLaws.{get_front, within}
 use Rattle.arc_table.proofs.TableLaws.{get_last, get_more}
-use Rattle.trace_run.specs.CellEnds.{EndedCrew, HasToldOthers, ends_from}
-use Rattle.trace_run.specs.Deeds.{HasToldAll, Noted, acts_of_events, events_there}
-use Rattle.trace_run.specs.Meeting.{HasParted, HaveParted, IsLevel}
+use Rattle.trace_run.specs.CellEnds.{EndedCrew, ends_from}
+use Rattle.trace_run.specs.Deeds.{HasToldAll, HasToldOthers, Noted, acts_of_events, events_there}
+use Rattle.trace_run.specs.Meeting.{HasParted, HasSettled, HaveParted, IsLevel}
 use Rattle.trace_run.specs.callers.GroupRun.{HaveStopped}
 use Rattle.trace_run.proofs.callers.AfterEnds.{same-long}
 use Rattle.trace_run.proofs.theorem.EndLemmas.{stands-idle}
-use Rattle.trace_run.proofs.theorem.ToldLemmas.{others-still, others-told}
+use Rattle.trace_run.proofs.deeds.DeedLemmas.{others-still}
+use Rattle.trace_run.proofs.theorem.ToldLemmas.{others-told}
 use Rattle.trace_run.proofs.theorem.WorkEnds.{HasEndedWork, IsCallersAct}
 
 module _ {C : Type 0} (cache : Cache) (olds news : List (Place (Known C))) (c : EndedCrew cache olds news) (stopped : HaveStopped cache olds) (many : length c.callers ≡ cache.config.callers) where
@@ -66,7 +67,7 @@ module _ {C : Type 0} (cache : Cache) (olds news : List (Place (Known C))) (c : 
 
   module _ (did : ℕ → List Act) (noted : ℕ → List Noted) (feeds : (shard : ℕ) → List Event) (callers : (n : ℕ) (o : Place (Known C)) → get_elem? c.callers n ≡ some o → HasToldAll g (did n) (noted n) o)
       (acts : (n : ℕ) → n < g.callers → AllByRecursion (IsCallersAct g) (filter (λ act. actor_of act == n) (did n)))
-      (made : List Act) (had : List Noted) (told : HasToldOthers g made had c.feeder) (fed : (shard : ℕ) → shard < g.shards → own_events g.callers (seen_of g shard c.feeder) ≡ feeds shard)
+      (made : List Act) (had : List Noted) (told : HasToldOthers g made had c.feeder) (settled : HasSettled c.feeder) (fed : (shard : ℕ) → shard < g.shards → own_events g.callers (seen_of g shard c.feeder) ≡ feeds shard)
       (did-is : did g.callers ≡ made ++ acts_of_events c.ended.drops) (noted-is : noted g.callers ≡ had ++ ends_from g.callers 0 g.cells) where
     caller-ended : (n : ℕ) (o x : Place (Known C)) → n < g.callers → get_elem? c.callers n ≡ some o → HasParted cache c.ended.lines o x → HasEndedWork g (did n) (noted n) feeds n x
     caller-ended n o x below at parted =
@@ -84,6 +85,7 @@ module _ {C : Type 0} (cache : Cache) (olds news : List (Place (Known C))) (c : 
           acts = acts n;
           fed = λ is shard inside. absurd (omega (arith, is, below));
           others = others-still g (did n) (noted n) o x (parted.same [] s.1) (others-told g (did n) (noted n) o all);
+          settled = λ is. absurd (omega (arith, is, below));
         }
 
     feeder-ended : HasEndedWork g (did g.callers) (noted g.callers) feeds g.callers z
@@ -103,6 +105,7 @@ module _ {C : Type 0} (cache : Cache) (olds news : List (Place (Known C))) (c : 
               ∙ (ap (map (λ (x : Moment). x.event)) own ∙ (own-events-are g.callers (opening_of g) (seen_of g shard c.feeder) ∙ fed shard inside));
           others = subst (λ (x : List Act × List Noted). HasToldOthers g x.0 x.1 z)
               (λ i. (sym did-is i, (ap (λ (n : ℕ). had ++ ends_from n 0 g.cells) feeder-number ∙ sym noted-is) i)) (c.ended.told made had told);
+          settled = λ _. c.ended.settled feeder-number settled;
         }
 
     pub crew-ended : (n : ℕ) (p : Place (Known C)) → get_elem? news n ≡ some p → HasEndedWork g (did n) (noted n) feeds n p

@@ -30,10 +30,12 @@ use Rattle.turn_table.specs.Places.{AllShow, IsIn, Place, ShowAll, SomeHas}
 use Rattle.arc_table.specs.declared.item.Item.{Item}
 use Rattle.arc_table.specs.declared.item.Item.TheVariants as item
 use Rattle.arc_table.specs.declared.view.Known.{Known}
+use Rattle.arc_table.specs.declared.view.Ledger.{Ledger}
 use Rattle.arc_table.specs.Cache.{Cache}
 use Rattle.arc_table.specs.pact.Counted.{readings_of, shard_at}
 use Rattle.arc_table.specs.Ended.{Ended, Ends}
-use Rattle.arc_table.specs.Geometry.{IsCell, cell_number, numbers_of, parties_of, shard_turn}
+use Rattle.arc_table.specs.Fronts.{list_at}
+use Rattle.arc_table.specs.Geometry.{IsCell, IsShard, cell_number, numbers_of, parties_of, shard_turn}
 use Rattle.arc_table.specs.Items.{Meanings, shard_in}
 use Rattle.arc_table.specs.pact.Logged.{IsSoundLog}
 use Rattle.arc_table.specs.pact.Scene.{Scene}
@@ -41,7 +43,7 @@ use Rattle.arc_table.proofs.OpeningLaws.{opening_sound}
 use Rattle.arc_table.specs.Telling.{opening_of}
 use Rattle.trace_run.specs.KeptBlocks.{IsIdle}
 use Rattle.arc_table.specs.Seen.{turn_of}
-use Rattle.arc_table.specs.TableLaws.{get_front}
+use Rattle.arc_table.specs.TableLaws.{get_front, within}
 use Rattle.arc_table.proofs.TableLaws.{there}
 use Rattle.trace_run.proofs.theorem.CloseLemmas.{get-map, value-at}
 use Rattle.trace_run.proofs.DropLemmas.{all-items}
@@ -176,6 +178,15 @@ module _ {C : Type 0} (m : Meanings C) (cache : Cache) (ps : List (Place (Known 
 
   replay-is : replay (opening_of g) l.history ≡ l.now
   replay-is = ap (λ (s : PlainShard). replay s l.history) (sym sound.opening) ∙ sound.replayed.replayed
+
+  -- the feeder has settled all that it picked there
+  pub settled-picked : (w : Known C) → get_elem? ends.views g.callers ≡ some w → list_at (turn_of g i) w.ledger.picked ≡ [] → l.now.picked ≡ []
+  settled-picked w shown settled =
+      let inside : i < g.shards = subst (λ (n : ℕ). i < n) ends.shards (within e.shards i l at) in
+      let is_shard : IsShard g (turn_of g i) = (omega arith, omega (arith, inside)) in
+      ap (λ (v : Item C). (shard_in g v).picked) (sym shard-now)
+      ∙ (subst (λ (c : Config). (shard_in c (scene.now (turn_of g i))).picked ≡ list_at (turn_of g i) (scene.ledger c.callers).picked) config (ends.pact.counted.picked (turn_of g i) (subst (λ (c : Config). IsShard c (turn_of g i)) (sym config) is_shard))
+      ∙ (ap (λ (x : Ledger). list_at (turn_of g i) x.picked) (sym (ends.pact.attached.views g.callers w shown).ledger) ∙ settled))
 
   -- the feeder made no pick
   pub unfed-picked : AllByRecursion IsUnfed l.history → l.now.picked ≡ []

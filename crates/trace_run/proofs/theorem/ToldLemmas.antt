@@ -17,8 +17,7 @@ use Rattle.arc_table.specs.declared.view.Mine.{Mine}
 use Rattle.arc_table.specs.Fronts.{front_of}
 use Rattle.arc_table.specs.Geometry.{IsCell}
 use Rattle.arc_table.specs.Seen.{events_in, turn_of}
-use Rattle.trace_run.specs.CellEnds.{HasToldOthers}
-use Rattle.trace_run.specs.Deeds.{HasAct, HasToldAll, Noted, SameMade, acts_of_events, events_there, lines_of_cell, with_number}
+use Rattle.trace_run.specs.Deeds.{HasAct, HasToldAll, HasToldOthers, Noted, acts_of_events, events_there, lines_of_cell, with_number}
 use Rattle.trace_run.specs.MadeLines.{is_listed, made_from, made_in, made_of}
 use Rattle.trace_run.specs.Making.{MadeItsOwn}
 use Rattle.trace_run.proofs.deeds.CellsDone.{lines-append}
@@ -50,14 +49,6 @@ own-numbered turn place n c mines (x ∷ xs) differs each = go (cases_true (is_l
 module _ {C : Type 0} (g : Config) where
   pub others-told : (did : List Act) (noted : List Noted) (p : Place (Known C)) → HasToldAll g did noted p → HasToldOthers g did noted p
   others-told did noted p h = record { cells = h.cells; kinds = h.kinds; entries = h.entries }
-
-  -- nothing more was made with other numbers, and nothing of a cell
-  pub others-still : (did : List Act) (noted : List Noted) (p q : Place (Known C)) → SameMade g p q → HasToldOthers g did noted p → HasToldOthers g did noted q
-  others-still did noted p q same h = record {
-    cells = λ shard c other. let differs : c ≢ p.number = λ is. other (is ∙ sym same.number) in h.cells shard c differs ∙ ap acts_of_events (sym (same.cells shard c differs));
-    kinds = λ shard c other. let differs : c ≢ p.number = λ is. other (is ∙ sym same.number) in subst (AllByRecursion HasAct) (sym (same.cells shard c differs)) (h.kinds shard c differs);
-    entries = λ i in_range. same.entries i in_range ∙ h.entries i in_range;
-  }
 
   -- events of a turn of a cell with the number d, and what was done to cells
   pub others-turn : (did : List Act) (had more : List Noted) (es : List Event) (d : ℕ) (p q : Place (Known C)) → q.number ≡ p.number → AreTurnEvents p.number d es

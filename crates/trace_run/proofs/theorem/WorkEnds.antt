@@ -1,6 +1,6 @@
 -- A closed cache explains the replies of its callers and what its run did beside them, whatever was done to its cells.
 use Rattle.std.proofs.Common.{◌≡◌, ◌≢◌, ℕ, zero, suc, ◌+◌, ◌<◌, ◌≤◌, ◌==◌, ◌||◌, nat_le, nat_lt, Bool, true, false, IsTrue, List, [], ◌∷◌, ◌++◌, append-nil, length, map, refl, sym, ap, ◌∙◌, subst, inl, inr, arith, eq-eqb, ne_eqb}
-use Rattle.std.specs.Prelude.{filter}
+use Rattle.std.specs.Prelude.{filter, sum_by}
 use Rattle.std.specs.List.{AllByRecursion}
 use Rattle.std.proofs.lemmas.Bool.{cases_lt, eqb-true, false≢true}
 use Rattle.std.proofs.lemmas.Bool.Decides.{nat_tests}
@@ -21,7 +21,7 @@ use Rattle.arc_core.specs.declared.event.Event.TheVariants.{Pass, Hit, Miss, Arr
 use Rattle.arc_core.specs.declared.served.Restored.{Restored}
 use Rattle.arc_core.specs.declared.served.Served.{Served}
 use Rattle.arc_core.specs.declared.served.Served.TheVariants as served
-use Rattle.arc_core.specs.Operations.{Act, AreEvents, Fails, GivesBack, HoldEveryCallOnce, IsAtRest, IsServed, Keeps, Loads, MakesPrivate, Moment, Reads, RunsOut, RunsOutAtDbuf, Tell, Writes, act_key, actor_of, acts_in, are_passes_placed, has_its_number, is_cell_of, is_pass, moments, number_of, own_events, own_moments}
+use Rattle.arc_core.specs.Operations.{Act, AreEvents, Fails, GivesBack, HoldEveryCallOnce, IsAtRest, IsServed, Keeps, Loads, MakesPrivate, Moment, Reads, RunsOut, RunsOutAtDbuf, Tell, Writes, act_key, actor_of, acts_in, are_passes_placed, has_its_number, is_cell_of, is_pass, is_pool_read, moments, number_of, own_events, own_moments, pool_reads}
 use Rattle.arc_core.specs.PlainShard.{PlainShard}
 use Rattle.arc_core.specs.Replay.{is_legal_history, replay}
 use Rattle.arc_core.specs.ShardLog.{ShardLog}
@@ -31,10 +31,11 @@ use Rattle.arc_table.specs.declared.about.About.{About}
 use Rattle.arc_table.specs.declared.view.Known.{Known}
 use Rattle.arc_table.specs.Cache.{Cache}
 use Rattle.arc_table.specs.Ended.{Ended, Ends}
+use Rattle.arc_table.specs.Fronts.{StartsWith}
 use Rattle.arc_table.specs.Geometry.{numbers_of, parties_of}
 use Rattle.arc_table.specs.Items.{Meanings}
 use Rattle.arc_table.specs.pact.Logged.{IsSoundLog}
-use Rattle.arc_table.specs.Seen.{Finds, HasSeenBy, IsNumberOrCell, pass_owner, seen_of}
+use Rattle.arc_table.specs.Seen.{Finds, HasSeenBy, IsNumberOrCell, pass_owner, seen_of, turn_of}
 use Rattle.arc_table.specs.TableLaws.{within}
 use Rattle.arc_table.specs.Telling.{opening_of}
 use Rattle.arc_table.specs.Told.{IsTold}
@@ -44,27 +45,30 @@ use Rattle.arc_table.proofs.TableLaws.{there}
 use Rattle.arc_check.specs.Judging.{end_of}
 use Rattle.trace_text.specs.declared.op.Op.{Op}
 use Rattle.trace_text.specs.declared.reply.Reply.{Reply}
-use Rattle.trace_run.specs.CellEnds.{HasToldOthers}
-use Rattle.trace_run.specs.Deeds.{HasAct, Noted, acts_of_events, events_there, with_number}
+use Rattle.trace_run.specs.Deeds.{HasAct, HasToldOthers, Noted, acts_of_events, events_there, with_number}
 use Rattle.trace_run.specs.Explaining.{BeginsWith, EndsWith, Explain, drops_at_end}
 use Rattle.trace_run.specs.KeptBlocks.{IsIdle}
 use Rattle.trace_run.specs.Making.{AreEventsSeen}
+use Rattle.trace_run.specs.Meeting.{HasSettled}
 use Rattle.trace_run.specs.Restores.{events_by_feeder, restores_in}
 use Rattle.trace_run.specs.RunWork.{AreMadeBy, RunWork, acts_by, acts_of_cells, noted_by, own_acts}
-use Rattle.trace_run.proofs.one_caller.TellLemmas.{all-append, is_given}
+use Rattle.trace_run.proofs.one_caller.TellLemmas.{all-append, all-map}
 use Rattle.trace_run.proofs.deeds.DeedLemmas.{acts-append}
 use Rattle.trace_run.proofs.theorem.CellActs.{HasMade, acts-else, acts-here, acts-low, cell-tells, made-by, number-there, owner-party, owner-seen, pass-named, pass-own, pass-placed, stands-there}
 use Rattle.trace_run.proofs.theorem.CloseLemmas.{closed-finds, closed-legal, closed-now, closed-sound, closed-told}
-use Rattle.trace_run.proofs.theorem.EndLemmas.{all-logs, ends-of-logs, log-at, shown-at}
-use Rattle.trace_run.proofs.theorem.HistoryLemmas.{IsUnfed, all-events, own-events}
+use Rattle.trace_run.specs.callers.Together.{over_callers, reads_of_caller}
+use Rattle.trace_run.proofs.callers.GroupCounts.{all-reads}
+use Rattle.trace_run.proofs.theorem.EndLemmas.{all-logs, ends-of-logs, history-of, log-at, shown-at}
+use Rattle.trace_run.proofs.theorem.FeederKinds.{feeder-kinds, is_of_feeder}
+use Rattle.trace_run.proofs.theorem.HistoryLemmas.{all-events, own-events}
 use Rattle.trace_run.proofs.theorem.PlacedLemmas.{all-by-place, placed-of}
-use Rattle.trace_run.proofs.theorem.RestLemmas.{closed-rests, unfed-picked}
+use Rattle.trace_run.proofs.theorem.RestLemmas.{closed-rests, settled-picked}
 
 -- ---- which events may stand in a history
 
--- its number may stand on it, and it is none of a feed's, but a capacity that is given or a key that is restored
+-- its number may stand on it
 abbrev pub IsRunEvent : Config → Event → Type 0
-IsRunEvent g e = IsTrue (has_its_number g.callers g.cells e) × IsUnfed e
+IsRunEvent g e = IsTrue (has_its_number g.callers g.cells e)
 
 -- an act of a caller's own number: a read, a drop, or a load whose hold goes to a cell
 abbrev pub IsCallersAct : Config → Act → Type 0
@@ -87,13 +91,13 @@ module _ (g : Config) where
   or-right false b h = h
 
   served-runs : (n t : ℕ) (ptr : Ptr) (from : Served) (rest es : List Event) → n < g.callers → AllByRecursion (IsRunEvent g) rest → IsServed n t ptr from rest es → AllByRecursion (IsRunEvent g) es
-  served-runs n t ptr served.Hit rest es low all is = let lt : nat_lt n g.callers ≡ true = grind (arith, nat_tests, low) in subst (AllByRecursion (IsRunEvent g)) (sym is) ((lt, inl refl), all)
-  served-runs n t ptr served.Pool rest es low all is = let lt : nat_lt n g.callers ≡ true = grind (arith, nat_tests, low) in subst (AllByRecursion (IsRunEvent g)) (sym is) ((lt, inl refl), ((lt, inl refl), all))
-  served-runs n t ptr served.L2 rest es low all is = let lt : nat_lt n g.callers ≡ true = grind (arith, nat_tests, low) in subst (AllByRecursion (IsRunEvent g)) (sym is) ((lt, inl refl), ((lt, inl refl), all))
-  served-runs n t ptr served.Past rest es low all is = let lt : nat_lt n g.callers ≡ true = grind (arith, nat_tests, low) in subst (AllByRecursion (IsRunEvent g)) (sym is.1) ((lt, inl refl), tt)
+  served-runs n t ptr served.Hit rest es low all is = let lt : nat_lt n g.callers ≡ true = grind (arith, nat_tests, low) in subst (AllByRecursion (IsRunEvent g)) (sym is) (lt, all)
+  served-runs n t ptr served.Pool rest es low all is = let lt : nat_lt n g.callers ≡ true = grind (arith, nat_tests, low) in subst (AllByRecursion (IsRunEvent g)) (sym is) (lt, (lt, all))
+  served-runs n t ptr served.L2 rest es low all is = let lt : nat_lt n g.callers ≡ true = grind (arith, nat_tests, low) in subst (AllByRecursion (IsRunEvent g)) (sym is) (lt, (lt, all))
+  served-runs n t ptr served.Past rest es low all is = let lt : nat_lt n g.callers ≡ true = grind (arith, nat_tests, low) in subst (AllByRecursion (IsRunEvent g)) (sym is.1) (lt, tt)
 
   drop-runs : (n : ℕ) (k : Key) → n < g.callers → IsRunEvent g (Drop n k)
-  drop-runs n k low = let lt : nat_lt n g.callers ≡ true = grind (arith, nat_tests, low) in (either (nat_lt n g.callers) (is_cell_of g.callers g.cells n) lt, inl refl)
+  drop-runs n k low = let lt : nat_lt n g.callers ≡ true = grind (arith, nat_tests, low) in either (nat_lt n g.callers) (is_cell_of g.callers g.cells n) lt
 
   act-runs : (act : Act) (es : List Event) → IsCallersAct g act → AreEvents act es → AllByRecursion (IsRunEvent g) es
   act-runs (Reads n t ptr from) es low is = served-runs n t ptr from (Drop n ptr.key ∷ []) es low (drop-runs n ptr.key low, tt) is
@@ -101,9 +105,9 @@ module _ (g : Config) where
   act-runs (GivesBack n k) es low is = subst (AllByRecursion (IsRunEvent g)) (sym is) (drop-runs n k low, tt)
   act-runs (Loads n t ptr from cell) es of is =
       let lt : nat_lt n g.callers ≡ true = let low = of.0 in grind (arith, nat_tests, low) in
-      served-runs n t ptr from (Hand n ptr.key cell ∷ []) es of.0 ((both (nat_lt n g.callers) (is_cell_of g.callers g.cells cell) lt of.1, inl refl), tt) is
-  act-runs (Fails n t ptr) es low (inl is) = let lt : nat_lt n g.callers ≡ true = grind (arith, nat_tests, low) in subst (AllByRecursion (IsRunEvent g)) (sym is) ((lt, inl refl), ((lt, inl refl), tt))
-  act-runs (Fails n t ptr) es low (inr is) = let lt : nat_lt n g.callers ≡ true = grind (arith, nat_tests, low) in subst (AllByRecursion (IsRunEvent g)) (sym is.1) ((lt, inl refl), tt)
+      served-runs n t ptr from (Hand n ptr.key cell ∷ []) es of.0 (both (nat_lt n g.callers) (is_cell_of g.callers g.cells cell) lt of.1, tt) is
+  act-runs (Fails n t ptr) es low (inl is) = let lt : nat_lt n g.callers ≡ true = grind (arith, nat_tests, low) in subst (AllByRecursion (IsRunEvent g)) (sym is) (lt, (lt, tt))
+  act-runs (Fails n t ptr) es low (inr is) = let lt : nat_lt n g.callers ≡ true = grind (arith, nat_tests, low) in subst (AllByRecursion (IsRunEvent g)) (sym is.1) (lt, tt)
   act-runs (RunsOut n t ptr) es of is = absurd of
   act-runs (RunsOutAtDbuf n t ptr cell) es of is = absurd of
   act-runs (MakesPrivate cell k) es of is = absurd of
@@ -133,11 +137,11 @@ module _ (g : Config) where
   cell-runs (Miss n k t) has above below = absurd (never-act has.0 has.1)
   cell-runs (Arrive n k d from) has above below = absurd (never-act has.0 has.1)
   cell-runs (Fail n k at) has above below = absurd (never-act has.0 has.1)
-  cell-runs (Drop n k) has above below = (or-right (nat_lt n g.callers) (is_cell_of g.callers g.cells n) (cell-of-run n above below), inl refl)
+  cell-runs (Drop n k) has above below = or-right (nat_lt n g.callers) (is_cell_of g.callers g.cells n) (cell-of-run n above below)
   cell-runs (Past n k kept) has above below = absurd (never-act has.0 has.1)
   cell-runs (Hand n k to) has above below = absurd (never-act has.0 has.1)
-  cell-runs (Insert n k d t) has above below = (cell-of-run n above below, inl refl)
-  cell-runs (Release n k sole) has above below = (cell-of-run n above below, inl refl)
+  cell-runs (Insert n k d t) has above below = cell-of-run n above below
+  cell-runs (Release n k sole) has above below = cell-of-run n above below
   cell-runs (Pick n k) has above below = absurd (never-act has.0 has.1)
   cell-runs (FeedEnd n) has above below = absurd (never-act has.0 has.1)
   cell-runs (Set n k place) has above below = absurd (never-act has.0 has.1)
@@ -151,7 +155,7 @@ module _ (g : Config) where
   pass-runs (Pass n k owner) pass mine named =
       let first : nat_le n g.callers ≡ true = grind (arith, nat_tests, mine) in
       let last : nat_le owner g.callers ≡ true = grind (arith, nat_tests, named) in
-      (both (nat_le n g.callers) (nat_le owner g.callers) first last, inl refl)
+      both (nat_le n g.callers) (nat_le owner g.callers) first last
   pass-runs (Hit n k t) pass mine named = absurd (false≢true pass)
   pass-runs (Miss n k t) pass mine named = absurd (false≢true pass)
   pass-runs (Arrive n k d from) pass mine named = absurd (false≢true pass)
@@ -169,25 +173,45 @@ module _ (g : Config) where
   pass-runs (Restore n k place d) pass mine named = absurd (false≢true pass)
   pass-runs (Resize n c) pass mine named = absurd (false≢true pass)
 
-  -- what the feeder gives
-  given-runs : (e : Event) → is_given e ≡ true → number_of e ≡ g.callers → IsRunEvent g e
-  given-runs (Pass n k owner) given his = absurd (false≢true given)
-  given-runs (Hit n k t) given his = absurd (false≢true given)
-  given-runs (Miss n k t) given his = absurd (false≢true given)
-  given-runs (Arrive n k d from) given his = absurd (false≢true given)
-  given-runs (Fail n k at) given his = absurd (false≢true given)
-  given-runs (Drop n k) given his = absurd (false≢true given)
-  given-runs (Past n k kept) given his = absurd (false≢true given)
-  given-runs (Hand n k to) given his = absurd (false≢true given)
-  given-runs (Insert n k d t) given his = absurd (false≢true given)
-  given-runs (Release n k sole) given his = absurd (false≢true given)
-  given-runs (Pick n k) given his = absurd (false≢true given)
-  given-runs (FeedEnd n) given his = absurd (false≢true given)
-  given-runs (Set n k place) given his = absurd (false≢true given)
-  given-runs (Leave n k why) given his = absurd (false≢true given)
-  given-runs (Clear n k) given his = absurd (false≢true given)
-  given-runs (Restore n k place d) given his = (eq-eqb n g.callers his, inr refl)
-  given-runs (Resize n c) given his = (eq-eqb n g.callers his, inr refl)
+  -- the feeder's own
+  feeder-runs : (e : Event) → is_of_feeder e ≡ true → number_of e ≡ g.callers → IsRunEvent g e
+  feeder-runs (Pass n k owner) of his = absurd (false≢true of)
+  feeder-runs (Hit n k t) of his = absurd (false≢true of)
+  feeder-runs (Miss n k t) of his = absurd (false≢true of)
+  feeder-runs (Arrive n k d from) of his = absurd (false≢true of)
+  feeder-runs (Fail n k at) of his = absurd (false≢true of)
+  feeder-runs (Drop n k) of his = absurd (false≢true of)
+  feeder-runs (Past n k kept) of his = absurd (false≢true of)
+  feeder-runs (Hand n k to) of his = absurd (false≢true of)
+  feeder-runs (Insert n k d t) of his = absurd (false≢true of)
+  feeder-runs (Release n k sole) of his = absurd (false≢true of)
+  feeder-runs (Pick n k) of his = eq-eqb n g.callers his
+  feeder-runs (FeedEnd n) of his = eq-eqb n g.callers his
+  feeder-runs (Set n k place) of his = eq-eqb n g.callers his
+  feeder-runs (Leave n k why) of his = eq-eqb n g.callers his
+  feeder-runs (Clear n k) of his = eq-eqb n g.callers his
+  feeder-runs (Restore n k place d) of his = eq-eqb n g.callers his
+  feeder-runs (Resize n c) of his = eq-eqb n g.callers his
+
+  -- one that stands for a read of the pool is a caller's
+  run-read : (e : Event) → IsRunEvent g e → is_pool_read e ≡ true → number_of e < g.callers
+  run-read (Arrive n k d from) runs read = let lt : nat_lt n g.callers ≡ true = runs in grind (arith, nat_tests, lt)
+  run-read (Fail n k at) runs read = let lt : nat_lt n g.callers ≡ true = runs in grind (arith, nat_tests, lt)
+  run-read (Past n k kept) runs read = let lt : nat_lt n g.callers ≡ true = runs in grind (arith, nat_tests, lt)
+  run-read (Pass n k owner) runs read = absurd (false≢true read)
+  run-read (Hit n k t) runs read = absurd (false≢true read)
+  run-read (Miss n k t) runs read = absurd (false≢true read)
+  run-read (Drop n k) runs read = absurd (false≢true read)
+  run-read (Hand n k to) runs read = absurd (false≢true read)
+  run-read (Insert n k d t) runs read = absurd (false≢true read)
+  run-read (Release n k sole) runs read = absurd (false≢true read)
+  run-read (Pick n k) runs read = absurd (false≢true read)
+  run-read (FeedEnd n) runs read = absurd (false≢true read)
+  run-read (Set n k place) runs read = absurd (false≢true read)
+  run-read (Leave n k why) runs read = absurd (false≢true read)
+  run-read (Clear n k) runs read = absurd (false≢true read)
+  run-read (Restore n k place d) runs read = absurd (false≢true read)
+  run-read (Resize n c) runs read = absurd (false≢true read)
 
 -- ---- acts with the callers' own numbers
 
@@ -263,23 +287,15 @@ module _ (f : Key → ℕ) (g : Config) where
 none-own : (n : ℕ) (s : PlainShard) (es : List Event) → ((y : ℕ) (ev : Event) → get_elem? es y ≡ some ev → number_of ev ≢ n) → own_events n es ≡ []
 none-own n s es none = no-own-events n s es (no-own-moments n s es none)
 
-all-filter : {X : Type 0} (P : X → Type 0) (test : X → Bool) (xs : List X) → AllByRecursion P xs → AllByRecursion P (filter test xs)
+pub all-filter : {X : Type 0} (P : X → Type 0) (test : X → Bool) (xs : List X) → AllByRecursion P xs → AllByRecursion P (filter test xs)
 all-filter P test [] all = tt
 all-filter P test (x ∷ xs) all = elim (cases_true (test x)) [
   | inl passes ↦ rw passes (all.0, all-filter P test xs all.1)
   | inr fails ↦ rw fails (all-filter P test xs all.1)
 ]
 
-all-second : (g : Config) (es : List Event) → AllByRecursion (IsRunEvent g) es → AllByRecursion IsUnfed es
-all-second g [] all = tt
-all-second g (x ∷ es) all = (all.0.1, all-second g es all.1)
-
-all-first : (g : Config) (es : List Event) → AllByRecursion (IsRunEvent g) es → AllByRecursion (λ ev. IsTrue (has_its_number g.callers g.cells ev)) es
-all-first g [] all = tt
-all-first g (x ∷ es) all = (all.0.0, all-first g es all.1)
-
 -- What is so of a party at the end of a run: it has this number, has seen all that it made and has given all back. What a caller did with its own number is told, and the
--- feeder made these events with its own; what either did with other numbers and to cells is told.
+-- feeder made these events with its own, and settled all that it picked; what either did with other numbers and to cells is told.
 pub record HasEndedWork {C : Type 0} (g : Config) (did : List Act) (noted : List Noted) (feeds : (shard : ℕ) → List Event) (n : ℕ) (p : Place (Known C)) : Type 0 where
   pub number : p.number ≡ n
   pub config : p.own.about.config ≡ g
@@ -289,11 +305,11 @@ pub record HasEndedWork {C : Type 0} (g : Config) (did : List Act) (noted : List
   pub acts : n < g.callers → AllByRecursion (IsCallersAct g) (filter (λ act. actor_of act == n) did)
   pub fed : n ≡ g.callers → (shard : ℕ) → shard < g.shards → own_events n (seen_of g shard p) ≡ feeds shard
   pub others : HasToldOthers g did noted p
+  pub settled : n ≡ g.callers → HasSettled p
 
 module _ {C : Type 0} (m : Meanings C) (cache : Cache) (restored : List Restored) (blocks : List Ptr) (ops : List Op) (work : RunWork) (replies : List Reply) (ps : List (Place (Known C))) (e : Ended C) (ends : Ends m cache ps e)
     (long : length ps ≡ parties_of cache.config)
-    (ended : (n : ℕ) (p : Place (Known C)) → get_elem? ps n ≡ some p → HasEndedWork cache.config (acts_by cache.config blocks work n) (noted_by cache.config work n) (events_by_feeder cache.config restored ops replies) n p)
-    (given : (shard : ℕ) → AllByRecursion (λ ev. is_given ev ≡ true) (events_by_feeder cache.config restored ops replies shard)) where
+    (ended : (n : ℕ) (p : Place (Known C)) → get_elem? ps n ≡ some p → HasEndedWork cache.config (acts_by cache.config blocks work n) (noted_by cache.config work n) (events_by_feeder cache.config restored ops replies work.feeds) n p) where
   abbrev settled : Config
   settled = cache.config
 
@@ -314,7 +330,7 @@ module _ {C : Type 0} (m : Meanings C) (cache : Cache) (restored : List Restored
   first-party = omega arith
 
   view-of : (n : ℕ) (p : Place (Known C)) → get_elem? ps n ≡ some p → get_elem? ends.views p.number ≡ some p.own
-  view-of n p at = shown-at settled ends.views ps n p at ends.shown
+  view-of n p at = shown-at ends.views ps n p at ends.shown
 
   seen-by : (n : ℕ) (p : Place (Known C)) → get_elem? ps n ≡ some p → HasSeenBy (IsNumberOrCell settled) settled (bare p)
   seen-by n p at = record { own = (ended n p at).seen; joined = tt }
@@ -359,7 +375,7 @@ module _ {C : Type 0} (m : Meanings C) (cache : Cache) (restored : List Restored
         (closed-told m cache ps e ends i l at (bare p.0) (view-of n p.0 p.1, tt) refl refl tt h.config (seen-by n p.0 p.1) (did n) (h.told below))
 
     -- the feeder made its events with its own number and no others
-    feeder-fed : own_events settled.callers l.history ≡ events_by_feeder settled restored ops replies i
+    feeder-fed : own_events settled.callers l.history ≡ events_by_feeder settled restored ops replies work.feeds i
     feeder-fed =
         let p = party settled.callers (omega arith) in
         let h = ended settled.callers p.0 p.1 in
@@ -368,11 +384,11 @@ module _ {C : Type 0} (m : Meanings C) (cache : Cache) (restored : List Restored
         ap (own_events settled.callers) f.whole
         ∙ (filter-append _ (seen_of settled i p.0) f.rest
         ∙ ((λ k. h.fed refl i inside k ++ none-own settled.callers (opening_of settled) f.rest (λ y ev there_is same. f.others y ev there_is (same ∙ sym h.number)) k)
-        ∙ append-nil (events_by_feeder settled restored ops replies i)))
+        ∙ append-nil (events_by_feeder settled restored ops replies work.feeds i)))
 
-    feeder-made : AllByRecursion (λ (n : Moment). is_given n.event ≡ true) (own_moments settled.callers (moments (opening_of settled) l.history))
-    feeder-made = all-events (λ ev. is_given ev ≡ true) (own_moments settled.callers (moments (opening_of settled) l.history))
-        (subst (AllByRecursion (λ ev. is_given ev ≡ true)) (sym (own-events-are settled.callers (opening_of settled) l.history ∙ feeder-fed)) (given i))
+    feeder-made : AllByRecursion (λ (n : Moment). is_of_feeder n.event ≡ true) (own_moments settled.callers (moments (opening_of settled) l.history))
+    feeder-made = all-events (λ ev. is_of_feeder ev ≡ true) (own_moments settled.callers (moments (opening_of settled) l.history))
+        (subst (AllByRecursion (λ ev. is_of_feeder ev ≡ true)) (sym (own-events-are settled.callers (opening_of settled) l.history ∙ feeder-fed)) (feeder-kinds settled restored ops replies work.feeds i))
 
     each-there : (n : ℕ) → n < settled.callers → AllByRecursion (IsCallersAct settled) (acts_in shard_is i n (did n))
     each-there n below =
@@ -391,7 +407,7 @@ module _ {C : Type 0} (m : Meanings C) (cache : Cache) (restored : List Restored
         | inr above ↦ elim (cases_lt (number_of ev) (parties_of settled)) [
           | inl feeder ↦
               let his : number_of ev ≡ settled.callers = omega (arith, above, feeder) in
-              given-runs settled ev (own-events (λ y. is_given y ≡ true) settled.callers (opening_of settled) l.history feeder-made x ev here his none) his
+              feeder-runs settled ev (own-events (λ y. is_of_feeder y ≡ true) settled.callers (opening_of settled) l.history feeder-made x ev here his none) his
           | inr cell ↦ cell-runs settled ev (stands-there m cache ps e ends config did (noted_by settled work) made i l at x ev here cell) cell
               (number-there m cache ps e ends config did (noted_by settled work) made i l at x ev here)
         ]
@@ -407,7 +423,9 @@ module _ {C : Type 0} (m : Meanings C) (cache : Cache) (restored : List Restored
     rests : ((j : ℕ) (c : C) → get_elem? e.cells j ≡ some c → m.holds c ≡ []) → IsAtRest l.now
     rests emptied = closed-rests m cache ps e ends i l at config sound
         (λ n below. let p = party n below in let h = ended n p.0 p.1 in (p.0.own, subst (λ (k : ℕ). get_elem? ends.views k ≡ some p.0.own) h.number (view-of n p.0 p.1), h.idle)) emptied
-        (unfed-picked m cache ps e ends i l at config sound (all-second settled l.history all-run))
+        (let p = party settled.callers (omega arith) in
+        let h = ended settled.callers p.0 p.1 in
+        settled-picked m cache ps e ends i l at config sound p.0.own (subst (λ (k : ℕ). get_elem? ends.views k ≡ some p.0.own) h.number (view-of settled.callers p.0 p.1)) (h.settled refl (turn_of settled i)))
 
   -- where all parties have seen the same, the histories are that
   module _ (fronts : ℕ → List Event) (level : (n : ℕ) (p : Place (Known C)) → get_elem? ps n ≡ some p → (shard : ℕ) → seen_of settled shard p ≡ fronts shard) (i : ℕ) (l : ShardLog) (at : get_elem? e.shards i ≡ some l) where
@@ -460,13 +478,29 @@ module _ {C : Type 0} (m : Meanings C) (cache : Cache) (restored : List Restored
       later : (n c : ℕ) → c ≤ n → n ≢ c → c + 1 ≤ n
       later n c above differs = omega arith
 
-  every-call : HoldEveryCallOnce settled shard_is (opening_of settled) all-acts (events_by_feeder settled restored ops replies) histories
+  -- What a caller did with its own number stands in each history.
+  pub own-told : (n : ℕ) → n < settled.callers → (i : ℕ) (h : List Event) → get_elem? histories i ≡ some h → Tell (acts_in shard_is i n (did n)) (own_moments n (moments (opening_of settled) h))
+  own-told n below i h at =
+      let log = history-of e.shards i h at in
+      subst (λ (es : List Event). Tell (acts_in shard_is i n (did n)) (own_moments n (moments (opening_of settled) es))) log.2 (caller-told i log.0 log.1 n below)
+
+  -- A history begins with what a party has seen of it.
+  pub begins-seen : (i : ℕ) (l : ShardLog) → get_elem? e.shards i ≡ some l → (n : ℕ) (p : Place (Known C)) → get_elem? ps n ≡ some p → StartsWith l.history (seen_of settled i p)
+  begins-seen i l at n p is = let f = finds i l at n p is in (f.rest, f.whole)
+
+  -- The callers' events stand for all reads of the pool.
+  pub reads-counted : over_callers settled.callers (λ n. reads_of_caller n histories) ≡ sum_by pool_reads histories
+  reads-counted = all-reads settled.callers histories
+      (all-logs (AllByRecursion (λ ev. is_pool_read ev ≡ true → number_of ev < settled.callers)) e.shards
+      (λ i l at. all-map (IsRunEvent settled) (λ ev. is_pool_read ev ≡ true → number_of ev < settled.callers) l.history (λ ev runs. run-read settled ev runs) (all-run i l at)))
+
+  every-call : HoldEveryCallOnce settled shard_is (opening_of settled) all-acts (events_by_feeder settled restored ops replies work.feeds) histories
   every-call = record {
     told = λ i n inside differs.
         let h = log-at e.shards i inside in
         subst (λ (es : List Event). Tell (acts_in shard_is i n all-acts) (own_moments n (moments (opening_of settled) es))) (sym h.2) (tells i h.0 h.1 n differs);
     fed = λ i inside. let h = log-at e.shards i inside in ap (own_events settled.callers) h.2 ∙ feeder-fed i h.0 h.1;
-    numbers = all-logs (AllByRecursion (λ ev. IsTrue (has_its_number settled.callers settled.cells ev))) e.shards (λ i l at. all-first settled l.history (all-run i l at));
+    numbers = all-logs (AllByRecursion (λ ev. IsTrue (has_its_number settled.callers settled.cells ev))) e.shards (λ i l at. all-run i l at);
     passes = all-logs (λ h. IsTrue (are_passes_placed h)) e.shards (λ i l at. placed i l at);
   }
 

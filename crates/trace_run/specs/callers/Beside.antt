@@ -1,5 +1,5 @@
 -- Callers that do the lines of a group at once, and beside them the feeder, which has the cache device meanwhile.
-use Rattle.std.specs.Prelude.{◌≤◌, ℕ, List, filter, length}
+use Rattle.std.specs.Prelude.{◌≡◌, ◌≤◌, ℕ, List, filter, length}
 use Rattle.blk_ptr.specs.declared.ptr.Ptr.{Ptr}
 use Rattle.vdev_io.specs.declared.device.CacheDev.{Ghosts}
 use Rattle.turn_table.specs.Places.{Place}
@@ -9,10 +9,11 @@ use Rattle.arc_table.specs.Items.{Meanings}
 use Rattle.trace_text.specs.declared.op.Op.{Op}
 use Rattle.trace_text.specs.declared.reply.Reply.{Reply}
 use Rattle.trace_run.specs.declared.device.Device.{Device}
+use Rattle.trace_run.specs.declared.device.Device.TheVariants as device
 use Rattle.trace_run.specs.Devices.{WasLent, lent_in}
 use Rattle.trace_run.specs.Feeds.{AreFedReplies, FeedDone, MadeFeedsOf, is_feed}
+use Rattle.trace_run.specs.Objects.{Line}
 use Rattle.trace_run.specs.callers.DeviceForks.{HaveRead}
-use Rattle.trace_run.specs.callers.InOrder.{AreInOrder}
 
 module _ {C D : Type 0} (m : Meanings C) (devices : Ghosts D) (cache : Cache) where
   -- The device was lent to callers; then these feeds were made, by the feeder's party, which was p and is q; and then it took back what was lent.
@@ -29,16 +30,21 @@ module _ {C D : Type 0} (m : Meanings C) (devices : Ghosts D) (cache : Cache) wh
     pub few : length feeds ≤ length (filter is_feed ops)
     pub used : LendsAndFeeds feeds old new p q
 
-  -- Callers did these lines, and were answered so; the lines `feed` among them are answered by these feeds.
-  pub record WorksBeside (blocks : List Ptr) (ops : List Op) (callers : ℕ) (replies : List (List Reply)) (fed : List Reply) (old new : Device D) (p q : Place (Known C)) : Type 0 where
+  -- Callers did their own lines, and asked the device for them; the lines `feed` among these are answered so, by these feeds.
+  pub record WorksBeside (blocks : List Ptr) (ops : List Op) (callers : ℕ) (own : ℕ → List Line) (fed : List Reply) (old new : Device D) (p q : Place (Known C)) : Type 0 where
     pub feeds : List FeedDone
     pub used : LendsAndFeeds feeds old new p q
     pub answered : AreFedReplies (lent_in old) (filter is_feed ops) feeds fed
-    pub read : HaveRead devices blocks ops callers replies (lent_in old) (lent_in used.lent) (lent_in used.later) (lent_in new)
+    pub read : HaveRead devices blocks callers own (lent_in old) (lent_in used.lent) (lent_in used.later) (lent_in new)
 
-  -- The same by the replies to all these lines in their order.
-  pub record WorksInOrder (blocks : List Ptr) (ops : List Op) (callers : ℕ) (merged : List Reply) (old new : Device D) (p q : Place (Known C)) : Type 0 where
-    pub replies : List (List Reply)
-    pub fed : List Reply
-    pub ordered : AreInOrder ops replies fed merged
-    pub works : WorksBeside blocks ops callers replies fed old new p q
+-- A device while groups are done: one that was not started is as it was; any other was read and fed, so it has its length and its kind.
+abbrev pub WasInUse : {D : Type 0} → Ghosts D → (old new : Device D) → Type 0
+WasInUse devices device.None device.None = Unit {0}
+WasInUse devices (device.Short old) (device.Short new) = new ≡ old
+WasInUse devices (device.Ready old) (device.Ready new) = (devices.size new.dev ≡ devices.size old.dev) × (devices.has_sectors new.dev ≡ devices.has_sectors old.dev)
+WasInUse devices device.None (device.Short new) = ⊥
+WasInUse devices device.None (device.Ready new) = ⊥
+WasInUse devices (device.Short old) device.None = ⊥
+WasInUse devices (device.Short old) (device.Ready new) = ⊥
+WasInUse devices (device.Ready old) device.None = ⊥
+WasInUse devices (device.Ready old) (device.Short new) = ⊥

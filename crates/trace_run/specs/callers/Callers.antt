@@ -1,7 +1,9 @@
 -- What callers that work at once are between the steps of their work.
-use Rattle.std.specs.Prelude.{◌≡◌, ℕ, suc, List, [], ◌∷◌, filter, map, IfOk, Vec, Ok, ◌++◌}
+use Rattle.std.specs.Prelude.{◌≡◌, ℕ, suc, List, [], ◌∷◌, filter, map, IfOk, Option, Vec, Ok, ◌++◌}
 use Rattle.std.specs.declared.alloc.Global.{Global}
+use Rattle.std.specs.List.{AllByRecursion}
 use Rattle.blk_ptr.specs.declared.ptr.Ptr.{Ptr}
+use Rattle.arc_core.specs.declared.config.Config.{Config}
 use Rattle.arc_core.specs.Operations.{Act}
 use Rattle.arc_table.specs.Cache.{Cache}
 use Rattle.vdev_io.specs.Calls.{MakesCalls}
@@ -9,18 +11,19 @@ use Rattle.arc_table.specs.declared.view.Known.{Known}
 use Rattle.turn_table.specs.Places.{Place}
 use Rattle.trace_text.specs.declared.op.Op.{Op}
 use Rattle.trace_text.specs.declared.reply.Reply.{Reply}
+use Rattle.vdev_io.specs.declared.device.CacheDev.{Ghosts as Devices}
 use Rattle.vdev_io.specs.declared.pool.Pool.{Ghosts}
 use Rattle.vdev_io.specs.Faults.{sum_of_counts}
 use Rattle.trace_run.specs.declared.group.Caller.{Caller}
 use Rattle.trace_run.specs.declared.kept_blocks.KeptBlock.{KeptBlock}
-use Rattle.trace_run.specs.Acts.{acts_of_all}
-use Rattle.trace_run.specs.Effects.{calls_of_all}
+use Rattle.trace_run.specs.callers.CallerLines.{At}
+use Rattle.trace_run.specs.Deeds.{HasToldAll, KeepsCells, Noted}
 use Rattle.trace_run.specs.KeptBlocks.{Stands, read_of}
 use Rattle.trace_run.specs.Lines.{is_of_caller}
-use Rattle.trace_run.specs.one_caller.OneCaller.{kept_after_all}
+use Rattle.trace_run.specs.Objects.{Line}
 use Rattle.trace_run.specs.one_caller.OverShards.{AreNamed}
-use Rattle.trace_run.specs.Tally.{AreAnswered}
-use Rattle.trace_run.specs.Deeds.{HasToldAll, Noted}
+use Rattle.trace_run.specs.RunWork.{kept_after_lines}
+use Rattle.trace_run.specs.callers.WorkLines.{AnswersLines, AreLinesOf, AsksGiven, IsWorkOf, acts_of_work, calls_of_lines, noted_of_work}
 
 -- ---- forks that are taken back
 
@@ -36,6 +39,24 @@ module _ {P : Type 0} (pools : Ghosts P) where
   abbrev pub AbsorbsAll : List P → (old new : P) → Type 0
   AbsorbsAll [] old new = new ≡ old
   AbsorbsAll (fork ∷ forks) old new = (next : P) × Absorbs fork old next × AbsorbsAll forks next new
+
+-- ---- a caller's operations
+
+-- What a caller's operations came to, over the cache device that it was given: they have these lines with their replies, each with its work. What these did is told, each has its answer,
+-- and the pool and the device were read as they say and in no other way.
+pub record CameTo {C P D : Type 0} (pools : Ghosts P) (devices : Devices D) (g : Config) (blocks : List Ptr) (ops_done : List Op) (replied : List Reply) (old new : At C P) (was now : Option D) : Type 0 where
+  pub lines : List Line
+  pub are : AreLinesOf ops_done replied lines
+  pub fits : AllByRecursion (IsWorkOf g old.party.number) lines
+  pub number : new.party.number ≡ old.party.number
+  pub joined : new.party.joined ≡ old.party.joined
+  pub cells : KeepsCells g old.party new.party
+  pub kept : new.kept ≡ kept_after_lines blocks old.kept lines
+  pub told : (did : List Act) (had : List Noted) → HasToldAll g did had old.party → HasToldAll g (did ++ acts_of_work g blocks old.kept lines) (had ++ noted_of_work lines) new.party
+  pub answers : (did : List Act) (had : List Noted) → HasToldAll g did had old.party
+      → (place : ℕ) → AnswersLines g (pools.size old.pool) (pools.told old.pool) place blocks old.party.own.about.openings new.party.own.seen old.party.number had old.kept lines
+  pub calls : MakesCalls pools (calls_of_lines lines) old.pool new.pool
+  pub asked : AsksGiven devices blocks lines was now
 
 -- ---- before the lines
 
@@ -74,20 +95,26 @@ module _ {C P D : Type 0} where
 
   -- ---- after the lines
 
-  -- A caller has done its lines, which were answered so, and keeps what they say. Before them it was as this one, with the number n.
-  pub record HasDone (cache : Cache) (pools : Ghosts P) (blocks : List Ptr) (ops : List Op) (n : ℕ) (old new : Caller C P D) (replies : List Reply) : Type 0 where
+  -- A caller has done its lines, which were answered so, each with its work, and keeps what they say. Before them it was as this one, with the number n.
+  pub record HasDone (cache : Cache) (pools : Ghosts P) (devices : Devices D) (blocks : List Ptr) (ops : List Op) (n : ℕ) (old new : Caller C P D) (replies : List Reply) : Type 0 where
     pub number : new.party.number ≡ n
     pub alone : new.party.joined ≡ []
     pub stands : Stands cache new.party new.kept
-    pub kept : map read_of new.kept ≡ kept_after_all blocks (map read_of old.kept) (filter (is_of_caller n) ops) replies
+    pub lines : List Line
+    pub are : AreLinesOf (filter (is_of_caller n) ops) replies lines
+    pub fits : AllByRecursion (IsWorkOf cache.config n) lines
+    pub kept : map read_of new.kept ≡ kept_after_lines blocks (map read_of old.kept) lines
     pub told : (before : List Act) (noted : List Noted) → HasToldAll cache.config before noted old.party
-        → HasToldAll cache.config (before ++ acts_of_all blocks (map read_of old.kept) (filter (is_of_caller n) ops) replies) noted new.party
-    pub answers : AreAnswered (pools.size old.pool) (pools.told old.pool) blocks (map read_of old.kept) (filter (is_of_caller n) ops) replies
-    pub calls : MakesCalls pools (calls_of_all replies) old.pool new.pool
+        → HasToldAll cache.config (before ++ acts_of_work cache.config blocks (map read_of old.kept) lines) (noted ++ noted_of_work lines) new.party
+    pub cells : KeepsCells cache.config old.party new.party
+    pub answers : (before : List Act) (noted : List Noted) → HasToldAll cache.config before noted old.party
+        → (place : ℕ) → AnswersLines cache.config (pools.size old.pool) (pools.told old.pool) place blocks old.party.own.about.openings new.party.own.seen n noted (map read_of old.kept) lines
+    pub calls : MakesCalls pools (calls_of_lines lines) old.pool new.pool
+    pub asked : AsksGiven devices blocks lines old.device new.device
 
   -- so it was, where memory was enough
-  pub record HasTried (cache : Cache) (pools : Ghosts P) (blocks : List Ptr) (ops : List Op) (old new : Caller C P D) : Type 0 where
-    pub done : IfOk new.replies (λ replies. HasDone cache pools blocks ops old.party.number old new replies.items)
+  pub record HasTried (cache : Cache) (pools : Ghosts P) (devices : Devices D) (blocks : List Ptr) (ops : List Op) (old new : Caller C P D) : Type 0 where
+    pub done : IfOk new.replies (λ replies. HasDone cache pools devices blocks ops old.party.number old new replies.items)
 
   -- its lines were answered so
   pub record Replied (caller : Caller C P D) (replies : List Reply) : Type 0 where

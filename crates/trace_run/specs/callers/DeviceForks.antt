@@ -1,17 +1,16 @@
 -- The forks of the cache device that callers at work read: each has one of its own in each group, or none where it was refused.
-use Rattle.std.specs.Prelude.{◌≡◌, ℕ, suc, List, [], ◌∷◌, Option, None, Some, Result, Ok, Err, IfOk, filter, length, take}
+use Rattle.std.specs.Prelude.{◌≡◌, ℕ, suc, List, [], ◌∷◌, ◌++◌, filter, Option, None, Some, Result, Ok, Err, IfOk, length}
 use Rattle.blk_ptr.specs.declared.ptr.Ptr.{Ptr}
 use Rattle.vdev_io.specs.declared.device.CacheDev.{Ghosts}
 use Rattle.vdev_io.specs.declared.fault.IoFault.{IoFault}
 use Rattle.vdev_io.specs.Faults.{CountsIoFault, sum_of_counts}
-use Rattle.trace_text.specs.declared.op.Op.{Op}
-use Rattle.trace_text.specs.declared.reply.Reply.{Reply}
-use Rattle.trace_text.specs.declared.trace.Trace.{Trace}
-use Rattle.trace_run.specs.declared.group.Caller.{Caller}
-use Rattle.trace_run.specs.DeviceReads.{AsksGiven}
 use Rattle.trace_run.specs.Devices.{WasOnlyRead}
-use Rattle.trace_run.specs.Lines.{is_of_caller}
-use Rattle.trace_run.specs.callers.Together.{GroupLines, groups_of, replies_of_caller}
+use Rattle.trace_run.specs.Feeds.{AreFedReplies, AsksOfFeeds, FeedDone, is_feed}
+use Rattle.trace_run.specs.Lines.{replies_where}
+use Rattle.trace_run.specs.Objects.{Line, ops_of, replies_of}
+use Rattle.trace_run.specs.RunWork.{lines_of_caller}
+use Rattle.trace_run.specs.callers.Together.{GroupLines}
+use Rattle.trace_run.specs.callers.WorkLines.{AsksGiven}
 
 -- the fork that was made, where it was
 abbrev pub fork_of : {D : Type 0} → Result D IoFault → Option D
@@ -64,53 +63,35 @@ module _ {D : Type 0} (devices : Ghosts D) where
   TakesForksBack [] old new = new ≡ old
   TakesForksBack (fork ∷ forks) old new = (next : Option D) × TakesForkBack fork old next × TakesForksBack forks next new
 
-  -- Each caller, by its number from this one on, asked what it was given for the reads of its own lines among these, and left it so.
-  abbrev pub AllAsk : List Ptr → List Op → (n : ℕ) → (given left : List (Option D)) → List (List Reply) → Type 0
-  AllAsk blocks ops n [] [] [] = Unit {0}
-  AllAsk blocks ops n (fork ∷ forks) (done ∷ dones) (replies ∷ rest) = AsksGiven devices blocks (filter (is_of_caller n) ops) replies fork done × AllAsk blocks ops (suc n) forks dones rest
-  AllAsk blocks ops n _ _ _ = ⊥
+  -- Each caller, by its number from this one on, asked what it was given for the reads of its own lines, and left it so.
+  abbrev pub AllAsk : List Ptr → (own : ℕ → List Line) → (n : ℕ) → (given left : List (Option D)) → Type 0
+  AllAsk blocks own n [] [] = Unit {0}
+  AllAsk blocks own n [] (last ∷ lasts) = ⊥
+  AllAsk blocks own n (fork ∷ forks) [] = ⊥
+  AllAsk blocks own n (fork ∷ forks) (last ∷ lasts) = AsksGiven devices blocks (own n) fork last × AllAsk blocks own (suc n) forks lasts
 
   -- Each caller was given a fork of the device as a group began, or none where it was refused: then the device was as lent. Its lines asked its fork for their
   -- reads, and the device, as it was later, took each back.
-  pub record HaveRead (blocks : List Ptr) (ops : List Op) (callers : ℕ) (replies : List (List Reply)) (old lent later new : Option D) : Type 0 where
+  pub record HaveRead (blocks : List Ptr) (callers : ℕ) (own : ℕ → List Line) (old lent later new : Option D) : Type 0 where
     pub forks : List (Option D)
     pub count : length forks ≡ callers
     pub given : GivesForks forks old lent
     pub done : List (Option D)
-    pub asked : AllAsk blocks ops 0 forks done replies
+    pub asked : AllAsk blocks own 0 forks done
     pub back : TakesForksBack done later new
 
-  -- the same of all callers from this one on, by the replies to all lines of a group in their order
-  abbrev pub AllAskIn : List Ptr → GroupLines → (n : ℕ) → (given left : List (Option D)) → Type 0
-  AllAskIn blocks group n [] [] = Unit {0}
-  AllAskIn blocks group n (fork ∷ forks) (done ∷ dones) = AsksGiven devices blocks (filter (is_of_caller n) group.ops) (replies_of_caller n group.ops group.replies) fork done × AllAskIn blocks group (suc n) forks dones
-  AllAskIn blocks group n _ _ = ⊥
-
   -- Callers did their lines of a group at once. Each was given a fork of the device as it was then, or none where it was refused or there is no device:
-  -- that is asked for once. Its lines asked the fork for just their reads, and the device took each fork back, by rising caller. Nothing else was done with it.
-  pub record ReadAtOnce (blocks : List Ptr) (callers : ℕ) (group : GroupLines) (old new : Option D) : Type 0 where
-    pub forks : List (Option D)
-    pub count : length forks ≡ callers
+  -- that is asked for once. Its lines asked the fork for just their reads. Meanwhile the device was asked for the calls of these feeds, which the lines `feed` of the group are answered by. Then
+  -- it took each fork back, by rising caller. Nothing else was done with it.
+  pub record UsedAtOnce (blocks : List Ptr) (callers : ℕ) (lines : List Line) (feeds : List FeedDone) (old new : Option D) : Type 0 where
     pub lent : Option D
-    pub given : GivesForks forks old lent
-    pub done : List (Option D)
-    pub asked : AllAskIn blocks group 0 forks done
-    pub back : TakesForksBack done lent new
+    pub later : Option D
+    pub read : HaveRead blocks callers (λ n. lines_of_caller n lines) old lent later new
+    pub fed : AsksOfFeeds devices feeds lent later
+    pub answered : AreFedReplies old (filter is_feed (ops_of lines)) feeds (replies_where is_feed (ops_of lines) (replies_of lines))
 
   -- so they did these groups, one after another
-  abbrev pub ReadInGroups : List Ptr → (callers : ℕ) → List GroupLines → (old new : Option D) → Type 0
-  ReadInGroups blocks callers [] old new = new ≡ old
-  ReadInGroups blocks callers (group ∷ groups) old new = (next : Option D) × ReadAtOnce blocks callers group old next × ReadInGroups blocks callers groups next new
-
-  -- so the callers of a trace did the groups of the lines that are answered
-  abbrev pub HaveReadSoFar : Trace → List Reply → (old new : Option D) → Type 0
-  HaveReadSoFar trace replies old new = ReadInGroups trace.blocks trace.config.callers (groups_of (take (length replies) trace.ops) replies) old new
-
--- lines with their replies, as a group has them
-abbrev pub these : List Op → List Reply → GroupLines
-these ops replies = record { ops = ops; replies = replies; end = None }
-
-module _ {C P D : Type 0} (devices : Ghosts D) where
-  -- a caller tried its lines, which asked the device that it was given for their reads
-  pub record HasAsked (blocks : List Ptr) (ops : List Op) (old new : Caller C P D) : Type 0 where
-    pub asked : IfOk new.replies (λ replies. AsksGiven devices blocks (filter (is_of_caller old.party.number) ops) replies.items old.device new.device)
+  abbrev pub UsedInGroups : List Ptr → (callers : ℕ) → List GroupLines → List FeedDone → (old new : Option D) → Type 0
+  UsedInGroups blocks callers [] feeds old new = (feeds ≡ []) × (new ≡ old)
+  UsedInGroups blocks callers (group ∷ groups) feeds old new =
+      (next : Option D) × (here behind : List FeedDone) × (feeds ≡ here ++ behind) × UsedAtOnce blocks callers group.lines here old next × UsedInGroups blocks callers groups behind next new

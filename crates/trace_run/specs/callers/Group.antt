@@ -1,36 +1,45 @@
 -- The work of several callers at once, each by its own lines, with its own party and its own fork of the pool.
-use Rattle.std.specs.Prelude.{◌≡◌, ◌<◌, ◌≤◌, ◌+◌, ℕ, List, filter, length, map, min, take, ◌++◌}
+use Rattle.std.specs.Prelude.{◌≡◌, ◌<◌, ◌≤◌, ℕ, List, filter, length, map, min, take, ◌++◌}
 use Rattle.std.specs.Option.{option_map}
 use mathlib.Core.Option.{some}
 use lib.ListN.{get_elem?}
+use Rattle.std.specs.List.{AllByRecursion}
 use Rattle.blk_ptr.specs.declared.ptr.Ptr.{Ptr}
 use Rattle.arc_core.specs.Operations.{Act}
 use Rattle.arc_table.specs.Cache.{Cache}
+use Rattle.arc_table.specs.Items.{Meanings}
+use Rattle.dbuf_cells.specs.Turns.{OnHeap, PartyPlace}
 use Rattle.vdev_io.specs.Calls.{MakesCalls}
 use Rattle.arc_table.specs.declared.view.Known.{Known}
 use Rattle.turn_table.specs.Places.{Place}
 use Rattle.trace_text.specs.declared.op.Op.{Op}
 use Rattle.trace_text.specs.declared.reply.Reply.{Reply}
+use Rattle.vdev_io.specs.declared.device.CacheDev.{Ghosts as Devices}
 use Rattle.vdev_io.specs.declared.pool.Pool.{Ghosts}
 use Rattle.vdev_io.specs.Faults.{last_count, sum_of_counts}
-use Rattle.trace_run.specs.Acts.{acts_of_all}
-use Rattle.trace_run.specs.Deeds.{Noted}
-use Rattle.trace_run.specs.Effects.{calls_of_all}
+use Rattle.trace_run.specs.declared.device.Device.{Device}
+use Rattle.trace_run.specs.Deeds.{HasToldAll, KeepsCells, Noted}
 use Rattle.trace_run.specs.KeptBlocks.{read_of}
 use Rattle.trace_run.specs.Lines.{is_of_caller}
 use Rattle.trace_run.specs.Meeting.{Waits}
-use Rattle.trace_run.specs.one_caller.OneCaller.{kept_after_all}
+use Rattle.trace_run.specs.Objects.{Line}
+use Rattle.trace_run.specs.RunWork.{kept_after_lines}
 use Rattle.trace_run.specs.declared.kept_blocks.KeptBlock.{KeptBlock}
-use Rattle.trace_run.specs.Tally.{AreAnswered}
+use Rattle.trace_run.specs.callers.Beside.{WorksBeside}
+use Rattle.trace_run.specs.callers.WorkLines.{AnswersLines, AreLinesOf, IsWorkOf, acts_of_work, calls_of_lines, noted_of_work}
 use Rattle.trace_run.specs.callers.Together.{over_callers}
 
--- A caller has done its work, where it kept these reads at first: its lines were answered, one after another, its fork of the pool was read as they
+-- A caller has done its work, where it kept these reads at first: its lines were answered, one after another, each with its work, its fork of the pool was read as they
 -- say and in no other way, what it did is told, and it stands by itself with what they say that it keeps.
-pub record HasWorked {C P : Type 0} (cache : Cache) (pools : Ghosts P) (blocks : List Ptr) (ops : List Op) (n : ℕ) (fork done : P) (replies : List Reply) (had : List KeptBlock) (p : Place (Known C)) (kept : List KeptBlock) (q : Place (Known C)) : Type 0 where
-  pub waits : (acts : List Act) (noted : List Noted) → Waits cache n acts noted had p → Waits cache n (acts ++ acts_of_all blocks (map read_of had) (filter (is_of_caller n) ops) replies) noted kept q
-  pub keeps : map read_of kept ≡ kept_after_all blocks (map read_of had) (filter (is_of_caller n) ops) replies
-  pub answers : AreAnswered (pools.size fork) (pools.told fork) blocks (map read_of had) (filter (is_of_caller n) ops) replies
-  pub calls : MakesCalls pools (calls_of_all replies) fork done
+pub record HasWorked {C P : Type 0} (cache : Cache) (pools : Ghosts P) (blocks : List Ptr) (n : ℕ) (fork done : P) (lines : List Line) (had : List KeptBlock) (p : Place (Known C)) (kept : List KeptBlock) (q : Place (Known C)) : Type 0 where
+  pub fits : AllByRecursion (IsWorkOf cache.config n) lines
+  pub waits : (acts : List Act) (noted : List Noted) → Waits cache n acts noted had p
+      → Waits cache n (acts ++ acts_of_work cache.config blocks (map read_of had) lines) (noted ++ noted_of_work lines) kept q
+  pub keeps : map read_of kept ≡ kept_after_lines blocks (map read_of had) lines
+  pub cells : KeepsCells cache.config p q
+  pub answers : (acts : List Act) (noted : List Noted) → HasToldAll cache.config acts noted p
+      → (place : ℕ) → AnswersLines cache.config (pools.size fork) (pools.told fork) place blocks p.own.about.openings q.own.seen n noted (map read_of had) lines
+  pub calls : MakesCalls pools (calls_of_lines lines) fork done
 
 -- what stands of the caller of a number in these lists
 pub record IsAt {C : Type 0} (n : ℕ) (kept : List (List KeptBlock)) (ps : List (Place (Known C))) (reads : List KeptBlock) (p : Place (Known C)) : Type 0 where
@@ -58,27 +67,39 @@ pub record LeavesFront {P : Type 0} (pools : Ghosts P) (place : ℕ) (old new : 
   pub faults : min (pools.faults old) last_count ≤ pools.faults new
 
 -- the work of the caller of a number, by its places in these lists
-pub record WorkedAt {C P : Type 0} (cache : Cache) (pools : Ghosts P) (blocks : List Ptr) (ops : List Op) (n : ℕ) (fork done : P) (replies : List (List Reply)) (had : List (List KeptBlock)) (ps : List (Place (Known C))) (kept : List (List KeptBlock)) (qs : List (Place (Known C))) : Type 0 where
-  pub own : List Reply
-  pub own_at : get_elem? replies n ≡ some own
+pub record WorkedAt {C P : Type 0} (cache : Cache) (pools : Ghosts P) (blocks : List Ptr) (n : ℕ) (fork done : P) (lines : List Line) (had : List (List KeptBlock)) (ps : List (Place (Known C))) (kept : List (List KeptBlock)) (qs : List (Place (Known C))) : Type 0 where
   pub old : List KeptBlock
   pub from : Place (Known C)
   pub before : IsAt n had ps old from
   pub new : List KeptBlock
   pub to : Place (Known C)
   pub after : IsAt n kept qs new to
-  pub worked : HasWorked cache pools blocks ops n fork done own old from new to
+  pub worked : HasWorked cache pools blocks n fork done lines old from new to
 
--- So many callers have done their work, each on its own fork, and the pool has counted what the forks did; a sum past the last value of a count is that
+-- the replies to a caller's own lines among these, by its number
+pub record RepliedAt (ops : List Op) (n : ℕ) (lines : List Line) (replies : List (List Reply)) : Type 0 where
+  pub own : List Reply
+  pub own_at : get_elem? replies n ≡ some own
+  pub are : AreLinesOf (filter (is_of_caller n) ops) own lines
+
+-- So many callers have done their work, each its own lines on its own fork, and the pool has counted what the forks did; a sum past the last value of a count is that
 -- value.
-pub record HaveWorked {C P : Type 0} (cache : Cache) (pools : Ghosts P) (blocks : List Ptr) (ops : List Op) (callers : ℕ) (before after : P) (replies : List (List Reply)) (had : List (List KeptBlock)) (ps : List (Place (Known C))) (kept : List (List KeptBlock)) (qs : List (Place (Known C))) : Type 0 where
-  pub replied : length replies ≡ callers
+pub record HaveWorked {C P : Type 0} (cache : Cache) (pools : Ghosts P) (blocks : List Ptr) (callers : ℕ) (before after : P) (own : ℕ → List Line) (had : List (List KeptBlock)) (ps : List (Place (Known C))) (kept : List (List KeptBlock)) (qs : List (Place (Known C))) : Type 0 where
   pub kepts : length kept ≡ callers
   pub parties : length qs ≡ callers
   pub forks : ℕ → P
   pub done : ℕ → P
   pub fresh : (n : ℕ) → n < callers → IsFork pools before (forks n)
-  pub each : (n : ℕ) → n < callers → WorkedAt cache pools blocks ops n (forks n) (done n) replies had ps kept qs
+  pub each : (n : ℕ) → n < callers → WorkedAt cache pools blocks n (forks n) (done n) (own n) had ps kept qs
   pub reads : 0 < callers → pools.reads after ≡ sum_of_counts (pools.reads before) (over_callers callers (λ n. pools.reads (done n)))
   pub faults : 0 < callers → pools.faults after ≡ sum_of_counts (pools.faults before) (over_callers callers (λ n. pools.faults (done n)))
   pub keeps : LeavesPool pools before after
+
+-- Callers did the lines of a group, each its own, which have these replies; beside them the feeder did the lines `feed`, which were answered so.
+pub record DidGroup {P D : Type 0} (m : Meanings OnHeap) (cache : Cache) (pools : Ghosts P) (devices : Devices D) (blocks : List Ptr) (ops : List Op) (callers : ℕ) (before after : P) (was now : Device D)
+    (had : List (List KeptBlock)) (ps : List PartyPlace) (p : PartyPlace) (kept : List (List KeptBlock)) (qs : List PartyPlace) (q : PartyPlace) (replies : List (List Reply)) (fed : List Reply) : Type 0 where
+  pub own : ℕ → List Line
+  pub replied : length replies ≡ callers
+  pub are : (n : ℕ) → n < callers → RepliedAt ops n (own n) replies
+  pub worked : HaveWorked cache pools blocks callers before after own had ps kept qs
+  pub beside : WorksBeside m devices cache blocks ops callers own fed was now p q

@@ -1,16 +1,20 @@
 -- A caller's lines, those on objects among them, each with what it did beside its reply; and what such lines come to, one after another.
-use Rattle.std.specs.Prelude.{◌≡◌, ℕ, List, [], ◌∷◌, ◌++◌, Option, Some, None}
+use Rattle.std.specs.Prelude.{◌≡◌, ◌≢◌, ℕ, List, [], ◌∷◌, ◌++◌, Option, Some, None, IfSome, take}
+use Rattle.std.specs.Option.{option_map}
+use Rattle.std.specs.List.{AllByRecursion}
 use Rattle.blk_ptr.specs.declared.ptr.Ptr.{Ptr}
 use Rattle.vdev_io.specs.declared.device.CacheDev.{Ghosts as DeviceGhosts}
 use Rattle.vdev_io.specs.declared.pool.Pool.{Ghosts as PoolGhosts}
 use Rattle.vdev_io.specs.Calls.{Call, KeepsPool, MakesCalls}
+use Rattle.arc_core.specs.Config.{IsConfig}
 use Rattle.arc_core.specs.declared.config.Config.{Config}
+use Rattle.arc_core.specs.declared.served.Served.TheVariants as served
 use Rattle.arc_core.specs.Operations.{Act}
 use Rattle.arc_table.specs.declared.view.Line.{Line as Seen}
 use Rattle.arc_table.specs.Geometry.{cell_number}
 use Rattle.arc_table.specs.Reading.{KeepsDevice, Outside}
 use Rattle.dbuf_cells.specs.Places.{cell_of}
-use Rattle.dbuf_cells.specs.Turns.{PartyPlace}
+use Rattle.dbuf_cells.specs.Turns.{OnHeap, PartyPlace}
 use Rattle.dbuf_state.specs.declared.oid.Oid.{Oid}
 use Rattle.trace_text.specs.declared.op.Op.{Op}
 use Rattle.trace_text.specs.declared.op.Op.TheVariants as ops
@@ -21,7 +25,7 @@ use Rattle.trace_run.specs.callers.CallerLines.{DidLine, at}
 use Rattle.trace_run.specs.Deeds.{HasToldAll, KeepsCells, Noted}
 use Rattle.trace_run.specs.Effects.{Effect, Answered, calls_of, effect_of}
 use Rattle.trace_run.specs.KeptReads.{KeptRead}
-use Rattle.trace_run.specs.DeviceReads.{AsksFor, LineAsks}
+use Rattle.trace_run.specs.DeviceReads.{AsksFor, LineAsks, size_asked}
 use Rattle.trace_run.specs.ObjectLines.{DidObjectLine, OnObject, on_object}
 use Rattle.trace_run.specs.ObjectReplies.{AnswersFrom}
 use Rattle.trace_run.specs.Objects.{Brought, GoesTogether, Line, Loaded, NotesNothing, NotesOwn, Nothing, OwnEvent, Refused, Work, acts_of_bringing, no_work, own_event}
@@ -56,7 +60,7 @@ acts_with_op g blocks kept (ops.Pin n t at) reply work = acts_on g n t at work
 acts_with_op g blocks kept (ops.Put n t at size fill) reply work = work.acts
 acts_with_op g blocks kept (ops.Unpin n at) reply work = work.acts
 acts_with_op g blocks kept ops.Feed reply work = []
-acts_with_op g blocks kept (ops.Txg t) reply work = []
+acts_with_op g blocks kept (ops.Txg t) reply work = work.acts
 acts_with_op g blocks kept (ops.Cap c) reply work = []
 
 abbrev pub acts_with : Config → List Ptr → List KeptRead → Line → List Act
@@ -104,10 +108,12 @@ size_brought Nothing = 0
 size_brought (Loaded ptr from) = ptr.key.size
 size_brought (Refused ptr) = ptr.key.size
 
--- The line came to this, by what the contract of its call says; its work fits it; its acts and its entries of cells are told; and the pool and the cache device were
+-- The line came to this, by what the contract of its call says; it has its answer, by how its cell was found; its work fits it; its acts and its entries of cells are told; and the pool and the cache device were
 -- read for what was brought, and for nothing else.
 pub record DidWorkLine {P D : Type 0} (pools : PoolGhosts P) (devices : DeviceGhosts D) (g : Config) (blocks : List Ptr) (kept : List KeptRead) (before now : Outside P D) (p q : PartyPlace) (l : Line) : Type 0 where
   pub came : DidObjectLine pools devices g before now p q l.op l.reply
+  pub answers : IsConfig g → (did : List Act) (had : List Noted) → HasToldAll g did had p
+      → IfSome (on_object l.op) (λ on. AnswersFrom g (pools.size before.pool) (pools.told before.pool) p.own.about.openings q.own.seen p.number had on.at l)
   pub fits : IsWorkOf g p.number l
   pub number : q.number ≡ p.number
   pub told : (did : List Act) (had : List Noted) → HasToldAll g did had p → HasToldAll g (did ++ acts_with g blocks kept l) (had ++ l.work.noted) q
@@ -147,16 +153,22 @@ module _ {P D : Type 0} (pools : PoolGhosts P) (devices : DeviceGhosts D) (g : C
 abbrev pub at_work : {P D : Type 0} → PartyPlace → List KeptRead → Outside P D → AtWork P D
 at_work party kept outside = record { party = party; kept = kept; outside = outside }
 
--- A line has its answer, where its caller keeps these reads: one on an object by how its cell was found, from which what is seen now goes on.
-abbrev pub AnswersLine : Config → (pool_len : ℕ) → Option (List ℕ) → List Ptr → (openings : List (List ℕ)) → (seen : List (List Seen)) → List KeptRead → Option OnObject → Line → Type 0
-AnswersLine g pool_len image blocks openings seen kept None l = AnswersNow pool_len image blocks kept l.op l.reply
-AnswersLine g pool_len image blocks openings seen kept (Some on) l = AnswersFrom g pool_len image openings seen on.at l.op l.reply
+-- what a pool tells now is what it told at first, up to the place from which syncs write
+abbrev pub HasFront : (place : ℕ) → (first now : Option (List ℕ)) → Type 0
+HasFront place first now = option_map (take place) now ≡ option_map (take place) first
+
+-- A line of the caller n has its answer, where the caller had done this to cells and keeps these reads: one on an object by how its cell was found, from which what is seen now goes
+-- on, and over what the pool told then. Behind a sync that differs from what it told at first from the place of the first sync on.
+abbrev pub AnswersLine : Config → (pool_len : ℕ) → Option (List ℕ) → (place : ℕ) → List Ptr → (openings : List (List ℕ)) → (seen : List (List Seen)) → (n : ℕ) → List Noted → List KeptRead → Option OnObject → Line → Type 0
+AnswersLine g pool_len image place blocks openings seen n had kept None l = AnswersNow pool_len image blocks kept l.op l.reply
+AnswersLine g pool_len image place blocks openings seen n had kept (Some on) l = (now : Option (List ℕ)) × HasFront place image now × AnswersFrom g pool_len now openings seen n had on.at l
 
 -- each has, one after another
-abbrev pub AnswersLines : Config → (pool_len : ℕ) → Option (List ℕ) → List Ptr → (openings : List (List ℕ)) → (seen : List (List Seen)) → List KeptRead → List Line → Type 0
-AnswersLines g pool_len image blocks openings seen kept [] = Unit {0}
-AnswersLines g pool_len image blocks openings seen kept (l ∷ ls) =
-    AnswersLine g pool_len image blocks openings seen kept (on_object l.op) l × AnswersLines g pool_len image blocks openings seen (kept_after blocks l.op l.reply kept) ls
+abbrev pub AnswersLines : Config → (pool_len : ℕ) → Option (List ℕ) → (place : ℕ) → List Ptr → (openings : List (List ℕ)) → (seen : List (List Seen)) → (n : ℕ) → List Noted → List KeptRead → List Line → Type 0
+AnswersLines g pool_len image place blocks openings seen n had kept [] = Unit {0}
+AnswersLines g pool_len image place blocks openings seen n had kept (l ∷ ls) =
+    AnswersLine g pool_len image place blocks openings seen n had kept (on_object l.op) l
+    × AnswersLines g pool_len image place blocks openings seen n (had ++ l.work.noted) (kept_after blocks l.op l.reply kept) ls
 
 -- the lines of these operations with these replies, each with some work
 abbrev pub AreLinesOf : List Op → List Reply → List Line → Type 0
@@ -172,3 +184,27 @@ pub record DidOps {P D : Type 0} (pools : PoolGhosts P) (devices : DeviceGhosts 
   pub lines : List Line
   pub are : AreLinesOf ops_done replied lines
   pub did : DidAll pools devices g blocks lines old new
+
+-- ---- what lines ask of the cache device
+
+-- none of these lines had bytes that came from there
+abbrev pub NoneFromDevice : List Line → Type 0
+NoneFromDevice = AllByRecursion (λ l. effect_with l.work.brought l.reply ≢ Answered served.L2)
+
+-- how many bytes a line asks for at once: those of its block, or of the block that was brought for it
+abbrev pub size_asked_by : List Ptr → Option OnObject → Line → ℕ
+size_asked_by blocks None l = size_asked blocks l.op
+size_asked_by blocks (Some on) l = size_brought l.work.brought
+
+module _ {D : Type 0} (devices : DeviceGhosts D) where
+  -- what these lines asked, one after another
+  abbrev pub AllAsked : List Ptr → List Line → (old new : D) → Type 0
+  AllAsked blocks [] old new = new ≡ old
+  AllAsked blocks (l ∷ ls) old new = (next : D) × AsksFor devices (size_asked_by blocks (on_object l.op) l) (effect_with l.work.brought l.reply) old next × AllAsked blocks ls next new
+
+  -- A caller's lines asked the device that it was given for just their reads; one that was given none had no bytes from there.
+  abbrev pub AsksGiven : List Ptr → List Line → (old new : Option D) → Type 0
+  AsksGiven blocks ls None None = NoneFromDevice ls
+  AsksGiven blocks ls None (Some new) = ⊥
+  AsksGiven blocks ls (Some old) None = ⊥
+  AsksGiven blocks ls (Some old) (Some new) = AllAsked blocks ls old new

@@ -6,52 +6,49 @@ use Rattle.dbuf_cells.specs.Turns.{OnHeap, dbuf_meanings}
 use Rattle.trace_run.specs.Devices.{lent_in}
 use Rattle.trace_run.specs.Feeds.{DoesFeeds, is_feed}
 use Rattle.trace_run.specs.callers.DeviceForks.{AllAsk, HaveRead}
-use Rattle.trace_run.specs.callers.Group.{HaveWorked}
 use Rattle.trace_run.specs.declared.group.Caller.{Caller}
 use Rattle.trace_run.proofs.callers.AbsorbLemmas.{absorbed-leaves}
 use Rattle.trace_run.proofs.callers.BesideLemmas.{lent-fed, tries-beside, tries-none, works-beside}
-use Rattle.trace_run.proofs.callers.GroupLemmas.{enlisted-ready, have-asked, have-worked, start-length}
+use Rattle.trace_run.proofs.callers.GroupLemmas.{did-own, enlisted-ready, start-length}
 use Rattle.trace_run.proofs.group.run_group.Goals as goal
 
 pub work_and_feed-fed-requires-clause-ready : goal.work_and_feed-fed-requires-clause-ready
 work_and_feed-fed-requires-clause-ready g c κs within =
-    enlisted-ready c.args.arcs.now g.P.Pool c.args.blocks.now c.args.ops.now c.args.pool.now c.args.parties.items c.args.kept.items c.args.forks.items c.in_ok-callers.callers.items c.requires.parties c.requires.forks c.in_ok-callers.ensures.enlisted
+    enlisted-ready c.args.arcs.now g.P.Pool g.D.CacheDev c.args.blocks.now c.args.ops.now c.args.pool.now c.args.parties.items c.args.kept.items c.args.forks.items c.in_ok-callers.callers.items c.requires.parties c.requires.forks c.in_ok-callers.ensures.enlisted
 
 pub work_and_feed-fed-requires-clause-device : goal.work_and_feed-fed-requires-clause-device
 work_and_feed-fed-requires-clause-device g c κs within = lent-fed g.D.CacheDev c.args.arcs.now.config c.args.device.now c.device_forks.new.device c.in_ok-devices.ensures.device c.requires.device
 
--- what the callers did
-pub returns-clause-worked : goal.returns-clause-worked
-returns-clause-worked g c =
-    let many : length c.args.parties.items ≡ c.args.parties.len = let o = c.args.parties.ok.0 in omega (arith, o) in
-    let own : List (List Reply) = map (λ (v : Vec Reply Global). v.items) c.in_ok-worked.worked.replies.items in
-    subst (λ (n : ℕ). HaveWorked c.args.arcs.now g.P.Pool c.args.blocks.now c.args.ops.now n c.args.pool.now c.take_all_back.new.pool own c.args.kept.items c.args.parties.items c.in_ok-worked.worked.kept.items c.in_ok-worked.worked.parties.items) many
-    (have-worked c.args.arcs.now g.P.Pool c.args.blocks.now c.args.ops.now c.args.pool.now c.take_all_back.new.pool c.args.parties.items c.args.kept.items c.args.forks.items c.in_ok-callers.callers.items c.work_and_feed-fed.new.callers.items
-    own c.in_ok-worked.worked.kept.items c.in_ok-worked.worked.parties.items c.requires.parties c.requires.forks c.in_ok-callers.ensures.enlisted c.work_and_feed-fed.ensures.worked c.take_all_back.ensures.absorbs c.in_ok-worked.ensures.came)
-
--- what the callers asked the device, which has their forks back, and the feeds meanwhile
-pub returns-clause-beside : goal.returns-clause-beside
-returns-clause-beside g c =
+-- what the callers did, and asked the device, which has their forks back; and the feeds meanwhile
+pub returns-clause-did : goal.returns-clause-did
+returns-clause-did g c =
     let olds : List (Caller OnHeap g.row.P.Denot g.row.D.Denot) = c.in_ok-callers.callers.items in
     let news : List (Caller OnHeap g.row.P.Denot g.row.D.Denot) = c.work_and_feed-fed.new.callers.items in
-    let own : List (List Reply) = map (λ (v : Vec Reply Global). v.items) c.in_ok-worked.worked.replies.items in
+    let replies : List (List Reply) = map (λ (v : Vec Reply Global). v.items) c.in_ok-worked.worked.replies.items in
     let given : List (Option g.row.D.Denot) = c.in_ok-devices.devices.items in
-    let done : List (Option g.row.D.Denot) = map (λ (x : Caller OnHeap g.row.P.Denot g.row.D.Denot). x.device) news in
-    let count : length given ≡ c.args.parties.len = let a = c.in_ok-devices.ensures.count in let b = c.in_ok-devices.devices.ok.0 in let l = c.len.ensures in let o = c.args.parties.ok.0 in omega (arith, a, b, l, o) in
-    let read : HaveRead g.D.CacheDev c.args.blocks.now c.args.ops.now c.args.parties.len own (lent_in c.args.device.now) (lent_in c.device_forks.new.device) (lent_in c.work_and_feed-fed.new.device) (lent_in c.take_all_back.new.device) = record {
+    let left : List (Option g.row.D.Denot) = map (λ (x : Caller OnHeap g.row.P.Denot g.row.D.Denot). x.device) news in
+    let many : ℕ = length c.args.parties.items in
+    let count : length given ≡ many = let a = c.in_ok-devices.ensures.count in let b = c.in_ok-devices.devices.ok.0 in let l = c.len.ensures in let o = c.args.parties.ok.0 in omega (arith, a, b, l, o) in
+    let own = did-own c.args.arcs.now g.P.Pool g.D.CacheDev c.args.blocks.now c.args.ops.now c.args.pool.now c.take_all_back.new.pool c.args.parties.items c.args.kept.items c.args.forks.items olds news
+    replies c.in_ok-worked.worked.kept.items c.in_ok-worked.worked.parties.items c.requires.parties c.requires.forks c.in_ok-callers.ensures.enlisted c.work_and_feed-fed.ensures.worked c.take_all_back.ensures.absorbs c.in_ok-worked.ensures.came in
+    let read : HaveRead g.D.CacheDev c.args.blocks.now many own.own (lent_in c.args.device.now) (lent_in c.device_forks.new.device) (lent_in c.work_and_feed-fed.new.device) (lent_in c.take_all_back.new.device) = record {
       forks = given;
       count = count;
       given = c.in_ok-devices.ensures.given;
-      done = done;
-      asked = subst (λ (l : List (Option g.row.D.Denot)). AllAsk g.D.CacheDev c.args.blocks.now c.args.ops.now 0 l done own) c.in_ok-callers.ensures.devices
-          (have-asked c.args.arcs.now g.P.Pool c.args.blocks.now c.args.ops.now g.D.CacheDev c.args.pool.now c.args.parties.items c.args.kept.items c.args.forks.items olds news own c.requires.parties c.requires.forks c.in_ok-callers.ensures.enlisted
-          c.work_and_feed-fed.ensures.asked c.in_ok-worked.ensures.came.replied);
+      done = left;
+      asked = subst (λ (l : List (Option g.row.D.Denot)). AllAsk g.D.CacheDev c.args.blocks.now own.own 0 l left) c.in_ok-callers.ensures.devices own.asked;
       back = c.take_all_back.ensures.back;
     } in
-    works-beside dbuf_meanings g.D.CacheDev c.args.arcs.now c.args.blocks.now c.args.ops.now c.args.parties.len own c.in_ok-fed.fed.items c.args.device.now c.device_forks.new.device c.work_and_feed-fed.new.device c.take_all_back.new.device c.args.feeder.now c.work_and_feed-fed.new.feeder
-    c.in_ok-devices.ensures.device
-    (subst (λ (r : Result (Vec Reply Global) NoMemory). IfOk r (λ replies. DoesFeeds dbuf_meanings g.D.CacheDev c.args.arcs.now (filter is_feed c.args.ops.now) replies.items c.device_forks.new.device c.work_and_feed-fed.new.device c.args.feeder.now c.work_and_feed-fed.new.feeder)) c.in_ok-fed.was c.work_and_feed-fed.ensures.fed)
-    c.take_all_back.ensures.device read
+    record {
+      own = own.own;
+      replied = own.replied;
+      are = own.are;
+      worked = own.worked;
+      beside = works-beside dbuf_meanings g.D.CacheDev c.args.arcs.now c.args.blocks.now c.args.ops.now many own.own c.in_ok-fed.fed.items c.args.device.now c.device_forks.new.device c.work_and_feed-fed.new.device c.take_all_back.new.device c.args.feeder.now
+          c.work_and_feed-fed.new.feeder c.in_ok-devices.ensures.device
+          (subst (λ (r : Result (Vec Reply Global) NoMemory). IfOk r (λ replies. DoesFeeds dbuf_meanings g.D.CacheDev c.args.arcs.now (filter is_feed c.args.ops.now) replies.items c.device_forks.new.device c.work_and_feed-fed.new.device c.args.feeder.now c.work_and_feed-fed.new.feeder)) c.in_ok-fed.was c.work_and_feed-fed.ensures.fed)
+          c.take_all_back.ensures.device read;
+    }
 
 -- what was tried, whatever it came to
 pub returns-in_err-devices-clause-tried : goal.returns-in_err-devices-clause-tried
