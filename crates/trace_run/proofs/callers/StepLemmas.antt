@@ -1,5 +1,5 @@
 -- One group more of several callers: what their pool counts then, which groups were done, and what stands before the next one, or how the lines end.
-use Rattle.std.proofs.Common.{◌≡◌, ◌⊎◌, ℕ, zero, suc, ◌+◌, ◌%◌, ◌^◌, ◌<◌, ◌≤◌, Bool, true, false, Option, List, [], ◌∷◌, ◌++◌, Some, None, Ok, Err, length, map, take, drop, refl, sym, ap, ◌∙◌, subst, arith, append_assoc, append-nil, length-append, ◌-◌, inl, inr}
+use Rattle.std.proofs.Common.{◌≡◌, ◌⊎◌, ℕ, zero, suc, ◌+◌, ◌%◌, ◌^◌, ◌<◌, ◌≤◌, Bool, true, false, Option, List, [], ◌∷◌, ◌++◌, Some, None, Result, Ok, Err, length, map, take, drop, refl, sym, ap, ◌∙◌, subst, arith, append_assoc, append-nil, length-append, ◌-◌, inl, inr, if◌then◌else◌}
 use Rattle.std.specs.Prelude.{count_by, filter, slice_get, slice_range}
 use Rattle.std.specs.Option.{option_map}
 use Rattle.std.proofs.lemmas.Bool.{false≢true}
@@ -13,7 +13,7 @@ use Rattle.blk_ptr.specs.declared.ptr.Ptr.{Ptr}
 use Rattle.arc_table.specs.declared.about.About.{About}
 use Rattle.arc_core.specs.declared.served.Restored.{Restored}
 use Rattle.arc_table.specs.Cache.{Cache}
-use Rattle.arc_table.specs.Geometry.{parties_of}
+use Rattle.arc_table.specs.Geometry.{parties_of, IsCell}
 use Rattle.arc_table.specs.Items.{Meanings}
 use Rattle.dbuf_cells.specs.Turns.{OnHeap, PartyPlace}
 use Rattle.arc_core.specs.declared.config.Config.{Config}
@@ -32,27 +32,27 @@ use Rattle.trace_run.specs.declared.ran.Ending.TheVariants.{Fork, Full, Sync, Wh
 use Rattle.trace_run.specs.declared.kept_blocks.KeptBlock.{KeptBlock}
 use Rattle.trace_run.specs.Answers.{is_pool_fault}
 use Rattle.trace_run.specs.Devices.{lent_in}
-use Rattle.trace_run.specs.Feeds.{IsIdleFeeder, is_feed}
+use Rattle.trace_run.specs.Feeds.{AreFedReplies, IsIdleFeeder, is_feed}
 use Rattle.trace_run.specs.Lines.{caller_of, is_of_caller, replies_where}
 use Rattle.trace_run.specs.Meeting.{MadeJoined, MayGoOn}
-use Rattle.trace_run.specs.Objects.{Line, ops_of, replies_of}
+use Rattle.trace_run.specs.Objects.{Line, ops_of, replies_of, Work, no_work}
 use Rattle.trace_run.specs.Opened.{AreOpened}
 use Rattle.trace_run.specs.Openings.{Knows, openings_of}
 use Rattle.trace_run.specs.Restores.{restores_in}
-use Rattle.trace_run.specs.RunWork.{RunWork, lines_of_caller, plain_work}
+use Rattle.trace_run.specs.RunWork.{RunWork, lines_of_caller, plain_work, lines_of_feeder}
 use Rattle.trace_run.specs.Tally.{AreDeclared}
 use Rattle.trace_run.specs.callers.Beside.{WorksBeside}
-use Rattle.trace_run.specs.callers.DeviceForks.{UsedAtOnce, UsedInGroups}
+use Rattle.trace_run.specs.callers.DeviceForks.{HaveRead, UsedAtOnce, UsedInGroups}
 use Rattle.trace_run.specs.callers.Group.{HaveWorked, LeavesFront, LeavesPool}
-use Rattle.trace_run.specs.callers.Groups.{AreBetween, AreDone, DidEndLine, DidLinesAtOnce, ForkFailed, HaveCome, HaveCounted, HaveReached, KeepNothing, MaySync, StepsOn, StoodFresh, goes_on}
+use Rattle.trace_run.specs.callers.Groups.{AreBetween, AreDone, DidEndLine, DidLinesAtOnce, ForkFailed, HaveCome, HaveCounted, HaveReached, KeepNothing, MaySync, StepsOn, StoodSo, goes_on}
 use Rattle.trace_run.specs.callers.InOrder.{AreInGroup}
-use Rattle.trace_run.specs.callers.Together.{BeginsGroup, EndsGroup, GroupLines, IsFirstPlace, OfCells, BetweenGroups, WorkAtOnce, WorkInGroups, between_groups, ends_group, groups_done, groups_of, over_callers}
-use Rattle.trace_run.specs.callers.WorkLines.{HasFront, calls_of_lines}
+use Rattle.trace_run.specs.callers.Together.{BeginsGroup, EndsGroup, GroupLines, IsFirstPlace, OfCells, BetweenGroups, WorkAtOnce, WorkInGroups, between_groups, ends_group, groups_done, groups_of, over_callers, IsCutLast, lines_with_end, with_first}
+use Rattle.trace_run.specs.callers.WorkLines.{HasFront, calls_of_lines, noted_of_work}
 use Rattle.trace_run.proofs.callers.AbsorbLemmas.{over-few}
 use Rattle.trace_run.proofs.callers.BesideLemmas.{fed-idle}
 use Rattle.trace_run.proofs.callers.CallerActLemmas.{line-kind}
 use Rattle.trace_run.proofs.callers.EndLineLemmas.{Halted, IsUnused, Turned, end-halted, end-turned}
-use Rattle.trace_run.proofs.callers.EndedLemmas.{have-come-ended, have-come-stopped, with_end, with_stop}
+use Rattle.trace_run.proofs.callers.EndedLemmas.{have-come-ended, have-come-stopped, with_end, with_stop, stopped-cut}
 use Rattle.trace_run.proofs.callers.FrontLemmas.{front-before, front-same, front-then, pool-front}
 use Rattle.trace_run.proofs.callers.GroupCounts.{over-add, over-same, over-zero}
 use Rattle.trace_run.proofs.callers.GroupLists.{EndsWhole, begun-append, group-begun, group-ended, group-last, groups-append, whole-of}
@@ -60,8 +60,14 @@ use Rattle.trace_run.proofs.callers.GroupRunLemmas.{all-callers, all-declared, m
 use Rattle.trace_run.proofs.callers.GroupsLemmas.{have-restored, have-started}
 use Rattle.trace_run.proofs.callers.LineLists.{AreInside, all-inside, calls-append, calls-few, ends-nobody, lines-failed, lines-long, nobody-callers}
 use Rattle.trace_run.proofs.callers.MoreLemmas.{fed-about, have-come-more, with_lines}
-use Rattle.trace_run.proofs.feeds.FedLemmas.{ops-are, used-more, used-once}
+use Rattle.trace_run.proofs.feeds.FedLemmas.{ops-are, used-more, used-once, fed-beside}
 use Rattle.trace_run.proofs.RunLemmas.{calls-faults, calls-reads}
+use Rattle.arc_lists.proofs.Tables.{cases_true}
+use Rattle.arc_table.specs.Fronts.{StartsWith, front_of}
+use Rattle.arc_table.specs.Seen.{seen_of}
+use Rattle.trace_run.proofs.callers.SyncRun.{in-groups-as}
+use Rattle.trace_run.proofs.syncs.SyncTurned.{AreToldOf, stood-more}
+use Rattle.trace_run.specs.Deeds.{lines_of_cell}
 
 -- ---- what callers read of the pool
 
@@ -325,8 +331,13 @@ module _ {P D : Type 0} (m : Meanings OnHeap) (cache : Cache) (restored : List R
   used-here : UsedAtOnce devices trace.blocks callers ms did.beside.feeds (lent_in a) (lent_in b)
   used-here =
       let are = ops-are qs ss ms did.are in
-      used-once m devices cache trace.blocks callers ms a b old.feeder new.feeder
-      (subst (λ (x : List Op × List Reply × ℕ). WorksBeside m devices cache trace.blocks x.0 x.2 (λ n. lines_of_caller n ms) (replies_where is_feed x.0 x.1) a b old.feeder new.feeder) (λ i. (sym are.0 i, sym are.1 i, reached.come.parties i)) did.beside)
+      let beside : WorksBeside m devices cache trace.blocks (ops_of ms) callers (λ n. lines_of_caller n ms) (replies_where is_feed (ops_of ms) (replies_of ms)) a b old.feeder new.feeder = record {
+        feeds = did.beside.feeds;
+        used = did.beside.used;
+        answered = subst (λ (x : List Op × List Reply). AreFedReplies (lent_in a) (filter is_feed x.0) did.beside.feeds (replies_where is_feed x.0 x.1)) (λ i. (sym are.0 i, sym are.1 i)) did.beside.answered;
+        read = subst (λ (k : ℕ). HaveRead devices trace.blocks k (λ n. lines_of_caller n ms) (lent_in a) (lent_in did.beside.used.lent) (lent_in did.beside.used.later) (lent_in b)) reached.come.parties did.beside.read;
+      } in
+      used-once m devices cache trace.blocks callers ms a b old.feeder new.feeder beside
 
   used-lines : (last : GroupLines) → last.lines ≡ ms → UsedInGroups devices trace.blocks callers (groups_of w.lines ++ last ∷ []) done.feeds begun (lent_in b)
   used-lines last is = used-more devices trace.blocks callers (groups_of w.lines) last w.feeds did.beside.feeds begun (lent_in a) (lent_in b) reached.used (subst (λ (ls : List Line). UsedAtOnce devices trace.blocks callers ls did.beside.feeds (lent_in a) (lent_in b)) (sym is) used-here)
@@ -476,10 +487,10 @@ module _ {P D : Type 0} (m : Meanings OnHeap) (cache : Cache) (restored : List R
 -- which endings say that a sync stopped
 pub stops-on : {P D : Type 0} (cache : Cache) (restored : List Restored) (pools : Ghosts P) (devices : Devices D) (trace : Trace) (start after : BetweenGroups P) (begun is : Option D) (replied replies : List Reply) (ending : Ending) (work : RunWork) (crew : Crew OnHeap) → goes_on ending ≡ false
     → AreDone cache restored pools devices trace start after.pool begun is ending replies work crew → StepsOn cache restored pools devices trace start after begun is replied replies ending crew
-stops-on cache restored pools devices trace start after begun is replied replies Whole work crew stops done = absurd (false≢true (sym stops))
-stops-on cache restored pools devices trace start after begun is replied replies Fork work crew stops done = (work, done)
-stops-on cache restored pools devices trace start after begun is replied replies Sync work crew stops done = (work, done)
-stops-on cache restored pools devices trace start after begun is replied replies (Full need left) work crew stops done = (work, done)
+stops-on cache restored pools devices trace start after begun is replied replies Whole work crew stops over = absurd (false≢true (sym stops))
+stops-on cache restored pools devices trace start after begun is replied replies Fork work crew stops over = (work, over)
+stops-on cache restored pools devices trace start after begun is replied replies Sync work crew stops over = (work, over)
+stops-on cache restored pools devices trace start after begun is replied replies (Full need left) work crew stops over = (work, over)
 
 -- where a fork failed, the groups are those before it
 as-forked : {P D : Type 0} (cache : Cache) (restored : List Restored) (pools : Ghosts P) (devices : Devices D) (trace : Trace) (start was : BetweenGroups P) (begun is : Option D) (rs : List Reply) (w : RunWork) (crew : Crew OnHeap)
@@ -619,9 +630,10 @@ module _ {P D : Type 0} (m : Meanings OnHeap) (cache : Cache) (restored : List R
     knows : Knows (openings_of trace) new.feeder
     knows = knows-new m cache restored pools devices trace start was begun from to a b rs ss qs w old new formed.few_ops few-callers between more unused did-these again leaves own within here
 
-    pub next-ended : (reply : Reply) → DidEndLine cache pools op (between_groups to was.group was.next) fin new last (Ok reply) → (so_far all : List Reply) → so_far ≡ rs ++ ss → all ≡ so_far ++ reply ∷ []
+    pub next-ended : (came : Result Reply Ending) (reply : Reply) → came ≡ Ok reply → DidEndLine cache pools op (between_groups to was.group was.next) fin new last came → (so_far all : List Reply) → so_far ≡ rs ++ ss → all ≡ so_far ++ reply ∷ []
         → StepsOn cache restored pools devices trace start fin begun (lent_in b) rs all Whole last
-    next-ended reply ended so_far all is_far is =
+    next-ended came reply told did_it so_far all is_far is =
+        let ended = subst (DidEndLine cache pools op (between_groups to was.group was.next) fin new last) told did_it in
         let turn = end-turned cache pools (openings_of trace) (with_lines w did-these.lines did-these.beside.feeds).lines (between_groups to was.group was.next) fin new last told-now knows ended.kept (length rs) may-now op reply ended in
         let whole : all ≡ (rs ++ ss) ++ reply ∷ [] = is ∙ ap (λ (l : List Reply). l ++ reply ∷ []) is_far in
         let work : RunWork = with_end (with_lines w did-these.lines did-these.beside.feeds) (record { op = op; reply = reply; work = turn.work }) in
@@ -632,9 +644,10 @@ module _ {P D : Type 0} (m : Meanings OnHeap) (cache : Cache) (restored : List R
           omega (arith, size, length-append (rs ++ ss) (reply ∷ []), length-append rs ss),
         )
 
-    pub next-halted : (ending : Ending) → DidEndLine cache pools op (between_groups to was.group was.next) fin new last (Err ending) → (all : List Reply) → all ≡ rs ++ ss
+    pub next-halted : (came : Result Reply Ending) (ending : Ending) → came ≡ Err ending → DidEndLine cache pools op (between_groups to was.group was.next) fin new last came → (all : List Reply) → all ≡ rs ++ ss
         → StepsOn cache restored pools devices trace start fin begun (lent_in b) rs all ending last
-    next-halted ending ended all is =
+    next-halted came ending told did_it all is =
+        let ended = subst (DidEndLine cache pools op (between_groups to was.group was.next) fin new last) told did_it in
         let at_line : slice_get trace.ops (length (rs ++ ss)) ≡ Some op =
         ap (slice_get trace.ops) (both-long m cache restored pools devices trace start was begun from to a b rs ss qs w old new formed.few_ops few-callers between more unused did-these again leaves own within here) ∙ there in
         let h = end-halted cache pools trace (rs ++ ss) (with_lines w did-these.lines did-these.beside.feeds) (between_groups to was.group was.next) fin new last told-now knows ended.kept op ending at_line ended in
