@@ -11,6 +11,7 @@ pub mod GenLemmas
 pub mod HistoryLemmas
 pub mod LineActs
 pub mod LineAnswers
+pub mod LookLemmas
 pub mod OutcomeLemmas
 pub mod PlacedLemmas
 pub mod RanLemmas
