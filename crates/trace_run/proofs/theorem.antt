@@ -6,6 +6,7 @@ pub mod EndLemmas
 pub mod FeederKinds
 pub mod GenLemmas
 pub mod HistoryLemmas
+pub mod KeptEnds
 pub mod LineActs
 pub mod LineAnswers
 pub mod LookLemmas
