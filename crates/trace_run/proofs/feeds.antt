@@ -2,4 +2,6 @@ pub mod FedLemmas
 pub mod FeedLemmas
 pub mod FeedStands
 pub mod PickedLemmas
+pub mod SeriesLemmas
 pub mod StartLemmas
+pub mod UsedLemmas

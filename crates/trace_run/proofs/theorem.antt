@@ -1,9 +1,12 @@
+pub mod AnsweredCells
 pub mod CellActs
 pub mod CellRun
 pub mod CloseLemmas
 pub mod CrewEnds
+pub mod DeviceUsed
 pub mod EndLemmas
 pub mod FeederKinds
+pub mod FirstPlace
 pub mod GenLemmas
 pub mod HistoryLemmas
 pub mod KeptEnds
@@ -17,6 +20,7 @@ pub mod ReportLemmas
 pub mod RestLemmas
 pub mod RunEnds
 pub mod SourceLemmas
+pub mod TogetherRun
 pub mod ToldLemmas
 pub mod WordLemmas
 pub mod WorkEnds

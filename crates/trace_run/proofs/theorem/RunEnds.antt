@@ -16,10 +16,11 @@ use Rattle.arc_core.specs.declared.served.Restored.{Restored}
 use Rattle.arc_core.specs.Operations.{Act, Fails, GivesBack, Keeps, Loads, MakesPrivate, Reads, RunsOut, RunsOutAtDbuf, Tell, Writes, actor_of, acts_in, moments, own_events, own_moments, pool_reads}
 use Rattle.arc_core.specs.ShardLog.{ShardLog}
 use Rattle.arc_table.specs.declared.about.About.{About}
+use Rattle.arc_table.specs.declared.view.Known.{Known}
 use Rattle.arc_table.specs.declared.view.Line.{Line as Seen}
 use Rattle.arc_table.specs.Ended.{Ended}
 use Rattle.arc_table.specs.Cache.{Cache}
-use Rattle.arc_table.specs.Fronts.{StartsWith}
+use Rattle.arc_table.specs.Fronts.{StartsWith, front_of}
 use Rattle.arc_table.specs.Geometry.{IsCell, parties_of}
 use Rattle.arc_table.specs.Seen.{events_in, seen_of}
 use Rattle.arc_table.specs.TableLaws.{get_front, within}
@@ -34,15 +35,16 @@ use Rattle.trace_run.specs.declared.kept_blocks.KeptBlock.{KeptBlock}
 use Rattle.trace_run.specs.Acts.{acts_of_drops, events_of_feeder}
 use Rattle.trace_run.specs.Answers.{AnswersAll, is_pool_fault}
 use Rattle.trace_run.specs.CellEnds.{AreCellsOf, EndedCrew, IsCellDrop, ends_from}
-use Rattle.trace_run.specs.Deeds.{HasToldAll, HasToldOthers, Noted, acts_of_events, events_there, lines_of_cell}
+use Rattle.trace_run.specs.Deeds.{HasToldAll, HasToldOthers, KeepsCells, Noted, acts_of_events, events_there, lines_of_cell}
 use Rattle.trace_run.specs.Explaining.{BeginsWith, EndsWith, Explain, drops_at_end}
 use Rattle.trace_run.specs.FeedEvents.{events_of_line, events_of_lines, feeds_behind}
 use Rattle.trace_run.specs.Feeds.{FeedDone}
-use Rattle.trace_run.specs.KeptBlocks.{holds_in, read_of}
+use Rattle.trace_run.specs.KeptBlocks.{Stands, holds_in, read_of}
 use Rattle.trace_run.specs.KeptReads.{KeptRead}
 use Rattle.trace_run.specs.Lines.{caller_of, is_of_caller, replies_where}
 use Rattle.trace_run.specs.MadeLines.{made_of}
-use Rattle.trace_run.specs.Meeting.{HasSettled, HaveGivenBack, IsLevel, Waits, drops_from}
+use Rattle.trace_run.specs.ObjectAnswers.{AreAnsweredByCells}
+use Rattle.trace_run.specs.Meeting.{AllKeepCells, HasSettled, HaveGivenBack, HaveParted, IsLevel, Waits, drops_from}
 use Rattle.trace_run.specs.Objects.{Line}
 use Rattle.trace_run.specs.one_caller.Alone.{ends_in, histories_of}
 use Rattle.trace_run.specs.one_caller.OneCaller.{events_of_drops, kept_after, kept_after_all}
@@ -55,6 +57,7 @@ use Rattle.trace_run.specs.callers.Together.{AreCut, IsCut, ends_group, over_cal
 use Rattle.trace_run.specs.callers.WorkLines.{AnswersLines, AreLinesOf, calls_of_lines, noted_of_work}
 use Rattle.trace_run.proofs.CellLemmas.{all-empty}
 use Rattle.trace_run.proofs.callers.AfterEnds.{crew-long, crew-stopped, last-same}
+use Rattle.trace_run.proofs.callers.CallerActLemmas.{caller-is}
 use Rattle.trace_run.proofs.callers.GroupCounts.{IsLineAct, acts-counted, over-same, reads_of_act}
 use Rattle.trace_run.proofs.callers.GroupRunLemmas.{come-wait, gave-at, gone-long, gone-stopped, lines-acts, lines-noted}
 use Rattle.trace_run.proofs.callers.MeetLemmas.{all-before, starts-then}
@@ -62,7 +65,9 @@ use Rattle.trace_run.proofs.one_caller.TellLemmas.{all-map}
 use Rattle.trace_run.proofs.theorem.CellRun.{crew-cells}
 use Rattle.trace_run.proofs.theorem.CrewEnds.{crew-ended, crew-level}
 use Rattle.trace_run.proofs.theorem.LineActs.{Own, caller-own, own-fits}
-use Rattle.trace_run.proofs.theorem.LineAnswers.{lines-answered}
+use Rattle.trace_run.proofs.theorem.AnsweredCells.{EndsFrom, all-by-cells}
+use Rattle.trace_run.proofs.theorem.EndLemmas.{shown-at}
+use Rattle.trace_run.proofs.theorem.LineAnswers.{IsOfOne, lines-answered, own-lines-of}
 use Rattle.trace_run.proofs.theorem.WorkEnds.{HasEndedWork, IsCallersAct, acts-same, begins-seen, own-told, reads-counted, work-explains, work-level}
 
 -- ---- lines that are not answered add nothing
@@ -190,15 +195,15 @@ module _ (cache : Cache) (valid : IsConfig cache.config) (restored : List Restor
   -- ---- the parties that gave back
 
   gave : HaveGivenBack cache (lines-acts cache restored len image place blocks os rs work crew come) (lines-noted cache restored len image place blocks os rs work crew come) crew.feeder.own.about.openings (events_by_feeder g restored os rs work.feeds)
-      (λ shard. seen_of g shard crew.feeder) (acts_of_syncs g blocks work) (noted_of_syncs work) crew.kept.items h.parties
+      (λ shard. seen_of g shard crew.feeder) (acts_of_syncs g blocks work) (noted_of_syncs work) crew.parties.items crew.feeder crew.kept.items h.parties
   gave = h.gave (lines-acts cache restored len image place blocks os rs work crew come) (lines-noted cache restored len image place blocks os rs work crew come) (come-wait cache restored len image place blocks os rs work crew come)
       crew.feeder.own.about.openings (events_by_feeder g restored os rs work.feeds) (λ shard. seen_of g shard crew.feeder) (acts_of_syncs g blocks work) (noted_of_syncs work) come.feeder
 
   stopped : HaveStopped cache h.parties
-  stopped = gone-stopped cache _ _ _ _ _ _ _ crew.kept.items h.parties come.kepts gave
+  stopped = gone-stopped cache _ _ _ _ _ _ _ _ _ crew.kept.items h.parties come.kepts gave
 
   many-gave : length gave.callers ≡ g.callers
-  many-gave = gone-long cache _ _ _ _ _ _ _ crew.kept.items h.parties come.kepts gave
+  many-gave = gone-long cache _ _ _ _ _ _ _ _ _ crew.kept.items h.parties come.kepts gave
 
   same-parties : (c.callers ≡ gave.callers) × (c.feeder ≡ gave.feeder)
   same-parties = last-same c.callers gave.callers c.feeder gave.feeder (sym c.are ∙ gave.are)
@@ -368,3 +373,52 @@ module _ (cache : Cache) (valid : IsConfig cache.config) (restored : List Restor
 
   pub run-answers : ((k : ℕ) (op : Op) → slice_get os k ≡ Some op → (n : ℕ) → caller_of op ≡ Some n → n < g.callers) → AnswersAll len image blocks os rs
   run-answers below = lines-answered g len image place blocks (λ n. (party-at n).own.about.openings) (λ n. (party-at n).own.seen) (λ n. n < g.callers) os rs work.lines come.did.lines below come.ended line-answers
+
+  -- ---- what the parties had seen of cells
+
+  starts-cells : (p q r : PartyPlace) → KeepsCells g p q → KeepsCells g q r → KeepsCells g p r
+  starts-cells p q r first second = record {
+    about = second.about ∙ first.about;
+    fronts = λ i range. starts-then (front_of i r.own.seen) (front_of i q.own.seen) (front_of i p.own.seen) (second.fronts i range) (first.fronts i range);
+  }
+
+  kept-cells : (olds news : List PartyPlace) (n : ℕ) (p : PartyPlace) → AllKeepCells g olds news → get_elem? olds n ≡ some p → (q : PartyPlace) × (get_elem? news n ≡ some q) × KeepsCells g p q
+  kept-cells [] [] n p all at = absurd (some-ne-none p (sym at))
+  kept-cells [] (x ∷ xs) n p all at = absurd all
+  kept-cells (o ∷ os) [] n p all at = absurd all
+  kept-cells (o ∷ os) (x ∷ xs) zero p all at = (x, refl, subst (λ (y : PartyPlace). KeepsCells g y x) (some-injective o p at) all.0)
+  kept-cells (o ∷ os) (x ∷ xs) (suc n) p all at = kept-cells os xs n p all.1 at
+
+  parted-cells : (olds news : List PartyPlace) (n : ℕ) (p : PartyPlace) → HaveParted cache c.ended.lines olds news → ((k : ℕ) (o : PartyPlace) → get_elem? olds k ≡ some o → Stands cache o []) → get_elem? olds n ≡ some p
+      → (q : PartyPlace) × (get_elem? news n ≡ some q) × KeepsCells g p q
+  parted-cells [] [] n p parted stand at = absurd (some-ne-none p (sym at))
+  parted-cells [] (x ∷ xs) n p parted stand at = absurd parted
+  parted-cells (o ∷ os) [] n p parted stand at = absurd parted
+  parted-cells (o ∷ os) (x ∷ xs) zero p parted stand at = (x, refl, subst (λ (y : PartyPlace). KeepsCells g y x) (some-injective o p at) (parted.0.same [] (stand 0 o refl)).keeps)
+  parted-cells (o ∷ os) (x ∷ xs) (suc n) p parted stand at = parted-cells os xs n p parted.1 (λ k q is. stand (suc k) q is) at
+
+  -- the cache was closed with parties that have seen of cells at least what callers had
+  caller-ends : (n : ℕ) → n < g.callers → (w : Known OnHeap) × (get_elem? h.ends.views n ≡ some w) × EndsFrom g (party-at n).own.about.openings (party-at n).own.seen w
+  caller-ends n below =
+      let p : PartyPlace = (come.each n below).party in
+      let q = kept-cells crew.parties.items gave.callers n p gave.cells (come.each n below).at.party_at in
+      let there_is : get_elem? c.callers n ≡ some q.0 = ap (λ (l : List PartyPlace). get_elem? l n) same-parties.0 ∙ q.1 in
+      let r = parted-cells c.callers c.parted n q.0 c.ended.parted (λ k o at. (caller-waits k o at).1.stands) there_is in
+      let last : get_elem? h.closing n ≡ some r.0 = ap (λ (l : List PartyPlace). get_elem? l n) c.then ∙ get_front c.parted (c.last ∷ []) n r.0 r.1 in
+      let shown : get_elem? h.ends.views n ≡ some r.0.own = subst (λ (k : ℕ). get_elem? h.ends.views k ≡ some r.0.own) (ended n r.0 last).number (shown-at h.ends.views h.closing n r.0 last h.ends.shown) in
+      let all = starts-cells p q.0 r.0 q.2 r.2 in
+      (
+        r.0.own,
+        shown,
+        subst (λ (x : PartyPlace). EndsFrom g x.own.about.openings x.own.seen r.0.own) (party-is n below) (record { about = ap (λ (a : About). a.openings) all.about; fronts = all.fronts }),
+      )
+
+  -- All lines of callers on objects are answered by the closed cells.
+  pub run-objects : ((k : ℕ) (op : Op) → slice_get os k ≡ Some op → (n : ℕ) → caller_of op ≡ Some n → n < g.callers) → AreAnsweredByCells g len image place closed.cells work.lines
+  run-objects below = all-by-cells cache valid h.closing closed h.ends len image place blocks (λ n. (party-at n).own.about.openings) (λ n. (party-at n).own.seen) work.lines
+      (λ n l k at his. own-at work.lines (own-lines-of (λ n. n < g.callers) os rs work.lines come.did.lines below) k l at n (caller-is n l.op his)) line-answers caller-ends
+    where
+      own-at : (ls : List Line) → AllByRecursion (IsOfOne (λ n. n < g.callers)) ls → (k : ℕ) (l : Line) → slice_get ls k ≡ Some l → (n : ℕ) → caller_of l.op ≡ Some n → n < g.callers
+      own-at [] all k l at n is = cc
+      own-at (x ∷ ls) all zero l at n is = let same : x ≡ l = cc in all.0 n (ap (λ (y : Line). caller_of y.op) same ∙ is)
+      own-at (x ∷ ls) all (suc k) l at n is = own-at ls all.1 k l at n is

@@ -3,7 +3,7 @@ use Rattle.trace_text.specs.declared.trace.Trace.{Trace}
 use Rattle.trace_run.specs.Bounded.{device_len, with_bound}
 use Rattle.trace_run.specs.CellEnds.{AreCellsOf}
 use Rattle.trace_run.specs.DeviceUse.{WasUsed}
-use Rattle.trace_run.specs.Devices.{Finds, IsHandedBack, WasLent, device_of, lent_in, usable}
+use Rattle.trace_run.specs.Devices.{Finds, IsHandedBack, WasLent, cursor_in, device_of, lent_in, usable}
 use Rattle.trace_run.specs.declared.device.Device.{Device}
 use Rattle.trace_run.specs.Feeds.{IsOpenedAt, MayBeFed}
 use Rattle.trace_run.specs.Outcome.{IsRun}
@@ -32,8 +32,8 @@ returns-in-Ok-ran-clause-does g c =
     let trace : Trace = c.in-Ok.trace in
     let bounded : c.with_bound-trace.result ≡ with_bound trace (device_len g.D.CacheDev.size c.args.cache.now) = c.with_bound-trace.ensures.bounded ∙ ap (with_bound trace) c.device_len.ensures in
     let begun : Device g.row.D.Denot = c.in-Ok-begin.begun.device in
-    let found : Finds g.D.CacheDev c.args.cache.now (device_of begun) c.in-Ok-begin.begun.rebuilt =
-    subst (λ (o : Option g.row.D.Denot). Finds g.D.CacheDev o (device_of begun) c.in-Ok-begin.begun.rebuilt) c.take.ensures.value c.in-Ok-begin.ensures.found in
+    let found : Finds g.D.CacheDev c.args.cache.now (device_of begun) (cursor_in begun) c.in-Ok-begin.begun.rebuilt =
+    subst (λ (o : Option g.row.D.Denot). Finds g.D.CacheDev o (device_of begun) (cursor_in begun) c.in-Ok-begin.begun.rebuilt) c.take.ensures.value c.in-Ok-begin.ensures.found in
     let lent : WasLent g.D.CacheDev begun c.run_trace-ran.new.device = c.run_trace-ran.ensures.device in
     let kind = c.in-Ok-begin.ensures.kind in
     let back = subst (IsHandedBack g.D.CacheDev (device_of begun)) (sym c.back.ensures) (lent-back g.D.CacheDev begun c.run_trace-ran.new.device lent) in
@@ -45,13 +45,14 @@ returns-in-Ok-ran-clause-does g c =
       source = search rules;
       took = search rules;
       unrun = search rules;
-      cache = found-kept g.D.CacheDev c.args.cache.now (device_of begun) c.back.result c.in-Ok-begin.begun.rebuilt found back;
+      cache = found-kept g.D.CacheDev c.args.cache.now (device_of begun) c.back.result (cursor_in begun) c.in-Ok-begin.begun.rebuilt found back;
       reported = reported-so g.P.Pool g.D.CacheDev _ _ _ told.report told.closed c.deliver.result.report c.deliver.result.closed c.deliver.ensures.same (record {
         trace = trace;
         read = c.in-Ok.ensures.read;
         done = c.in-Ok.ensures.done;
         started = device_of begun;
-        found = subst (Finds g.D.CacheDev c.args.cache.now (device_of begun)) (sym c.in-Ok-ran.ensures.rebuilt) found;
+        first = cursor_in begun;
+        found = subst (Finds g.D.CacheDev c.args.cache.now (device_of begun) (cursor_in begun)) (sym c.in-Ok-ran.ensures.rebuilt) found;
         used = subst (λ (t : Trace). WasUsed g.D.CacheDev t told.report.replies (device_of begun) c.back.result) bounded
             (was-used g.D.CacheDev c.with_bound-trace.result told.report.replies begun c.run_trace-ran.new.device c.back.result c.back.ensures kind lent c.in-Ok-ran.ensures.together);
         ending = told.ending;
