@@ -12,7 +12,6 @@ pub mod HistoryLemmas
 pub mod KeptEnds
 pub mod LineActs
 pub mod LineAnswers
-pub mod LookLemmas
 pub mod OutcomeLemmas
 pub mod PlacedLemmas
 pub mod RanLemmas
