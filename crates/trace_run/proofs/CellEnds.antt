@@ -82,7 +82,7 @@ use Rattle.trace_run.proofs.callers.MeetLemmas.{own-seen-more, starts-then}
 
 -- ---- a cell to which nothing was done
 
-opened-uncached : (ms : List Mapping) → filter (λ (d : OutlineDbuf). d.cached) (map outline_dbuf (map opened ms)) ≡ []
+pub opened-uncached : (ms : List Mapping) → filter (λ (d : OutlineDbuf). d.cached) (map outline_dbuf (map opened ms)) ≡ []
 opened-uncached [] = refl
 opened-uncached (m ∷ ms) = opened-uncached ms
 

@@ -34,7 +34,7 @@ use Rattle.trace_run.specs.declared.groups.Crew.{Crew}
 use Rattle.trace_run.specs.declared.kept_blocks.KeptBlock.{KeptBlock}
 use Rattle.trace_run.specs.Acts.{acts_of_drops, events_of_feeder}
 use Rattle.trace_run.specs.Answers.{AnswersAll, is_pool_fault}
-use Rattle.trace_run.specs.CellEnds.{AreCellsOf, EndedCrew, IsCellDrop, ends_from}
+use Rattle.trace_run.specs.CellEnds.{AreCellsOf, AreEndedSo, EndedCrew, IsCellDrop, ends_from}
 use Rattle.trace_run.specs.Deeds.{HasToldAll, HasToldOthers, KeepsCells, Noted, acts_of_events, events_there, lines_of_cell}
 use Rattle.trace_run.specs.Explaining.{BeginsWith, EndsWith, Explain, drops_at_end}
 use Rattle.trace_run.specs.FeedEvents.{events_of_line, events_of_lines, feeds_behind}
@@ -62,7 +62,7 @@ use Rattle.trace_run.proofs.callers.GroupCounts.{IsLineAct, acts-counted, over-s
 use Rattle.trace_run.proofs.callers.GroupRunLemmas.{come-wait, gave-at, gone-long, gone-stopped, lines-acts, lines-noted}
 use Rattle.trace_run.proofs.callers.MeetLemmas.{all-before, starts-then}
 use Rattle.trace_run.proofs.one_caller.TellLemmas.{all-map}
-use Rattle.trace_run.proofs.theorem.CellRun.{crew-cells}
+use Rattle.trace_run.proofs.theorem.CellRun.{crew-cells, crew-kept}
 use Rattle.trace_run.proofs.theorem.CrewEnds.{crew-ended, crew-level}
 use Rattle.trace_run.proofs.theorem.LineActs.{Own, caller-own, own-fits}
 use Rattle.trace_run.proofs.theorem.AnsweredCells.{EndsFrom, all-by-cells}
@@ -339,6 +339,11 @@ module _ (cache : Cache) (valid : IsConfig cache.config) (restored : List Restor
     run-cells = crew-cells cache h.parties h.closing c stopped closed h.ends trace config noted knows-last many (λ n o at i range. (caller-tells n o at).entries i range)
         (acts_of_syncs g blocks work) (noted_of_syncs work) (subst (HasToldOthers g (acts_of_syncs g blocks work) (noted_of_syncs work)) (sym same-parties.1) gave.fed.told) feeder-noted
 
+    -- what they still kept was given back
+    pub run-kept : AreEndedSo g 0 closed.cells ended-work.ended
+    run-kept = crew-kept cache h.parties h.closing c stopped closed h.ends trace config noted knows-last many (λ n o at i range. (caller-tells n o at).entries i range)
+        (acts_of_syncs g blocks work) (noted_of_syncs work) (subst (HasToldOthers g (acts_of_syncs g blocks work) (noted_of_syncs work)) (sym same-parties.1) gave.fed.told) feeder-noted
+
     emptied : (j : ℕ) (x : OnHeap) → get_elem? closed.cells j ≡ some x → dbuf_meanings.holds x ≡ []
     emptied = all-empty cache h.closing closed h.ends trace noted run-cells
 
@@ -406,8 +411,7 @@ module _ (cache : Cache) (valid : IsConfig cache.config) (restored : List Restor
       let r = parted-cells c.callers c.parted n q.0 c.ended.parted (λ k o at. (caller-waits k o at).1.stands) there_is in
       let last : get_elem? h.closing n ≡ some r.0 = ap (λ (l : List PartyPlace). get_elem? l n) c.then ∙ get_front c.parted (c.last ∷ []) n r.0 r.1 in
       let shown : get_elem? h.ends.views n ≡ some r.0.own = subst (λ (k : ℕ). get_elem? h.ends.views k ≡ some r.0.own) (ended n r.0 last).number (shown-at h.ends.views h.closing n r.0 last h.ends.shown) in
-      let all = starts-cells p q.0 r.0 q.2 r.2 in
-      (
+      let all = starts-cells p q.0 r.0 q.2 r.2 in (
         r.0.own,
         shown,
         subst (λ (x : PartyPlace). EndsFrom g x.own.about.openings x.own.seen r.0.own) (party-is n below) (record { about = ap (λ (a : About). a.openings) all.about; fronts = all.fronts }),

@@ -35,7 +35,7 @@ use Rattle.trace_run.specs.declared.groups.Crew.{Crew}
 use Rattle.trace_run.specs.declared.ran.Ending.{Ending}
 use Rattle.trace_run.specs.declared.ran.Ending.TheVariants.{Fork, Full, Sync, Whole}
 use Rattle.trace_run.specs.Answers.{AnswersAll, is_pool_fault}
-use Rattle.trace_run.specs.CellEnds.{AreCellsOf}
+use Rattle.trace_run.specs.CellEnds.{AreCellsOf, AreEndedSo}
 use Rattle.trace_run.specs.Effects.{Answered, Effect, GivenBack, NoEffect, PoolRefused, calls_of}
 use Rattle.trace_run.specs.Explaining.{Explain}
 use Rattle.trace_run.specs.Lines.{caller_of, is_of_caller}
@@ -55,7 +55,7 @@ use Rattle.trace_run.proofs.callers.GroupCounts.{over-add, over-one, over-same, 
 use Rattle.trace_run.proofs.callers.GroupRunLemmas.{all-callers}
 use Rattle.trace_run.proofs.callers.SyncRun.{failed-as, fresh-then, full-as, in-groups-as}
 use Rattle.trace_run.proofs.theorem.LineAnswers.{EndsWell, IsOfOne, end-lines, lines-replies, own-lines-of}
-use Rattle.trace_run.proofs.theorem.RunEnds.{did-work, ended-work, lines-long, run-answers, run-cells, run-counted, run-cut, run-explains, run-objects, run-reads}
+use Rattle.trace_run.proofs.theorem.RunEnds.{did-work, ended-work, lines-long, run-answers, run-cells, run-counted, run-cut, run-explains, run-kept, run-objects, run-reads}
 
 -- ---- what the callers' replies tell is what all replies tell
 
@@ -189,6 +189,9 @@ module _ {P D : Type 0} (cache : Cache) (pools : Ghosts P) (devices : Devices D)
   pub cells-are : AreCellsOf trace (noted_by trace.config done-work) closed
   cells-are = subst (λ (g : Config). AreCellsOf trace (noted_by g done-work) closed) config (run-cells cache valid restored (pools.size before) (pools.told before) place trace.blocks os more rs work crew come closed h trace config d.reached.knows)
 
+  kept-are : AreEndedSo trace.config 0 closed.cells done-work.ended
+  kept-are = subst (λ (g : Config). AreEndedSo g 0 closed.cells done-work.ended) config (run-kept cache valid restored (pools.size before) (pools.told before) place trace.blocks os more rs work crew come closed h trace config d.reached.knows)
+
   explained : Explain trace restored done-work rs (ends_in closed) (histories_of closed)
   explained = mapped trace restored done-work rs closed
       (subst (λ (x : Config × List Op). Explain (record { config = x.0; blocks = trace.blocks; objects = []; ops = x.1 }) restored done-work rs (ends_in closed) (histories_of closed)) (λ i. (config i, whole-ops i))
@@ -259,6 +262,7 @@ module _ {P D : Type 0} (cache : Cache) (pools : Ghosts P) (devices : Devices D)
     config = h.ends.config ∙ config;
     explained = explained;
     cells = cells-are;
+    kept = kept-are;
     reads = after-reads;
     faults = after-faults;
     together = λ rebuilt found. record {

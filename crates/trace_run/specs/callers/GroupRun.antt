@@ -22,7 +22,7 @@ use Rattle.trace_run.specs.declared.ran.Ending.{Ending}
 use Rattle.trace_run.specs.one_caller.Alone.{ends_in, histories_of}
 use Rattle.trace_run.specs.Answers.{AnswersAll}
 use Rattle.trace_run.specs.Explaining.{Explain}
-use Rattle.trace_run.specs.CellEnds.{AreCellsOf, EndedCrew}
+use Rattle.trace_run.specs.CellEnds.{AreCellsOf, AreEndedSo, EndedCrew}
 use Rattle.trace_run.specs.ObjectAnswers.{AreAnsweredByCells}
 use Rattle.trace_run.specs.RunWork.{IsRunWork, RunWork, noted_by}
 use Rattle.trace_run.specs.callers.DeviceForks.{UsedInGroups}
@@ -58,6 +58,7 @@ pub record RanTogether {P D : Type 0} (pools : Ghosts P) (devices : Devices D) (
   pub config : closed.config ≡ trace.config
   pub explained : Explain trace restored work replies (ends_in closed) (histories_of closed)
   pub cells : AreCellsOf trace (noted_by trace.config work) closed
+  pub kept : AreEndedSo trace.config 0 closed.cells work.ended
   pub reads : pools.reads before < 2 ^ 63 → pools.reads after ≡ pools.reads before + sum_by pool_reads (histories_of closed)
   pub faults : pools.faults before < 2 ^ 63 → pools.faults after ≡ pools.faults before + faults_told ending replies
   pub together : (rebuilt : Option Rebuilt) → found_keys rebuilt ≡ restored → RunsTogether pools before after place trace ending work closed.cells (report_of_closed ending rebuilt replies closed)
