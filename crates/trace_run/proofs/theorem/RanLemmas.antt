@@ -30,6 +30,7 @@ use Rattle.trace_run.specs.RunWork.{RunWork, only_ended, plain_lines, plain_work
 use Rattle.trace_run.specs.callers.WorkLines.{AreLinesOf}
 use Rattle.trace_run.proofs.theorem.DeviceUsed.{groups-back}
 use Rattle.trace_run.proofs.theorem.FirstPlace.{first-place}
+use Rattle.trace_run.proofs.theorem.KeptEnds.{plain-kept}
 use Rattle.trace_run.proofs.theorem.WorkLemmas.{cells-plain, explain-plain, plain-is, plain-off}
 use Rattle.trace_run.specs.Outcome.{HasRun, IsRun}
 use Rattle.trace_run.specs.one_caller.Lent.{ReadsAlone, told_lent}
@@ -101,6 +102,7 @@ module _ {P D : Type 0} (pools : Ghosts P) (devices : DeviceGhosts D) (before af
         did = plain-is trace.config trace.ops replies ran.answers.all done;
         run = alone-run done formed one ran read;
         cells = cells-plain trace trace.config refl refl trace.ops replies closed cells;
+        kept = plain-kept trace closed cells;
         used = λ two. absurd (omega (arith, two, one));
         unfed = λ _. unfed;
         plain = λ _. refl;
@@ -130,6 +132,7 @@ module _ {P D : Type 0} (pools : Ghosts P) (devices : DeviceGhosts D) (before af
       stopped = ran.stopped;
     };
     cells = ran.cells;
+    kept = ran.kept;
     used = λ _. ran.used;
     unfed = λ none. groups-back devices trace.blocks trace.config.callers (groups_done ending work.lines) work.feeds lent back none ran.used;
     plain = λ one. absurd (omega (arith, two, one));

@@ -37,7 +37,7 @@ use Rattle.trace_run.specs.declared.groups.Crew.{Crew}
 use Rattle.trace_run.specs.declared.ran.Ending.{Ending}
 use Rattle.trace_run.specs.declared.ran.Ending.TheVariants.{Fork, Full, Sync, Whole}
 use Rattle.trace_run.specs.Answers.{AnswersAll, is_pool_fault}
-use Rattle.trace_run.specs.CellEnds.{AreCellsOf}
+use Rattle.trace_run.specs.CellEnds.{AreCellsOf, AreEndedSo}
 use Rattle.trace_run.specs.Effects.{Answered, Effect, GivenBack, NoEffect, PoolRefused, calls_of}
 use Rattle.trace_run.specs.Explaining.{Explain}
 use Rattle.trace_run.specs.Lines.{caller_of, is_of_caller}
@@ -57,7 +57,7 @@ use Rattle.trace_run.proofs.callers.GroupCounts.{over-add, over-one, over-same, 
 use Rattle.trace_run.proofs.callers.GroupRunLemmas.{all-callers}
 use Rattle.trace_run.proofs.callers.SyncRun.{in-groups-as, stood-then, stops-sync-as}
 use Rattle.trace_run.proofs.theorem.LineAnswers.{EndsWell, IsOfOne, end-lines, lines-replies, own-lines-of}
-use Rattle.trace_run.proofs.theorem.RunEnds.{did-work, ended-work, lines-long, run-answers, run-cells, feeder-begins, run-counted, run-cut, run-cut-last, run-explains, run-objects, run-reads}
+use Rattle.trace_run.proofs.theorem.RunEnds.{did-work, ended-work, feeder-begins, lines-long, run-answers, run-cells, run-counted, run-cut, run-cut-last, run-explains, run-kept, run-objects, run-reads}
 
 -- ---- what the callers' replies tell is what all replies tell
 
@@ -191,6 +191,9 @@ module _ {P D : Type 0} (cache : Cache) (pools : Ghosts P) (devices : Devices D)
   pub cells-are : AreCellsOf trace (noted_by trace.config done-work) closed
   cells-are = subst (λ (g : Config). AreCellsOf trace (noted_by g done-work) closed) config (run-cells cache valid restored (pools.size before) (pools.told before) place trace.blocks os more rs work crew come closed h trace config d.reached.knows)
 
+  kept-are : AreEndedSo trace.config 0 closed.cells done-work.ended
+  kept-are = subst (λ (g : Config). AreEndedSo g 0 closed.cells done-work.ended) config (run-kept cache valid restored (pools.size before) (pools.told before) place trace.blocks os more rs work crew come closed h trace config d.reached.knows)
+
   explained : Explain trace restored done-work rs (ends_in closed) (histories_of closed)
   explained = mapped trace restored done-work rs closed
       (subst (λ (x : Config × List Op). Explain (record { config = x.0; blocks = trace.blocks; objects = []; ops = x.1 }) restored done-work rs (ends_in closed) (histories_of closed)) (λ i. (config i, whole-ops i))
@@ -261,6 +264,7 @@ module _ {P D : Type 0} (cache : Cache) (pools : Ghosts P) (devices : Devices D)
     config = h.ends.config ∙ config;
     explained = explained;
     cells = cells-are;
+    kept = kept-are;
     reads = after-reads;
     faults = after-faults;
     together = λ rebuilt found. record {
