@@ -4,8 +4,8 @@ Whoever lets a line into the program takes its word out here: the rows of .ci/tr
 """
 
 # by any number of callers, and by a single one
-WORDS = {'get', 'put', 'patch', 'pin', 'unpin', 'feed'}
-ALONE = {'txg'}
+WORDS = set()
+ALONE = set()
 
 
 def has_undone(text):

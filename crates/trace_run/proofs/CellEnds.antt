@@ -331,7 +331,6 @@ pub record HasEndedSome (g : Config) (es : List Event) (p q : PartyPlace) : Type
   pub entries : HasSeenItsEntries g q
   pub all : HasAll q
   pub drops : AreCellDrops g es
-  pub are : AllByRecursion (IsCellDrop g) es
   pub picks : p.number ≡ g.callers → (j : ℕ) → picks_of j q ≡ picks_of j p
   pub shards : (shard : ℕ) → seen_of g shard q ≡ seen_of g shard p ++ events_there g shard es
   pub own : (shard : ℕ) → own_moments p.number (moments (opening_of g) (seen_of g shard q)) ≡ own_moments p.number (moments (opening_of g) (seen_of g shard p))
@@ -436,6 +435,9 @@ module _ (g : Config) (valid : IsConfig g) (i : ℕ) (in_range : IsCell g i) (p 
   shards-then : (shard : ℕ) → seen_of g shard back ≡ seen_of g shard p ++ events_there g shard e.drops
   shards-then shard = ap events_in (back-shard shard) ∙ (worked-are.shards shard ∙ ap (λ (l : List Line). events_in l ++ events_there g shard e.drops) (took-shard shard))
 
+  pub one-are : AllByRecursion (IsCellDrop g) e.drops
+  one-are = drops-are g i e.drops in_range are-drops
+
   pub one-ended : HasEndedSome g e.drops p q
   one-ended = subst (HasEndedSome g e.drops p) (sym t.gave) record {
     table = worked-are.left.stays.table ∙ took.table;
@@ -449,7 +451,6 @@ module _ (g : Config) (valid : IsConfig g) (i : ℕ) (in_range : IsCell g i) (p 
     entries = given-entries dbuf_meanings g i t.after t.worked in_range t.given worked-front worked-entries;
     all = worked-are.all;
     drops = drops-cells g i e.drops are-drops;
-    are = drops-are g i e.drops in_range are-drops;
     picks = λ feeder j. worked-are.picks (took.number ∙ feeder) j ∙ ap (λ (l : Ledger). list_at j l.picked) took.ledger;
     shards = shards-then;
     own = λ shard. ap (λ (es : List Event). own_moments p.number (moments (opening_of g) es)) (shards-then shard)
@@ -530,6 +531,7 @@ module _ (g : Config) (valid : IsConfig g) (i : ℕ) (in_range : IsCell g i) (p 
 module _ (g : Config) (valid : IsConfig g) where
   pub record HasEndedFrom (i count : ℕ) (p q : PartyPlace) : Type 0 where
     pub drops : List Event
+    pub are : AllByRecursion (IsCellDrop g) drops
     pub some_ended : HasEndedSome g drops p q
     pub told : (did : List Act) (had : List Noted) → HasToldOthers g did had p → HasToldOthers g (did ++ acts_of_events drops) (had ++ ends_from p.number i count) q
     pub last : (j : ℕ) → IsCell g j → i ≤ j → j < i + count → (before : List Line) × (front_of j q.own.seen ≡ before ++ end_entry p.number j)
@@ -539,6 +541,7 @@ module _ (g : Config) (valid : IsConfig g) where
   pub all-ended : (i count : ℕ) (p q : PartyPlace) → i + count ≤ g.cells → p.own.about.config ≡ g → HasSeenItsEvents g p → HasSeenItsEntries g p → HasAll p → EndsFrom g i count p q → HasEndedFrom i count p q
   all-ended i zero p q inside config sees entries all is = subst (HasEndedFrom i 0 p) (sym is) record {
     drops = [];
+    are = tt;
     some_ended = record {
       table = refl;
       parties = refl;
@@ -551,7 +554,6 @@ module _ (g : Config) (valid : IsConfig g) where
       entries = entries;
       all = all;
       drops = tt;
-      are = tt;
       picks = λ feeder j. refl;
       shards = λ shard. sym (append-nil (seen_of g shard p));
       own = λ shard. refl;
@@ -577,6 +579,7 @@ module _ (g : Config) (valid : IsConfig g) where
       let b = rest.some_ended in
       record {
         drops = ends.1.drops ++ rest.drops;
+        are = all-then (IsCellDrop g) ends.1.drops rest.drops (one-are g valid i here p r config sees entries all ends.1) rest.are;
         some_ended = record {
           table = b.table ∙ a.table;
           parties = b.parties ∙ a.parties;
@@ -589,7 +592,6 @@ module _ (g : Config) (valid : IsConfig g) where
           entries = b.entries;
           all = b.all;
           drops = all-then (λ e. parties_of g ≤ number_of e) ends.1.drops rest.drops a.drops b.drops;
-          are = all-then (IsCellDrop g) ends.1.drops rest.drops a.are b.are;
           picks = λ feeder j. b.picks (a.number ∙ feeder) j ∙ a.picks feeder j;
           shards = λ shard. b.shards shard ∙ (ap (λ (l : List Event). l ++ events_there g shard rest.drops) (a.shards shard)
               ∙ (append_assoc (seen_of g shard p) (events_there g shard ends.1.drops) (events_there g shard rest.drops) ∙ ap (λ (l : List Event). seen_of g shard p ++ l) (sym (there-append g shard ends.1.drops rest.drops))));

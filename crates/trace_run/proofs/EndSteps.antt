@@ -178,7 +178,7 @@ module _ (cache : Cache) (p : PartyPlace) (others : List PartyPlace) (stands : S
         same = λ before own rest shard. then.shards shard ∙ ap (λ (l : List Line). events_in l ++ events_there g shard ended.drops) (have.level before own rest shard);
         one = λ o is seen shard. then.shards shard ∙ ap (λ (l : List Event). l ++ events_there g shard ended.drops) (one-front o is seen shard);
         idle = was-idle;
-        are = then.are;
+        are = ended.are;
         settled = λ feeder settled i. then.picks (have.number ∙ feeder) i ∙ (ap (λ (l : Ledger). list_at i l.picked) have.ledger ∙ settled i);
       }
 

@@ -3,6 +3,7 @@ pub mod CellActs
 pub mod CellRun
 pub mod CloseLemmas
 pub mod CrewEnds
+pub mod DeviceUsed
 pub mod EndLemmas
 pub mod FeederKinds
 pub mod FirstPlace
@@ -10,6 +11,7 @@ pub mod GenLemmas
 pub mod HistoryLemmas
 pub mod LineActs
 pub mod LineAnswers
+pub mod LookLemmas
 pub mod OutcomeLemmas
 pub mod PlacedLemmas
 pub mod RanLemmas

@@ -43,13 +43,13 @@ module _ {D : Type 0} (devices : Ghosts D) where
     pub time : LeavesNothingNew (devices.moment before) (devices.moment after) (devices.left_since before) (devices.left_since after)
     pub faults : min (devices.faults before) last_count ≤ devices.faults after
 
-  -- so it was, or it is lost; and none is made up
+  -- The device has its length and its kind, or it is lost; and none is made up.
   abbrev pub MayLose : Option D → Option D → Type 0
   MayLose before None = Unit {0}
   MayLose None (Some after) = ⊥
-  MayLose (Some before) (Some after) = WasOnlyRead before after
+  MayLose (Some before) (Some after) = (devices.size after ≡ devices.size before) × (devices.has_sectors after ≡ devices.has_sectors before)
 
-  -- so it was, and it is not lost
+  -- one that was only read is not lost
   abbrev pub IsHandedBack : Option D → Option D → Type 0
   IsHandedBack None None = Unit {0}
   IsHandedBack None (Some after) = ⊥

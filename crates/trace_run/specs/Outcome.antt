@@ -36,7 +36,7 @@ use Rattle.trace_run.specs.CellEnds.{AreCellsOf}
 use Rattle.trace_run.specs.RunWork.{IsRunWork, RunWork, noted_by, only_ended, plain_work}
 use Rattle.trace_run.specs.CheckText.{check_text}
 use Rattle.trace_run.specs.DeviceUse.{WasUsed}
-use Rattle.trace_run.specs.Devices.{Finds, MayLose, usable}
+use Rattle.trace_run.specs.Devices.{Finds, IsHandedBack, MayLose, usable}
 use Rattle.trace_run.specs.Explaining.{Explain, RunsAlone}
 use Rattle.trace_run.specs.Lines.{has_undone}
 use Rattle.trace_run.specs.ObjectAnswers.{AreAnsweredByCells}
@@ -111,13 +111,14 @@ pub record IsRun {P D : Type 0} (pool : Ghosts P) (device : Devices D) (before a
   pub stopped : StopsSo pool before after trace report.replies ending
 
 -- A run of a trace came to a report, and this is what it did beside its replies: the lines with their work, and what the feeder did. The cells began with the trace's lines; that was done
--- to them, and they were ended. With several callers the cache device was read and fed just so; one caller's lines did nothing beside their replies.
+-- to them, and they were ended. With several callers the cache device was read and fed just so, and one that was not fed was only read; one caller's lines did nothing beside their replies.
 pub record HasRun {P D : Type 0} (pool : Ghosts P) (device : Devices D) (before after : P) (lent back : Option D) (trace : Trace) (ending : Ending) (closed : Ended OnHeap) (report : Report) : Type 0 where
   pub work : RunWork
   pub did : IsRunWork trace.config (answered_ops trace ending report.replies) report.replies work
   pub run : IsRun pool device before after lent back trace ending work closed report
   pub cells : AreCellsOf trace (noted_by trace.config work) closed
   pub used : 2 ≤ trace.config.callers → UsedInGroups device trace.blocks trace.config.callers (groups_done ending work.lines) work.feeds lent back
+  pub unfed : work.feeds ≡ [] → IsHandedBack device lent back
   pub plain : trace.config.callers ≡ 1 → work ≡ plain_work trace.ops report.replies
   pub status : report.status ≡ report_status ending report.replies
 
@@ -358,7 +359,7 @@ IfReported (Some report) None fact = ⊥
 IfReported (Some report) (Some closed) fact = fact closed report
 
 -- A run answers by what the source gave, and takes at most one byte past the longest text. Its report is that of the trace, and where none was
--- run the pool and the cache device are as they were. The device is only read, or it is lost where memory was refused.
+-- run the pool and the cache device are as they were. The device has its length and its kind, or it is lost where memory was refused.
 pub record DoesRun {P D : Type 0} (pool : Ghosts P) (device : Devices D) (events : Bool) (before after : Handed P D) (status : Status) (report : Option Report) (closed : Option (Ended OnHeap)) : Type 0 where
   pub source : AnswersSource before.source after.source status
   pub took : TakesAtMost before.source.told after.source.told (longest_text + 1)

@@ -1,6 +1,7 @@
 pub mod Access
 pub mod Alone
 pub mod Asking
+pub mod InTurn
 pub mod Lent
 pub mod OneCaller
 pub mod OverShards

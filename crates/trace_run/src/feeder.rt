@@ -29,7 +29,7 @@ pub(crate) fn has_feed(ops: &[Op]) -> bool
 }
 
 /// Does one line `feed`. Where no device was started there is nothing to feed.
-fn feed_line<C: Keeps, D: CacheDev>(
+pub(crate) fn feed_line<C: Keeps, D: CacheDev>(
     alloc: Global,
     rt: &impl Wait,
     arcs: &Arcs<C>,

@@ -220,7 +220,7 @@ pub(crate) fn first_place(blocks: &[Ptr], pool_len: u64) -> u64
 }
 
 /// Does the line that ends a group, once all callers have come back: its reply, or how the lines end where a sync stops.
-fn end_line<P: Pool>(
+pub(crate) fn end_line<P: Pool>(
     alloc: Global,
     rt: &impl Wait,
     arcs: &Cells,
@@ -296,7 +296,7 @@ fn end_line<P: Pool>(
 }
 
 /// Puts replies behind others.
-fn append(replies: &mut Vec<Reply>, more: Vec<Reply>) -> Result<(), NoMemory>
+pub(crate) fn append(replies: &mut Vec<Reply>, more: Vec<Reply>) -> Result<(), NoMemory>
     ensures { OnOk result (replies.new.items ≡ replies.old.items ++ more.items) }
 {
     for reply in more {
@@ -371,7 +371,7 @@ fn next_group<R: Threads + Wait + Sync, P: Pool, D: CacheDev, G: Gate>(
 }
 
 /// Whether the lines go on behind a group that came to this.
-fn goes_on(ending: Ending) -> bool
+pub(crate) fn goes_on(ending: Ending) -> bool
     ensures { result ≡ goes_on ending }
 {
     match ending {

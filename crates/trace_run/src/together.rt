@@ -43,7 +43,7 @@ fn close_run(arcs: Cells, parties: Vec<Party<HeapCell>>) -> Result<Closed<HeapCe
 }
 
 /// The callers give back what they still keep, the feeder ends all cells, and the cache is closed.
-fn close_crew(
+pub(crate) fn close_crew(
     alloc: Global,
     rt: &impl Wait,
     arcs: Cells,
@@ -66,7 +66,7 @@ fn close_crew(
 }
 
 /// The feeder restores the keys that were found on the cache device, before the first group.
-fn restore_crew<C: Keeps>(
+pub(crate) fn restore_crew<C: Keeps>(
     alloc: Global,
     rt: &impl Wait,
     arcs: &Arcs<C>,

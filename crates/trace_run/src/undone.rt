@@ -30,12 +30,11 @@ fn is_undone(callers: u32, op: &Op) -> bool
     ensures { result ≡ is_undone callers op.now }
 {
     match op {
-        Op::Read { .. } | Op::Hold { .. } | Op::Drop { .. } | Op::Cap { .. } => false,
-        Op::Txg { .. } => callers == 1,
+        Op::Read { .. } | Op::Hold { .. } | Op::Drop { .. } => false,
         Op::Get { .. } | Op::Put { .. } | Op::Patch { .. } | Op::Pin { .. } | Op::Unpin { .. } => {
-            true
+            false
         }
-        Op::Feed => true,
+        Op::Feed | Op::Txg { .. } | Op::Cap { .. } => false,
     }
 }
 

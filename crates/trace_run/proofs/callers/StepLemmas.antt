@@ -1,5 +1,5 @@
 -- One group more of several callers: what their pool counts then, which groups were done, and what stands before the next one, or how the lines end.
-use Rattle.std.proofs.Common.{◌≡◌, ◌⊎◌, ℕ, zero, suc, ◌+◌, ◌%◌, ◌^◌, ◌<◌, ◌≤◌, Bool, true, false, Option, List, [], ◌∷◌, ◌++◌, Some, None, Result, Ok, Err, length, map, take, drop, refl, sym, ap, ◌∙◌, subst, arith, append_assoc, append-nil, length-append, ◌-◌, inl, inr}
+use Rattle.std.proofs.Common.{◌≡◌, ◌⊎◌, ℕ, zero, suc, ◌+◌, ◌%◌, ◌^◌, ◌<◌, ◌≤◌, Bool, true, false, Option, List, [], ◌∷◌, ◌++◌, Some, None, Result, Ok, Err, length, map, take, drop, refl, sym, ap, ◌∙◌, subst, arith, append_assoc, append-nil, length-append, ◌-◌, inl, inr, if◌then◌else◌}
 use Rattle.std.specs.Prelude.{count_by, filter, slice_get, slice_range}
 use Rattle.std.specs.Option.{option_map}
 use Rattle.std.proofs.lemmas.Bool.{false≢true}
@@ -13,8 +13,7 @@ use Rattle.blk_ptr.specs.declared.ptr.Ptr.{Ptr}
 use Rattle.arc_table.specs.declared.about.About.{About}
 use Rattle.arc_core.specs.declared.served.Restored.{Restored}
 use Rattle.arc_table.specs.Cache.{Cache}
-use Rattle.arc_table.specs.Geometry.{parties_of}
-use Rattle.arc_table.specs.Seen.{seen_of}
+use Rattle.arc_table.specs.Geometry.{parties_of, IsCell}
 use Rattle.dbuf_cells.specs.Turns.{OnHeap, PartyPlace, dbuf_meanings}
 use Rattle.arc_core.specs.declared.config.Config.{Config}
 use Rattle.trace_text.specs.declared.op.Op.{Op}
@@ -37,24 +36,24 @@ use Rattle.trace_run.specs.FeedSeries.{AreMadeSoFar}
 use Rattle.trace_run.specs.Feeds.{AreFedReplies, IsIdleFeeder, is_feed}
 use Rattle.trace_run.specs.Lines.{caller_of, is_of_caller, replies_where}
 use Rattle.trace_run.specs.Meeting.{MadeJoined, MayGoOn}
-use Rattle.trace_run.specs.Objects.{Line, ops_of, replies_of}
+use Rattle.trace_run.specs.Objects.{Line, ops_of, replies_of, Work, no_work}
 use Rattle.trace_run.specs.Opened.{AreOpened}
 use Rattle.trace_run.specs.Openings.{Knows, openings_of}
 use Rattle.trace_run.specs.Restores.{restores_in}
-use Rattle.trace_run.specs.RunWork.{RunWork, lines_of_caller, plain_work}
+use Rattle.trace_run.specs.RunWork.{RunWork, lines_of_caller, plain_work, lines_of_feeder}
 use Rattle.trace_run.specs.Tally.{AreDeclared}
 use Rattle.trace_run.specs.callers.Beside.{WorksBeside}
 use Rattle.trace_run.specs.callers.DeviceForks.{HaveRead, UsedAtOnce, UsedInGroups}
 use Rattle.trace_run.specs.callers.Group.{HaveWorked, LeavesFront, LeavesPool}
-use Rattle.trace_run.specs.callers.Groups.{AreBetween, AreDone, DidEndLine, DidLinesAtOnce, ForkFailed, HaveCome, HaveCounted, HaveReached, KeepNothing, MaySync, StepsOn, StoodFresh, goes_on}
+use Rattle.trace_run.specs.callers.Groups.{AreBetween, AreDone, DidEndLine, DidLinesAtOnce, ForkFailed, HaveCome, HaveCounted, HaveReached, KeepNothing, MaySync, StepsOn, StoodSo, goes_on}
 use Rattle.trace_run.specs.callers.InOrder.{AreInGroup}
-use Rattle.trace_run.specs.callers.Together.{BeginsGroup, EndsGroup, GroupLines, IsFirstPlace, OfCells, BetweenGroups, WorkAtOnce, WorkInGroups, between_groups, ends_group, groups_done, groups_of, over_callers}
-use Rattle.trace_run.specs.callers.WorkLines.{HasFront, calls_of_lines}
+use Rattle.trace_run.specs.callers.Together.{BeginsGroup, EndsGroup, GroupLines, IsFirstPlace, OfCells, BetweenGroups, WorkAtOnce, WorkInGroups, between_groups, ends_group, groups_done, groups_of, over_callers, IsCutLast, lines_with_end, with_first}
+use Rattle.trace_run.specs.callers.WorkLines.{HasFront, calls_of_lines, noted_of_work}
 use Rattle.trace_run.proofs.callers.AbsorbLemmas.{over-few}
 use Rattle.trace_run.proofs.callers.BesideLemmas.{fed-idle}
 use Rattle.trace_run.proofs.callers.CallerActLemmas.{line-kind}
 use Rattle.trace_run.proofs.callers.EndLineLemmas.{Halted, IsUnused, Turned, end-halted, end-turned}
-use Rattle.trace_run.proofs.callers.EndedLemmas.{asked-gives, have-come-ended, have-come-stopped, made-sees, with_end, with_stop}
+use Rattle.trace_run.proofs.callers.EndedLemmas.{asked-gives, have-come-ended, have-come-stopped, made-sees, with_end, with_stop, stopped-cut}
 use Rattle.trace_run.proofs.callers.FrontLemmas.{front-before, front-same, front-then, pool-front}
 use Rattle.trace_run.proofs.callers.GroupCounts.{over-add, over-same, over-zero}
 use Rattle.trace_run.proofs.callers.GroupLists.{EndsWhole, begun-append, group-begun, group-ended, group-last, groups-append, whole-of}
@@ -62,9 +61,15 @@ use Rattle.trace_run.proofs.callers.GroupRunLemmas.{all-callers, all-declared, m
 use Rattle.trace_run.proofs.callers.GroupsLemmas.{have-restored, have-started, restores-seen}
 use Rattle.trace_run.proofs.callers.LineLists.{AreInside, all-inside, calls-append, calls-few, ends-nobody, lines-failed, lines-long, nobody-callers}
 use Rattle.trace_run.proofs.callers.MoreLemmas.{fed-about, have-come-more, with_lines}
-use Rattle.trace_run.proofs.feeds.FedLemmas.{ops-are, used-more, used-once}
+use Rattle.trace_run.proofs.feeds.FedLemmas.{ops-are, used-more, used-once, fed-beside}
 use Rattle.trace_run.proofs.feeds.SeriesLemmas.{group-so-far, moved-so-far, none-so-far}
 use Rattle.trace_run.proofs.RunLemmas.{calls-faults, calls-reads}
+use Rattle.arc_lists.proofs.Tables.{cases_true}
+use Rattle.arc_table.specs.Fronts.{StartsWith, front_of}
+use Rattle.arc_table.specs.Seen.{seen_of}
+use Rattle.trace_run.proofs.callers.SyncRun.{in-groups-as}
+use Rattle.trace_run.proofs.syncs.SyncTurned.{AreToldOf, stood-more}
+use Rattle.trace_run.specs.Deeds.{lines_of_cell}
 
 -- ---- what callers read of the pool
 
@@ -177,11 +182,42 @@ module _ {P : Type 0} (pools : Ghosts P) (place callers : ℕ) (ls ms : List Lin
 
 -- ---- groups that were done
 
-in-groups-more : {P : Type 0} (pools : Ghosts P) (config : Config) (Cells : OfCells) (gs : List GroupLines) (last : GroupLines) (a b c : BetweenGroups P) (worked : P) → WorkInGroups pools config Cells gs a b → WorkAtOnce pools config.callers last b.pool worked
-    → EndsGroup pools config Cells last.end (between_groups worked b.group b.next) c → WorkInGroups pools config Cells (gs ++ last ∷ []) a c
-in-groups-more pools config Cells [] last a b c worked done once ends =
-    (worked, c, subst (λ x. WorkAtOnce pools config.callers last x.pool worked) done once, subst (λ x. EndsGroup pools config Cells last.end (between_groups worked x.group x.next) c) done ends, refl)
-in-groups-more pools config Cells (g ∷ gs) last a b c worked done once ends = (done.0, done.1, done.2, done.3, in-groups-more pools config Cells gs last done.1 b c worked done.4 once ends)
+-- the lines behind these groups, where these stand before them
+abbrev after_groups : (before : List Line) → List GroupLines → List Line
+after_groups before [] = before
+after_groups before (g ∷ gs) = after_groups (lines_with_end (before ++ g.lines) g.end) gs
+
+first-more : (before : List Line) (l : Line) (gs : List GroupLines) → after_groups before (with_first l gs) ≡ after_groups (before ++ l ∷ []) gs
+first-more before l [] = refl
+first-more before l (g ∷ gs) = ap (λ (ls : List Line). after_groups (lines_with_end ls g.end) gs) (sym (append_assoc before (l ∷ []) g.lines))
+
+after-groups : (before ls : List Line) → after_groups before (groups_of ls) ≡ before ++ ls
+after-groups before [] = sym (append-nil before)
+after-groups before (l ∷ ls) = elim (cases_true (ends_group l.op)) [
+  | inl ends ↦
+      ap (after_groups before) (λ i. if ends i then (record { lines = []; end = Some l } ∷ groups_of ls) else with_first l (groups_of ls))
+      ∙ (after-groups ((before ++ []) ++ l ∷ []) ls ∙ (ap (λ (x : List Line). (x ++ l ∷ []) ++ ls) (append-nil before) ∙ append_assoc before (l ∷ []) ls))
+  | inr inside ↦
+      ap (after_groups before) (λ i. if inside i then (record { lines = []; end = Some l } ∷ groups_of ls) else with_first l (groups_of ls))
+      ∙ (first-more before l (groups_of ls) ∙ (after-groups (before ++ l ∷ []) ls ∙ append_assoc before (l ∷ []) ls))
+]
+
+in-groups-more : {P : Type 0} (pools : Ghosts P) (config : Config) (Cells : OfCells) (before : List Line) (gs : List GroupLines) (last : GroupLines) (a b c : BetweenGroups P) (worked : P) → WorkInGroups pools config Cells before gs a b
+    → WorkAtOnce pools config.callers last b.pool worked → EndsGroup pools config Cells (after_groups before gs ++ last.lines) last.end (between_groups worked b.group b.next) c → WorkInGroups pools config Cells before (gs ++ last ∷ []) a c
+in-groups-more pools config Cells before [] last a b c worked done once ends =
+    (worked, c, subst (λ x. WorkAtOnce pools config.callers last x.pool worked) done once, subst (λ x. EndsGroup pools config Cells (before ++ last.lines) last.end (between_groups worked x.group x.next) c) done ends, refl)
+in-groups-more pools config Cells before (g ∷ gs) last a b c worked done once ends =
+    (done.0, done.1, done.2, done.3, in-groups-more pools config Cells (lines_with_end (before ++ g.lines) g.end) gs last done.1 b c worked done.4 once ends)
+
+-- what callers and feeder are told to have done to cells
+told-of : (cache : Cache) (restored : List Restored) (len : ℕ) (image : Option (List ℕ)) (place : ℕ) (blocks : List Ptr) (os : List Op) (rs : List Reply) (w : RunWork) (crew : Crew OnHeap) → HaveCome cache restored len image place blocks os rs w crew → w.stopped ≡ no_work
+    → AreToldOf cache w.lines crew
+told-of cache restored len image place blocks os rs w crew come goes_on = record {
+  number = come.feeder.number;
+  callers = λ n below. let c = come.each n below in (c.party, c.at.party_at, c.come.waits.number, λ i range. c.come.waits.told.entries i range);
+  feeder = λ i range. come.feeder.told.entries i range
+      ∙ ap (lines_of_cell i) (ap (λ (x : Work). noted_of_work (lines_of_feeder w.lines) ++ x.noted) goes_on ∙ append-nil (noted_of_work (lines_of_feeder w.lines)));
+}
 
 -- ---- before the first group
 
@@ -235,8 +271,8 @@ module _ {P D : Type 0} (cache : Cache) (restored : List Restored) (pools : Ghos
   abbrev callers : ℕ
   callers = cache.config.callers
 
-  abbrev Cells : OfCells
-  Cells = StoodFresh (openings_of trace) cache.config.cells
+  abbrev Cells : PartyPlace → OfCells
+  Cells p = StoodSo (openings_of trace) cache.config p
 
   abbrev os : List Op
   os = take (length rs) trace.ops
@@ -320,6 +356,16 @@ module _ {P D : Type 0} (cache : Cache) (restored : List Restored) (pools : Ghos
       same : new.feeder.own.about.openings ≡ old.feeder.own.about.openings
       same = ap (λ (x : About). x.openings) (fed-about dbuf_meanings devices cache trace.blocks qs (length old.parties.items) (λ n. lines_of_caller n did.lines) ss a b old.feeder new.feeder did.beside (fed-idle cache old.feeder.own.about.openings _ _ _ _ old.feeder reached.come.feeder) again)
 
+  -- it has seen of each cell what it had
+  seen-grown : (i : ℕ) → IsCell cache.config i → StartsWith (front_of i new.feeder.own.seen) (front_of i old.feeder.own.seen)
+  seen-grown = (fed-beside dbuf_meanings devices cache trace.blocks qs (length old.parties.items) (λ n. lines_of_caller n did.lines) ss a b old.feeder new.feeder did.beside (fed-idle cache old.feeder.own.about.openings _ _ _ _ old.feeder reached.come.feeder) again).same.keeps.fronts
+
+  groups-so-far : WorkInGroups pools cache.config (Cells new.feeder) [] (groups_of w.lines) start was
+  groups-so-far = in-groups-as pools cache.config (Cells old.feeder) (Cells new.feeder) (stood-more (openings_of trace) cache.config old.feeder new.feeder seen-grown) [] (groups_of w.lines) start was reached.groups
+
+  groups-behind : (last : Crew OnHeap) → ((i : ℕ) → IsCell cache.config i → StartsWith (front_of i last.feeder.own.seen) (front_of i new.feeder.own.seen)) → WorkInGroups pools cache.config (Cells last.feeder) [] (groups_of w.lines) start was
+  groups-behind last grown = in-groups-as pools cache.config (Cells new.feeder) (Cells last.feeder) (stood-more (openings_of trace) cache.config new.feeder last.feeder grown) [] (groups_of w.lines) start was groups-so-far
+
   -- ---- the trace ends with these lines
 
   abbrev alone-group : GroupLines
@@ -334,8 +380,8 @@ module _ {P D : Type 0} (cache : Cache) (restored : List Restored) (pools : Ghos
       first = reached.first;
       behind = reached.behind;
       counted = counted-lines;
-      groups = subst (λ (gs : List GroupLines). WorkInGroups pools cache.config Cells gs start (between_groups to was.group was.next)) (sym groups-are)
-          (in-groups-more pools cache.config Cells (groups_of w.lines) alone-group start was (between_groups to was.group was.next) to reached.groups (once None) refl);
+      groups = subst (λ (gs : List GroupLines). WorkInGroups pools cache.config (Cells new.feeder) [] gs start (between_groups to was.group was.next)) (sym groups-are)
+          (in-groups-more pools cache.config (Cells new.feeder) [] (groups_of w.lines) alone-group start was (between_groups to was.group was.next) to groups-so-far (once None) refl);
       used = subst (λ (gs : List GroupLines). UsedInGroups devices trace.blocks callers gs done.feeds (lent_in begun) (lent_in b)) (sym groups-are) (used-lines alone-group refl);
       fed = fed-lines;
     };
@@ -354,25 +400,27 @@ module _ {P D : Type 0} (cache : Cache) (restored : List Restored) (pools : Ghos
 
   -- ---- a sync stopped behind them
 
-  pub done-halted : (ending : Ending) (last : Crew OnHeap) (fin : P) (h : Halted cache pools trace (rs ++ ss) ending (between_groups to was.group was.next) fin new last)
+  pub done-halted : (ending : Ending) (last : Crew OnHeap) (fin : P) (h : Halted cache pools trace (rs ++ ss) done ending (between_groups to was.group was.next) fin new last)
       → AreDone cache restored pools devices trace start fin begun b ending (rs ++ ss) (with_stop done h.work) last
   done-halted ending last fin h = record {
     now = between_groups to was.group was.next;
     reached = record {
       few = omega (arith, both-long, inside);
       come = subst (λ (l : List Op). HaveCome cache restored (pools.size start.pool) (pools.told start.pool) start.next trace.blocks l (rs ++ ss) (with_stop done h.work) last) (sym taken)
-          (have-come-stopped pools devices cache restored (pools.size start.pool) (pools.told start.pool) start.next trace.blocks (os ++ qs) (rs ++ ss) done h.more new last come-lines refl h.work h.so);
+          (have-come-stopped pools devices cache restored (pools.size start.pool) (pools.told start.pool) start.next trace.blocks (os ++ qs) (rs ++ ss) done h.more new last come-lines refl h.tick h.work h.so);
       knows = ap (λ (x : About). x.openings) h.so.made.about ∙ knows-new;
       first = reached.first;
       behind = reached.behind;
       counted = counted-lines;
-      groups = subst (λ (gs : List GroupLines). WorkInGroups pools cache.config Cells gs start (between_groups to was.group was.next)) (sym groups-are)
-          (in-groups-more pools cache.config Cells (groups_of w.lines) alone-group start was (between_groups to was.group was.next) to reached.groups (once None) refl);
+      groups = subst (λ (gs : List GroupLines). WorkInGroups pools cache.config (Cells last.feeder) [] gs start (between_groups to was.group was.next)) (sym groups-are)
+          (in-groups-more pools cache.config (Cells last.feeder) [] (groups_of w.lines) alone-group start was (between_groups to was.group was.next) to (groups-behind last h.so.made.cells) (once None) refl);
       used = subst (λ (gs : List GroupLines). UsedInGroups devices trace.blocks callers gs done.feeds (lent_in begun) (lent_in b)) (sym groups-are) (used-lines alone-group refl);
       fed = moved-so-far dbuf_meanings devices cache restored done.feeds begun b new.feeder last.feeder fed-lines
           (λ shard below. made-sees cache h.work h.more new last come-lines.feeder.number h.so.made shard [] (h.so.none shard below) tt);
     };
     ended = h.ended;
+    last = λ t stopped shard below. subst (λ (tick : ℕ). IsCutLast cache.config restored trace.blocks shard tick (with_stop done h.work) (seen_of cache.config shard last.feeder)) (sym (h.ticks t stopped))
+        (stopped-cut pools devices cache restored (pools.size start.pool) (pools.told start.pool) start.next trace.blocks (os ++ qs) (rs ++ ss) done h.more new last come-lines refl h.tick h.work h.so shard below);
   }
     where
       groups-are : groups_done ending (w.lines ++ ms) ≡ groups_of w.lines ++ alone-group ∷ []
@@ -380,7 +428,7 @@ module _ {P D : Type 0} (cache : Cache) (restored : List Restored) (pools : Ghos
 
   -- ---- a line ends them
 
-  module _ (op : Op) (reply : Reply) (last : Crew OnHeap) (fin : BetweenGroups P) (at : slice_get trace.ops (length rs + length qs) ≡ Some op) (turn : Turned cache pools (openings_of trace) op reply (between_groups to was.group was.next) fin new last) where
+  module _ (op : Op) (reply : Reply) (last : Crew OnHeap) (fin : BetweenGroups P) (at : slice_get trace.ops (length rs + length qs) ≡ Some op) (turn : Turned cache pools (openings_of trace) done.lines op reply (between_groups to was.group was.next) fin new last) where
     abbrev l : Line
     l = record { op = op; reply = reply; work = turn.work }
 
@@ -430,8 +478,9 @@ module _ {P D : Type 0} (cache : Cache) (restored : List Restored) (pools : Ghos
         first = reached.first;
         behind = omega (arith, reached.behind, turn.later);
         counted = counted-end;
-        groups = subst (λ (gs : List GroupLines). WorkInGroups pools cache.config Cells gs start fin) (sym groups-ended)
-            (in-groups-more pools cache.config Cells (groups_of w.lines) ended-group start was fin to reached.groups (once (Some l)) turn.ends);
+        groups = subst (λ (gs : List GroupLines). WorkInGroups pools cache.config (Cells last.feeder) [] gs start fin) (sym groups-ended)
+            (in-groups-more pools cache.config (Cells last.feeder) [] (groups_of w.lines) ended-group start was fin to (groups-behind last turn.so.made.cells) (once (Some l))
+            (subst (λ (ls : List Line). EndsGroup pools cache.config (Cells last.feeder) (ls ++ ms) (Some l) (between_groups to was.group was.next) fin) (sym (after-groups [] w.lines)) turn.ends));
         used = subst (λ (gs : List GroupLines). UsedInGroups devices trace.blocks callers gs done.feeds (lent_in begun) (lent_in b)) (sym groups-ended) (used-lines ended-group refl);
         fed = moved-so-far dbuf_meanings devices cache restored done.feeds begun b new.feeder last.feeder fed-lines
             (λ shard below. made-sees cache turn.work turn.more new last come-lines.feeder.number turn.so.made shard (events_of_feeder callers op) (turn.so.feeds shard below) (asked-gives callers op));
@@ -569,6 +618,9 @@ module _ {P D : Type 0} (cache : Cache) (restored : List Restored) (pools : Ghos
   pub next-may : cache.row.parties ≡ parties_of cache.config → MayGoOn cache [] new.feeder new.parties.items
   next-may rows = may-resize cache restored (pools.size start.pool) (pools.told start.pool) start.next trace.blocks (take (length rs) trace.ops ++ qs) (rs ++ ss) (with_lines w did-these.lines did-these.beside.feeds) new come rows
 
+  told-now : AreToldOf cache (with_lines w did-these.lines did-these.beside.feeds).lines new
+  told-now = told-of cache restored (pools.size start.pool) (pools.told start.pool) start.next trace.blocks (take (length rs) trace.ops ++ qs) (rs ++ ss) (with_lines w did-these.lines did-these.beside.feeds) new come refl
+
   pub next-number : new.feeder.number ≡ cache.config.callers
   next-number = come.feeder.number
 
@@ -595,7 +647,7 @@ module _ {P D : Type 0} (cache : Cache) (restored : List Restored) (pools : Ghos
         → StepsOn cache restored pools devices trace start fin begun b rs all Whole last
     next-ended came reply told did_it so_far all is_far is =
         let ended = subst (DidEndLine cache pools op (between_groups to was.group was.next) fin new last) told did_it in
-        let turn = end-turned cache pools (openings_of trace) (between_groups to was.group was.next) fin new last next-number knows ended.kept (length rs) may-now op reply ended in
+        let turn = end-turned cache pools (openings_of trace) (with_lines w did-these.lines did-these.beside.feeds).lines (between_groups to was.group was.next) fin new last told-now knows ended.kept (length rs) may-now op reply ended in
         let whole : all ≡ (rs ++ ss) ++ reply ∷ [] = is ∙ ap (λ (l : List Reply). l ++ reply ∷ []) is_far in
         let work : RunWork = with_end (with_lines w did-these.lines did-these.beside.feeds) (record { op = op; reply = reply; work = turn.work }) in
         let size = ap length whole in (
@@ -611,7 +663,7 @@ module _ {P D : Type 0} (cache : Cache) (restored : List Restored) (pools : Ghos
         let ended = subst (DidEndLine cache pools op (between_groups to was.group was.next) fin new last) told did_it in
         let at_line : slice_get trace.ops (length (rs ++ ss)) ≡ Some op =
         ap (slice_get trace.ops) (both-long cache restored pools devices trace start was begun from to a b rs ss qs w old new formed.few_ops few-callers between more unused did-these again leaves own within here) ∙ there in
-        let h = end-halted cache pools trace (rs ++ ss) (between_groups to was.group was.next) fin new last next-number knows ended.kept op ending at_line ended in
+        let h = end-halted cache pools trace (rs ++ ss) (with_lines w did-these.lines did-these.beside.feeds) (between_groups to was.group was.next) fin new last told-now knows ended.kept op ending at_line ended in
         let work : RunWork = with_stop (with_lines w did-these.lines did-these.beside.feeds) h.work in
         subst (λ (l : List Reply). StepsOn cache restored pools devices trace start fin begun b rs l ending last) (sym is)
         (stops-on cache restored pools devices trace start fin begun b rs (rs ++ ss) ending work last h.stops
@@ -626,6 +678,7 @@ next-forked cache restored pools devices trace start was begun is after rs w cre
     now = was;
     reached = as-forked cache restored pools devices trace start was begun is rs w crew between.reached;
     ended = (between.goes_on, more, between.begins more, failed);
+    last = λ t never. absurd never;
   },
 )
 
@@ -637,6 +690,7 @@ all-stepped cache restored pools devices trace start after begun is replies w cr
   now = after;
   reached = between.reached;
   ended = (between.goes_on, omega (arith, between.reached.few, all), refl);
+  last = λ t never. absurd never;
 }
 
 -- what a step says where the lines go on, and where they don't

@@ -49,7 +49,7 @@ use Rattle.txg_sync.specs.Turns.{InsertsAll, InsertsItem, inserted, there}
 use Rattle.trace_run.specs.Deeds.{events_there}
 use Rattle.trace_run.specs.MadeLines.{made_of}
 use Rattle.trace_run.specs.Making.{HasSeenItsEvents}
-use Rattle.trace_run.specs.Syncing.{insert_of, inserts_in}
+use Rattle.trace_run.specs.Syncing.{IsInsert, insert_of, inserts_in}
 use Rattle.trace_run.proofs.CellEnds.{AreCellDrops, HasDropped, dropped-none, dropped-then, look-dropped}
 use Rattle.trace_run.proofs.CellsLeft.{roomy-leaves}
 use Rattle.trace_run.proofs.deeds.MakesLemmas.{MakesMore, makes-more, roomy-long}
@@ -59,10 +59,6 @@ use Rattle.trace_run.proofs.feeds.PickedLemmas.{roomy-picks}
 -- an Insert leaves what is picked
 insert-picked : (s : PlainShard) (n : ℕ) (k : Key) (d : Digest) (t : ℕ) → (after s (Insert n k d t)).picked ≡ s.picked
 insert-picked s n k d t = kept-taken_in (λ (u : PlainShard). u.picked) (λ u es q. refl) (written_entry n k d t) s
-
--- an Insert with a cell's number
-abbrev pub IsInsert : Config → Event → Type 0
-IsInsert g e = (n : ℕ) × (k : Key) × (d : Digest) × (t : ℕ) × (e ≡ Insert n k d t) × (parties_of g ≤ n)
 
 module _ (g : Config) (valid : IsConfig g) (tick : ℕ) where
   -- ---- one block
@@ -149,6 +145,7 @@ module _ (g : Config) (valid : IsConfig g) (tick : ℕ) where
       starts = grows g here d.before (d.makes.passes ++ e ∷ []) p q made;
       recorded = λ i in_range. (cell-kept-roomy dbuf_meanings g valid k e p q config d i in_range (hand i in_range)).recorded;
       events = λ empty. absurd (some-event empty);
+      picks = λ feeder j. one-picks feeder j;
     }
       where
         some-event : e ∷ [] ≡ [] → ⊥
@@ -247,7 +244,7 @@ module _ (g : Config) (valid : IsConfig g) (tick : ℕ) where
             events = insert_of g tick x ∷ b.events;
             are = first-in x xs p did.0 b.events (new-there x p did.0 config low sees all hand inside.0 d) a b.are;
             cells = (omega arith, b.cells);
-            kinds = ((cell_number g x.due.cell, x.ptr.key, x.ptr.digest, tick, refl, omega arith), b.kinds);
+            kinds = ((x.due.cell, x.ptr.key, x.ptr.digest, tick, refl, inside.0), b.kinds);
             did = dropped-then g (insert_of g tick x ∷ []) b.events p did.0 q a b.did;
             made = λ shard. made-both shard (insert_of g tick x ∷ []) b.events p did.0 q (one-made x p did.0 config low sees all hand inside.0 d shard) (b.made shard);
             cells_made = λ i in_range. b.cells_made i in_range ∙ one-cells x p did.0 config low sees all hand inside.0 d i in_range;

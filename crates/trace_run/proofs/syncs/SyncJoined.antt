@@ -15,7 +15,7 @@ use Rattle.arc_table.specs.declared.view.Mine.{Mine}
 use Rattle.arc_table.specs.Cache.{Cache, IsPartyOf}
 use Rattle.arc_table.specs.Fronts.{list_at, front_of}
 use Rattle.arc_table.specs.Geometry.{IsCell, parties_of}
-use Rattle.arc_table.specs.Seen.{AreSeen, HasAll, events_in, seen_of, turn_of}
+use Rattle.arc_table.specs.Seen.{AreSeen, HasAll, events_in, seen_of, turn_of, AreEntriesSeen}
 use Rattle.arc_table.specs.Telling.{opening_of}
 use Rattle.dbuf_cells.specs.Turns.{KeepsClaims, OnHeap, PartyPlace, dbuf_meanings}
 use Rattle.dbuf_cells.specs.declared.kept.Kept.{Kept as Block}
@@ -40,20 +40,23 @@ use Rattle.vdev_io.specs.declared.pool.Pool.{Ghosts}
 use Rattle.txg_sync.specs.Turns.{SyncsCells, synced_in}
 use Rattle.txg_sync.specs.declared.due.Due.{Due}
 use Rattle.trace_run.specs.callers.Group.{LeavesPool}
-use Rattle.trace_run.specs.Deeds.{HasToldAll, Noted}
+use Rattle.trace_run.specs.Deeds.{HasToldOthers, Noted, events_of_cell, lines_of_cell}
 use Rattle.trace_run.specs.KeptBlocks.{Stands}
 use Rattle.trace_run.specs.Making.{AreNoEntries}
 use Rattle.trace_run.specs.Meeting.{AreLast, HasLearned, IsApart, JoinAll, PartAll}
-use Rattle.trace_run.specs.Syncing.{SyncedJoined, SyncsJoined, inserts_in, lines_of, wants_memory}
+use Rattle.trace_run.specs.Syncing.{SyncedJoined, SyncsJoined, inserts_in, lines_of, wants_memory, HasDoneTo}
 use Rattle.trace_run.proofs.CellEnds.{HasEndedSome, nothing-from}
-use Rattle.trace_run.proofs.deeds.DeedLemmas.{all-both, told-still}
+use Rattle.trace_run.proofs.deeds.DeedLemmas.{all-both, others-still}
 use Rattle.trace_run.proofs.deeds.MakesLemmas.{grown-same}
 use Rattle.trace_run.proofs.EndSteps.{all-parted-then, have, last-from, last-stands, lines, one-front, parted, q-all, q-stands, untouched as untouched-by}
 use Rattle.trace_run.proofs.syncs.SyncInserts.{HasInserted}
 use Rattle.trace_run.proofs.syncs.SyncSteps.{AreFound, HasTaken, IsFound, all-taken}
 use Rattle.trace_run.proofs.syncs.SyncWrites.{all-synced, cell-front, inserts, synced-cells, synced-front, synced-made, synced-mine, synced-picks, synced-shards, taken}
-use Rattle.trace_run.proofs.syncs.SyncTold.{told-synced}
-use Rattle.trace_run.proofs.callers.MeetLemmas.{HaveJoined, left_alone, own-seen-more, parted_from, starts-events}
+use Rattle.trace_run.proofs.syncs.SyncTold.{others-synced}
+use Rattle.trace_run.proofs.callers.MeetLemmas.{HaveJoined, left_alone, own-seen-more, parted_from, starts-events, joined_of, starts-then}
+use Rattle.trace_run.proofs.syncs.SyncOwned.{AreDoneFrom, DidSo, IsDone}
+use Rattle.trace_run.specs.MadeLines.{made_from, made_of}
+use Rattle.trace_run.specs.CellEnds.{done_by}
 
 -- ---- cells to which nothing was done have no dirty block
 
@@ -144,6 +147,26 @@ module _ (cache : Cache) (p : PartyPlace) (others : List PartyPlace) (stands : S
         let z : suc i + k ≡ i + suc k = omega arith in
         subst (λ (n : ℕ). IsFound n q c) z (found-at (suc i) k cs c found.1 at)
 
+    done-at : (i k : ℕ) (cs : List OnHeap) (c : OnHeap) → AreDoneFrom g i q cs → slice_get cs k ≡ Some c → IsDone g (i + k) q c
+    done-at i k [] c done at = cc
+    done-at i zero (x ∷ cs) c done at =
+        let is : x ≡ c = cc in
+        let z : i ≡ i + zero = omega arith in
+        subst (λ (y : ℕ × OnHeap). IsDone g y.0 q y.1) (λ w. (z w, is w)) done.0
+    done-at i (suc k) (x ∷ cs) c done at =
+        let z : suc i + k ≡ i + suc k = omega arith in
+        subst (λ (n : ℕ). IsDone g n q c) z (done-at (suc i) k cs c done.1 at)
+
+    -- what those had done that joined
+    all-done : (cells : List OnHeap) (os : List PartyPlace) → AllByRecursion (IsApart cache) os
+        → ((i : ℕ) (c : OnHeap) → slice_get cells i ≡ Some c → IsCell g i × AllByRecursion (λ k. AreEntriesSeen g k.number k.view.mine k.view.seen → DidSo k.number (made_from i 0 k.view.mine (front_of i k.view.seen)) c) (joined_of os))
+        → AllByRecursion (HasDoneTo g cells) os
+    all-done cells [] apart each = tt
+    all-done cells (o ∷ os) apart each = (
+      (λ noted made i c at. let h = each i c at in h.1.0 apart.0.1.cells.own (events_of_cell i noted) (made i h.0)),
+      all-done cells os apart.1 (λ i c at. let h = each i c at in (h.0, h.1.1)),
+    )
+
     none-at : (k : ℕ) (cs : List OnHeap) (c : OnHeap) → AllByRecursion (λ x. x.value.history ≡ []) cs → slice_get cs k ≡ Some c → c.value.history ≡ []
     none-at k [] c none at = cc
     none-at zero (x ∷ cs) c none at = let is : x ≡ c = cc in subst (λ (y : OnHeap). y.value.history ≡ []) is none.0
@@ -160,12 +183,8 @@ module _ (cache : Cache) (p : PartyPlace) (others : List PartyPlace) (stands : S
     all-own shard (o ∷ os) learned = (learned.0.own shard, all-own shard os learned.1)
 
     -- to have joined is nothing that is told
-    met-told : (did : List Act) (noted : List Noted) → HasToldAll g did noted p → HasToldAll g did noted q
-    met-told did noted before =
-        told-still g did noted p q
-        (λ shard. subst (λ (n : ℕ). Tell (acts_in (shard_of g.shards) shard n did) (own_moments n (moments (opening_of g) (seen_of g shard q)))) (sym met.number)
-        (subst (Tell (acts_in (shard_of g.shards) shard p.number did)) (sym (met.self.own shard)) (before.acts shard)))
-        (grown-same g p q met.number met.about met.mine met.self.starts met.self.cells stands.seen stands.cells) before
+    met-told : (did : List Act) (had : List Noted) → HasToldOthers g did had p → HasToldOthers g did had q
+    met-told did had before = others-still g did had p q (grown-same g p q met.number met.about met.mine met.self.starts met.self.cells stands.seen stands.cells) before
 
     module _ (cells : List OnHeap) (xs : List SyncItem) (s : SyncsCells g tick cells xs Same q r) (inside : AllByRecursion (λ x. IsCell g x.due.cell) xs) where
       abbrev t : HasTaken g stands.valid 0 cells q s.taken
@@ -182,6 +201,22 @@ module _ (cache : Cache) (p : PartyPlace) (others : List PartyPlace) (stands : S
 
       still-mine : xs ≡ [] → r.own.mine ≡ p.own.mine
       still-mine nothing = synced-mine g stands.valid tick cells xs q r stood.of.config low stood.seen has-all stood.cells s inside nothing ∙ met.mine
+
+      done-here : (i : ℕ) (c : OnHeap) → slice_get cells i ≡ Some c → IsCell g i × IsDone g i q c
+      done-here i c at =
+          let within = slice_get_within cells i c at in
+          let w : 0 + i ≡ i = omega arith in
+          let inside : IsCell g i = let e = s.all in omega (arith, within, e) in
+          (inside, subst (λ (k : ℕ). IsDone g k q c) w (done-at 0 i cells c t.done at))
+
+      all-did : AllByRecursion (HasDoneTo g cells) (p ∷ others)
+      all-did = (
+        (λ noted made i c at.
+        let h = done-here i c at in
+        let same = (grown-same g p q met.number met.about met.mine met.self.starts met.self.cells stands.seen stands.cells).entries i h.0 in
+        subst (λ (n : ℕ). done_by n c.value.history ≡ events_of_cell i noted) met.number (h.1.own (events_of_cell i noted) (same ∙ made i h.0))),
+        all-done cells others apart (λ i c at. let h = done-here i c at in (h.0, subst (AllByRecursion (λ k. AreEntriesSeen g k.number k.view.mine k.view.seen → DidSo k.number (made_from i 0 k.view.mine (front_of i k.view.seen)) c)) met.joined h.1.joined)),
+      )
 
       joined-alone : SyncsJoined cache tick p others (left_alone r) (map (parted_from r) others) cells xs
       joined-alone = record {
@@ -212,18 +247,17 @@ module _ (cache : Cache) (p : PartyPlace) (others : List PartyPlace) (stands : S
             synced-front g stands.valid tick cells xs q r stood.of.config low stood.seen has-all stood.cells s inside i in_range
             ∙ ((λ k. cell-front g stands.valid tick cells xs q r stood.of.config low stood.seen has-all stood.cells s inside i c within k ++ lines_of (synced_in (met.number k) i xs))
             ∙ ap (λ (x : OnHeap). lines_of x.value.history ++ lines_of (synced_in p.number i xs)) (index-at i cells c at));
+        grown = λ i range. starts-then (front_of i r.own.seen) (front_of i q.own.seen) (front_of i p.own.seen) (then.cells i range) (met.self.cells i range);
+        did = all-did;
         fresh = λ own rest i c at. none-at i cells c (t.fresh (untouched-by cache p others stands alone apart everyone count differ q joins own rest)) at;
         inserts = wrote.events;
         are = λ shard. wrote.are shard ∙ ap (inserts_in g tick xs shard) (t.quiet.shards shard);
-        told = λ did noted before.
-            let h = told-synced g did noted wrote.events xs p.number q r (sym met.number) then.number low wrote.kinds then.own
-            (synced-made g stands.valid tick cells xs q r stood.of.config low stood.seen has-all stood.cells s inside) (synced-cells g stands.valid tick cells xs q r stood.of.config low stood.seen has-all stood.cells s inside) (met-told did noted before) in
-            record { acts = h.acts; cells = h.cells; kinds = h.kinds; entries = h.entries };
-        only = λ nothing only. record {
-          events = subst (λ (x : ℕ × List Mine). AreSeen g x.0 x.1 r.own.seen) (λ k. (sym (then.number ∙ met.number) k, sym (still-mine nothing) k))
-              (own-seen-more g p.number p.own.mine q.own.seen r.own.seen then.starts (own-seen-more g p.number p.own.mine p.own.seen q.own.seen met.self.starts only.events));
-          entries = subst (AreNoEntries g) (sym (still-mine nothing)) only.entries;
-        };
+        inside = inside;
+        kinds = wrote.kinds;
+        told = λ did had before.
+            let h = others-synced g did had wrote.events xs p.number q r (sym met.number) then.number wrote.kinds
+            (synced-made g stands.valid tick cells xs q r stood.of.config low stood.seen has-all stood.cells s inside) (synced-cells g stands.valid tick cells xs q r stood.of.config low stood.seen has-all stood.cells s inside) (met-told did had before) in
+            record { cells = h.cells; kinds = h.kinds; entries = h.entries };
         entries = λ nothing none. subst (AreNoEntries g) (sym (still-mine nothing)) none;
       }
 

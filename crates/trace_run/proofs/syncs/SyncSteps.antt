@@ -24,7 +24,7 @@ use Rattle.arc_table.specs.Fronts.{StartsWith, front_of, item_at}
 use Rattle.arc_table.specs.Geometry.{IsCell}
 use Rattle.arc_table.specs.Giving.{IsGivenCell}
 use Rattle.arc_table.specs.Items.{lines_in}
-use Rattle.arc_table.specs.Seen.{FindsEntries, HasAll, HasSeenItsEntries, events_in, seen_of, turn_of}
+use Rattle.arc_table.specs.Seen.{FindsEntries, HasAll, HasSeenItsEntries, events_in, seen_of, turn_of, AllEntriesSeen, AreEntriesSeen}
 use Rattle.arc_table.specs.TableLaws.{item_else, starts_whole}
 use Rattle.arc_table.proofs.TableLaws.{front_else, front_here, without_else}
 use Rattle.arc_table.specs.Views.{after_cell, mines_from, recorded}
@@ -36,12 +36,14 @@ use Rattle.dbuf_state.specs.Numbers.{event_numbers}
 use Rattle.dbuf_state.specs.Soundness.{IsSound}
 use Rattle.dbuf_state.specs.declared.event.CellEvent.{CellEvent}
 use Rattle.txg_sync.specs.Turns.{GivesFrom, TakesFrom}
-use Rattle.trace_run.specs.MadeLines.{made_of}
+use Rattle.trace_run.specs.MadeLines.{made_of, made_from}
 use Rattle.trace_run.specs.Making.{HasSeenItsEvents}
 use Rattle.trace_run.specs.Syncing.{lines_of}
 use Rattle.trace_run.proofs.CellEnds.{IsUntouched, NoneFrom, all-later, none-later, untouched-history}
 use Rattle.trace_run.proofs.callers.MeetLemmas.{starts-then}
 use Rattle.trace_run.proofs.deeds.MadeCells.{given-made, given-made-else, took-made, took-made-else}
+use Rattle.trace_run.proofs.syncs.SyncOwned.{AreDoneFrom, IsDone, done-as, found-done}
+use Rattle.arc_table.specs.declared.view.Mine.{Mine}
 
 -- ---- what a party with every number has seen, while it makes no event of a shard
 
@@ -196,6 +198,16 @@ module _ (g : Config) (valid : IsConfig g) where
         (took-made dbuf_meanings g i c p r in_range took (subst (λ (l : List Line). StartsWith l (front_of i p.own.seen)) (sym whole) (starts_whole (front_of i p.own.seen))) made))
         (λ differs. took-made-else dbuf_meanings g i c p r in_range took j differs)
 
+    -- what each party had done to it
+    pub take-done : IsDone g i p c
+    take-done =
+        let knew = loses_same dbuf_meanings i t.owners p (saw p t.knew) t.lost in
+        let seen : HasSeenItsEntries g (saw p t.knew) = record {
+          own = subst (λ (x : List Mine × List (List Line)). AreEntriesSeen g p.number x.0 x.1) (λ z. (sym knew.mine z, sym knew.seen z)) made.own;
+          joined = subst (AllEntriesSeen g p.joined) (sym knew.seen) made.joined;
+        } in
+        (done-as g i (c ∷ []) p (saw p t.knew) refl refl (λ j z. made_from j 0 (knew.mine z) (front_of j (knew.seen z))) (found-done g i in_range c (saw p t.knew) all seen t.free, tt)).0
+
     pub take-else : (j : ℕ) → j ≢ i → item_at j r.own.records ≡ item_at j p.own.records
     take-else j differs = ap (item_at j) took.records ∙ item_else i j (item.Cell c) p.own.records differs
 
@@ -210,6 +222,7 @@ module _ (g : Config) (valid : IsConfig g) where
     pub below : (j : ℕ) → j < i → item_at j q.own.records ≡ item_at j p.own.records
     pub hand : AreInHand i cs q
     pub found : AreFound i p cs
+    pub done : AreDoneFrom g i p cs
     pub fresh : IsUntouched g i p → AllByRecursion (λ c. c.value.history ≡ []) cs
 
   found-as : (i : ℕ) (cs : List OnHeap) (p r : PartyPlace) → r.own.about ≡ p.own.about → AreFound i r cs → AreFound i p cs
@@ -230,6 +243,7 @@ module _ (g : Config) (valid : IsConfig g) where
     below = λ j lt. refl;
     hand = tt;
     found = tt;
+    done = tt;
     fresh = λ none. tt;
   }
   all-taken i (c ∷ cs) p q inside config sees all made t =
@@ -253,6 +267,7 @@ module _ (g : Config) (valid : IsConfig g) where
         below = λ j lt. rest.below j (omega (arith, lt)) ∙ take-else i in_range c p r config sees all made t.1 j (λ is. omega (arith, lt, is));
         hand = (record { recorded = rest.below i (omega arith) ∙ first.recorded; seen = rest.fronts i ∙ first.seen }, rest.hand);
         found = (take-found i in_range c p r config sees all made t.1, found-as (suc i) cs p r quiet.about rest.found);
+        done = (take-done i in_range c p r config sees all made t.1, done-as g (suc i) cs p r quiet.number quiet.joined (take-mades i in_range c p r config sees all made t.1) rest.done);
         fresh = λ none. (take-fresh i in_range c p r config sees all made t.1 none, rest.fresh (take-untouched i in_range c p r config sees all made t.1 none));
       }
 

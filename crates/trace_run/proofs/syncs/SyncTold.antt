@@ -14,7 +14,7 @@ use Rattle.arc_core.specs.declared.event.Event.TheVariants.{Insert}
 use Rattle.arc_core.specs.Operations.{Act, Tell, Writes, acts_in, event_key, moments, number_of, own_moments}
 use Rattle.arc_table.specs.declared.view.Line.{Line}
 use Rattle.arc_table.specs.declared.view.Line.TheVariants as line
-use Rattle.arc_table.specs.Geometry.{IsCell, parties_of}
+use Rattle.arc_table.specs.Geometry.{IsCell, cell_number, parties_of}
 use Rattle.arc_table.specs.Seen.{seen_of, turn_of}
 use Rattle.arc_table.specs.Telling.{opening_of}
 use Rattle.arc_table.specs.Told.{IsTold}
@@ -23,14 +23,13 @@ use Rattle.dbuf_state.specs.declared.event.CellEvent.{CellEvent}
 use Rattle.dbuf_state.specs.declared.event.CellEvent.TheVariants.{Synced as WasSynced}
 use Rattle.txg_sync.specs.Items.{SyncItem}
 use Rattle.txg_sync.specs.Turns.{synced_in}
-use Rattle.trace_run.specs.Deeds.{HasAct, HasToldAll, Noted, act_of_event, acts_of_events, events_of_cell, events_there, lines_of_cell, with_number}
+use Rattle.trace_run.specs.Deeds.{HasAct, HasToldOthers, Noted, act_of_event, acts_of_events, events_of_cell, events_there, lines_of_cell, with_number}
 use Rattle.trace_run.specs.MadeLines.{made_in, made_of}
-use Rattle.trace_run.specs.Syncing.{lines_of, noted_of}
+use Rattle.trace_run.specs.Syncing.{IsInsert, lines_of, noted_of}
 use Rattle.trace_run.proofs.deeds.CellsDone.{lines-append}
 use Rattle.trace_run.proofs.deeds.DeedLemmas.{all-both, acts-append, events-acts}
 use Rattle.trace_run.proofs.deeds.MakesLemmas.{in-more}
 use Rattle.trace_run.proofs.deeds.TurnMakes.{there-append}
-use Rattle.trace_run.proofs.syncs.SyncInserts.{IsInsert}
 
 module _ (g : Config) where
   abbrev shard_is : Key → ℕ
@@ -39,17 +38,17 @@ module _ (g : Config) where
   -- one Insert
   event-acts : (shard c : ℕ) (e : Event) → IsInsert g e → acts_in shard_is shard c (act_of_event e) ≡ acts_of_events (with_number c (events_there g shard (e ∷ [])))
   event-acts shard c e i = subst (λ (x : Event). acts_in shard_is shard c (act_of_event x) ≡ acts_of_events (with_number c (events_there g shard (x ∷ [])))) (sym i.4)
-      (go (cases_true (i.0 == c)) (cases_true (shard_is i.1 == shard)))
+      (go (cases_true (cell_number g i.0 == c)) (cases_true (shard_is i.1 == shard)))
     where
-      go : ((i.0 == c) ≡ true) ⊎ ((i.0 == c) ≡ false) → ((shard_is i.1 == shard) ≡ true) ⊎ ((shard_is i.1 == shard) ≡ false)
-          → acts_in shard_is shard c (act_of_event (Insert i.0 i.1 i.2 i.3)) ≡ acts_of_events (with_number c (events_there g shard (Insert i.0 i.1 i.2 i.3 ∷ [])))
+      go : ((cell_number g i.0 == c) ≡ true) ⊎ ((cell_number g i.0 == c) ≡ false) → ((shard_is i.1 == shard) ≡ true) ⊎ ((shard_is i.1 == shard) ≡ false)
+          → acts_in shard_is shard c (act_of_event (Insert (cell_number g i.0) i.1 i.2 i.3)) ≡ acts_of_events (with_number c (events_there g shard (Insert (cell_number g i.0) i.1 i.2 i.3 ∷ [])))
       go (inl own) (inl here) = rw (own, here, own) refl
       go (inl own) (inr out) = rw (own, out) refl
       go (inr other) (inl here) = rw (other, here, other) refl
       go (inr other) (inr out) = rw (other, out) refl
 
   -- all of them
-  inserts-acts : (shard c : ℕ) (es : List Event) → AllByRecursion (IsInsert g) es → acts_in shard_is shard c (acts_of_events es) ≡ acts_of_events (with_number c (events_there g shard es))
+  pub inserts-acts : (shard c : ℕ) (es : List Event) → AllByRecursion (IsInsert g) es → acts_in shard_is shard c (acts_of_events es) ≡ acts_of_events (with_number c (events_there g shard es))
   inserts-acts shard c [] kinds = refl
   inserts-acts shard c (e ∷ es) kinds =
       acts-append shard_is shard c (act_of_event e) (acts_of_events es)
@@ -74,7 +73,7 @@ module _ (g : Config) where
       ]
 
       one : IsInsert g e → AllByRecursion HasAct (with_number c (events_there g shard (e ∷ [])))
-      one i = some e (Writes i.0 i.3 (record { key = i.1; digest = i.2 }), ap act_of_event i.4)
+      one i = some e (Writes (cell_number g i.0) i.3 (record { key = i.1; digest = i.2 }), ap act_of_event i.4)
 
   -- none is of a party's number
   inserts-not-own : (shard n : ℕ) (es : List Event) → n < parties_of g → AllByRecursion (IsInsert g) es → acts_in shard_is shard n (acts_of_events es) ≡ []
@@ -83,7 +82,7 @@ module _ (g : Config) where
       none : (es : List Event) → AllByRecursion (IsInsert g) es → with_number n (events_there g shard es) ≡ []
       none [] kinds = refl
       none (e ∷ es) kinds =
-          let far : (number_of e == n) ≡ false = ne_eqb (number_of e) n (λ same. let is = ap number_of kinds.0.4 in let above = kinds.0.5 in omega (arith, same, is, above, low)) in
+          let far : (number_of e == n) ≡ false = ne_eqb (number_of e) n (λ same. let is = ap number_of kinds.0.4 in omega (arith, same, is, low)) in
           elim (cases_true (option_map_or (λ (k : Key). shard_of g.shards k == shard) (event_key e) false)) [
             | inl here ↦ rw (here, far) (none es kinds.1)
             | inr out ↦ rw out (none es kinds.1)
@@ -98,16 +97,10 @@ module _ (g : Config) where
   ]
 
   -- Inserts with cells' numbers, and what was noted in cells
-  pub told-synced : (did : List Act) (had : List Noted) (es : List Event) (xs : List SyncItem) (n : ℕ) (p q : PartyPlace) → n ≡ p.number → q.number ≡ p.number → p.number < parties_of g → AllByRecursion (IsInsert g) es
-      → ((shard : ℕ) → own_moments p.number (moments (opening_of g) (seen_of g shard q)) ≡ own_moments p.number (moments (opening_of g) (seen_of g shard p)))
+  pub others-synced : (did : List Act) (had : List Noted) (es : List Event) (xs : List SyncItem) (n : ℕ) (p q : PartyPlace) → n ≡ p.number → q.number ≡ p.number → AllByRecursion (IsInsert g) es
       → ((shard : ℕ) → made_of (turn_of g shard) q ≡ made_of (turn_of g shard) p ++ map line.Event (events_there g shard es)) → ((i : ℕ) → IsCell g i → made_of i q ≡ made_of i p ++ lines_of (synced_in p.number i xs))
-      → HasToldAll g did had p → HasToldAll g (did ++ acts_of_events es) (had ++ noted_of n xs) q
-  told-synced did had es xs n p q same number low kinds own made entries before = record {
-    acts = λ shard.
-        subst (λ (k : ℕ). Tell (acts_in shard_is shard k (did ++ acts_of_events es)) (own_moments k (moments (opening_of g) (seen_of g shard q)))) (sym number)
-        (subst (λ (x : List Act). Tell x (own_moments p.number (moments (opening_of g) (seen_of g shard q))))
-        (sym (acts-append shard_is shard p.number did (acts_of_events es) ∙ (ap (λ (l : List Act). acts_in shard_is shard p.number did ++ l) (inserts-not-own shard p.number es low kinds) ∙ append-nil (acts_in shard_is shard p.number did))))
-        (subst (Tell (acts_in shard_is shard p.number did)) (sym (own shard)) (before.acts shard)));
+      → HasToldOthers g did had p → HasToldOthers g (did ++ acts_of_events es) (had ++ noted_of n xs) q
+  others-synced did had es xs n p q same number kinds made entries before = record {
     cells = λ shard c other.
         let differs : c ≢ p.number = λ is. other (is ∙ sym number) in
         acts-append shard_is shard c did (acts_of_events es)

@@ -105,6 +105,7 @@ module _ (g : Config) (valid : IsConfig g) (tick : ℕ) (cells : List OnHeap) (x
     entries = given.made;
     all = given.quiet.all;
     drops = inserts.cells;
+    picks = λ feeder i. ap (list_at i) given.quiet.picked ∙ (inserts.picks (taken.quiet.number ∙ feeder) i ∙ ap (list_at i) taken.quiet.picked);
     shards = shards-then;
     own = λ shard. ap (λ (es : List Event). own_moments p.number (moments (opening_of g) es)) (shards-then shard)
         ∙ drops-unmade g p.number (opening_of g) (seen_of g shard p) (events_there g shard inserts.events) low (cell-drops-there g shard inserts.events inserts.cells);
@@ -118,7 +119,7 @@ module _ (g : Config) (valid : IsConfig g) (tick : ℕ) (cells : List OnHeap) (x
   synced-shards shard = shards-then shard ∙ ap (λ (l : List Event). seen_of g shard p ++ l) (inserts.are shard ∙ ap (inserts_in g tick xs shard) (taken.quiet.shards shard))
 
   pub synced-picks : p.number ≡ g.callers → (i : ℕ) → picks_of i r ≡ picks_of i p
-  synced-picks feeder i = ap (list_at i) given.quiet.picked ∙ (inserts.picks (taken.quiet.number ∙ feeder) i ∙ ap (list_at i) taken.quiet.picked)
+  synced-picks feeder i = all-synced.picks feeder i
 
   -- what it made of histories more: these Inserts, and in each cell what was noted
   pub synced-made : (shard : ℕ) → made_of (turn_of g shard) r ≡ made_of (turn_of g shard) p ++ map line.Event (events_there g shard inserts.events)

@@ -21,12 +21,14 @@ use Rattle.trace_run.specs.Ends.{ends_of}
 use Rattle.dbuf_cells.specs.Turns.{OnHeap}
 use Rattle.trace_run.specs.callers.GroupRun.{RanTogether}
 use Rattle.trace_run.specs.CellEnds.{AreCellsOf}
+use Rattle.trace_run.specs.Devices.{IsHandedBack}
 use Rattle.trace_run.specs.Lines.{has_undone}
 use Rattle.trace_run.specs.ObjectAnswers.{IsAnsweredBy}
 use Rattle.trace_run.specs.ObjectLines.{OnObject}
 use Rattle.trace_run.specs.Objects.{Line}
 use Rattle.trace_run.specs.RunWork.{RunWork, only_ended, plain_lines, plain_work}
 use Rattle.trace_run.specs.callers.WorkLines.{AreLinesOf}
+use Rattle.trace_run.proofs.theorem.DeviceUsed.{groups-back}
 use Rattle.trace_run.proofs.theorem.FirstPlace.{first-place}
 use Rattle.trace_run.proofs.theorem.WorkLemmas.{cells-plain, explain-plain, plain-is, plain-off}
 use Rattle.trace_run.specs.Outcome.{HasRun, IsRun}
@@ -92,14 +94,15 @@ module _ {P D : Type 0} (pools : Ghosts P) (devices : DeviceGhosts D) (before af
       }
 
   pub alone-has-run : has_undone trace ≡ false → (ending : Ending) → ending ≡ Whole → IsFormed trace → trace.config.callers ≡ 1 → RanAlone pools before after trace (found_keys rebuilt) replies closed
-      → ReadsAlone pools devices before trace (found_keys rebuilt) replies lent back → AreCellsOf trace (only_ended trace.config) closed → HasRun pools devices before after lent back trace ending closed (report_of_closed ending rebuilt replies closed)
-  alone-has-run done ending whole formed one ran read cells =
+      → ReadsAlone pools devices before trace (found_keys rebuilt) replies lent back → AreCellsOf trace (only_ended trace.config) closed → IsHandedBack devices lent back → HasRun pools devices before after lent back trace ending closed (report_of_closed ending rebuilt replies closed)
+  alone-has-run done ending whole formed one ran read cells unfed =
       subst (λ (e : Ending). HasRun pools devices before after lent back trace e closed (report_of_closed e rebuilt replies closed)) (sym whole) record {
         work = plain_work trace.ops replies;
         did = plain-is trace.config trace.ops replies ran.answers.all done;
         run = alone-run done formed one ran read;
         cells = cells-plain trace trace.config refl refl trace.ops replies closed cells;
         used = λ two. absurd (omega (arith, two, one));
+        unfed = λ _. unfed;
         plain = λ _. refl;
         status = refl;
       }
@@ -128,6 +131,7 @@ module _ {P D : Type 0} (pools : Ghosts P) (devices : DeviceGhosts D) (before af
     };
     cells = ran.cells;
     used = λ _. ran.used;
+    unfed = λ none. groups-back devices trace.blocks trace.config.callers (groups_done ending work.lines) work.feeds lent back none ran.used;
     plain = λ one. absurd (omega (arith, two, one));
     status = refl;
   }

@@ -1,0 +1,320 @@
+//! One caller and every line: its own lines on the pool and the cache device that were handed in, and between them those that the feeder does.
+ghost use Rattle.std.specs.Prelude.{◌≡◌, ◌≢◌, ℕ, ◌<◌, ◌≤◌, ◌+◌, ◌^◌, ◌∷◌, [], IfOk, None, Some, filter, length, map, slice_get, vec_len};
+ghost use Rattle.vdev_io.specs.Calls.{KeepsPool};
+ghost use Rattle.dbuf_cells.specs.Turns.{dbuf_meanings};
+ghost use Rattle.trace_text.specs.declared.op.Op.{Op};
+ghost use Rattle.trace_text.specs.declared.op.Op.TheVariants as ops;
+ghost use Rattle.trace_run.specs.Devices.{WasLent, lent_in};
+ghost use Rattle.trace_run.specs.Feeds.{DoesFeeds, IsIdleFeeder, MayBeFed};
+ghost use Rattle.trace_run.specs.KeptBlocks.{Stands, read_of};
+ghost use Rattle.trace_run.specs.Lines.{caller_of, is_of_caller};
+ghost use Rattle.trace_run.specs.Tally.{AreDeclared};
+ghost use Rattle.trace_run.specs.callers.CallerLines.{at};
+ghost use Rattle.trace_run.specs.callers.Callers.{AreAtStart, CameTo};
+ghost use Rattle.trace_run.specs.one_caller.InTurn.{AreOwn, DidOwnLines};
+ghost use Rattle.trace_run.specs.one_caller.OverShards.{AreNamed};
+
+use crate::device::Device;
+use crate::feeder::feed_line;
+use crate::groups::{Came, Crew, Syncs, append, crew_of, end_line, first_place, goes_on};
+use crate::kept_blocks::KeptBlocks;
+use crate::lines::{all_lines, caller_of};
+use crate::opening::open_cache;
+use crate::ran::{Ending, Ran};
+use crate::together::{close_crew, restore_crew};
+use arc_core::Restored;
+use arc_table::Party;
+use blk_ptr::{NoMemory, Ptr};
+use dbuf_cells::{Cells, HeapCell};
+use std::alloc::Global;
+use std::sync::Wait;
+use trace_text::{Op, Reply, Trace};
+use vdev_io::{CacheDev, Gate, NoCache, Pool};
+
+/// The number of the first of these lines from this one on that is no caller's, or how many lines there are.
+fn own_end(ops: &[Op], from: usize) -> usize
+    requires { from ≤ length ops.now }
+    ensures range { (from ≤ result) × (result ≤ length ops.now) }
+    ensures own { (k : ℕ) (op : Op) → from ≤ k → k < result → slice_get ops.now k ≡ Some op → caller_of op ≢ None }
+    ensures end { (op : Op) → slice_get ops.now result ≡ Some op → caller_of op ≡ None }
+{
+    for to in from..ops.len() {
+        if caller_of(&ops[to]).is_none() {
+            return to;
+        }
+    }
+    ops.len()
+}
+
+/// Does the lines of the caller over the cache device, where one was started, or over none.
+fn lines_on<P: Pool, D: CacheDev, G: Gate>(
+    alloc: Global,
+    rt: &impl Wait,
+    arcs: &Cells,
+    party: &mut Party<HeapCell>,
+    kept: &mut KeptBlocks,
+    pool: &mut P,
+    device: &mut Device<D>,
+    blocks: &[Ptr],
+    ops: &[Op],
+    first: u32,
+    gate: &G,
+) -> Result<Vec<Reply>, NoMemory>
+    requires stands { Stands arcs.now party.old kept.old }
+    requires declared { AreDeclared (length blocks.now) ops.now }
+    requires named { AreNamed blocks.now (map read_of kept.old) }
+    requires few { first + length ops.now < 2 ^ 32 }
+    ensures stands { IfOk result (λ replies. Stands arcs.now party.new kept.new) }
+    ensures did { IfOk result (λ replies. CameTo P.Pool D.CacheDev arcs.now.config blocks.now (filter (is_of_caller party.old.number) ops.now) replies.items
+        (at party.old (map read_of kept.old) pool.old) (at party.new (map read_of kept.new) pool.new) (lent_in device.old) (lent_in device.new)) }
+    ensures pool { KeepsPool P.Pool pool.old pool.new }
+    ensures device { WasLent D.CacheDev device.old device.new }
+{
+    match device {
+        Device::Ready(l2) => all_lines(
+            alloc,
+            rt,
+            arcs,
+            party,
+            kept,
+            pool,
+            l2.device(),
+            blocks,
+            ops,
+            first,
+            gate,
+        ),
+        Device::None | Device::Short(_) => all_lines(
+            alloc,
+            rt,
+            arcs,
+            party,
+            kept,
+            pool,
+            &mut NoCache::new(),
+            blocks,
+            ops,
+            first,
+            gate,
+        ),
+    }
+}
+
+/// The caller does these lines, which are its own, one after another, on the pool and the cache device that were handed in.
+fn own_lines<P: Pool, D: CacheDev, G: Gate>(
+    alloc: Global,
+    rt: &impl Wait,
+    arcs: &Cells,
+    crew: Crew<HeapCell>,
+    pool: &mut P,
+    device: &mut Device<D>,
+    blocks: &[Ptr],
+    ops: &[Op],
+    first: u32,
+    gate: &G,
+) -> Result<(Crew<HeapCell>, Vec<Reply>), NoMemory>
+    requires start { AreAtStart arcs.now blocks.now 0 crew.kept.items crew.parties.items }
+    requires one { vec_len crew.parties ≡ 1 }
+    requires declared { AreDeclared (length blocks.now) ops.now }
+    requires own { AreOwn ops.now }
+    requires few { first + length ops.now < 2 ^ 32 }
+    ensures did { IfOk result (λ done. DidOwnLines arcs.now P.Pool D.CacheDev blocks.now ops.now pool.old pool.new (lent_in device.old) (lent_in device.new) crew done.0 done.1.items) }
+    ensures pool { KeepsPool P.Pool pool.old pool.new }
+    ensures device { WasLent D.CacheDev device.old device.new }
+{
+    let Crew {
+        feeder,
+        mut parties,
+        mut kept,
+    } = crew;
+    let Some(mut party) = parties.pop() else {
+        unreachable!()
+    };
+    let Some(mut reads) = kept.pop() else {
+        unreachable!()
+    };
+    let replies = lines_on(
+        alloc, rt, arcs, &mut party, &mut reads, pool, device, blocks, ops, first, gate,
+    )?;
+    parties.push(party)?;
+    kept.push(reads)?;
+    let crew = Crew {
+        feeder,
+        parties,
+        kept,
+    };
+    Ok((crew, replies))
+}
+
+/// Does a line `feed`.
+fn feed_alone<D: CacheDev>(
+    alloc: Global,
+    rt: &impl Wait,
+    arcs: &Cells,
+    crew: Crew<HeapCell>,
+    device: &mut Device<D>,
+) -> (Crew<HeapCell>, Reply)
+    requires feeder { IsIdleFeeder arcs.now crew.feeder }
+    requires device { MayBeFed D.CacheDev arcs.now.config device.old }
+    ensures fed { DoesFeeds dbuf_meanings D.CacheDev arcs.now (ops.Feed ∷ []) (result.1 ∷ []) device.old device.new crew.feeder result.0.feeder }
+    ensures callers { (result.0.parties ≡ crew.parties) × (result.0.kept ≡ crew.kept) }
+    ensures feeder { IsIdleFeeder arcs.now result.0.feeder }
+    ensures device { MayBeFed D.CacheDev arcs.now.config device.new }
+{
+    let Crew {
+        mut feeder,
+        parties,
+        kept,
+    } = crew;
+    let reply = feed_line(alloc, rt, arcs, &mut feeder, device);
+    let crew = Crew {
+        feeder,
+        parties,
+        kept,
+    };
+    (crew, reply)
+}
+
+/// Does a line that is no caller's. The lines end here where a sync stopped.
+fn other_line<P: Pool, D: CacheDev>(
+    alloc: Global,
+    rt: &impl Wait,
+    arcs: &Cells,
+    crew: Crew<HeapCell>,
+    op: &Op,
+    syncs: Syncs,
+    pool: &mut P,
+    device: &mut Device<D>,
+) -> Result<(Crew<HeapCell>, Syncs, Result<Reply, Ending>), NoMemory> {
+    match op {
+        Op::Feed => {
+            let (crew, reply) = feed_alone(alloc, rt, arcs, crew, device);
+            Ok((crew, syncs, Ok(reply)))
+        }
+        Op::Txg { .. } | Op::Cap { .. } => end_line(alloc, rt, arcs, crew, op, syncs, pool),
+        Op::Read { .. } | Op::Hold { .. } | Op::Drop { .. } => unreachable!(),
+        Op::Get { .. } | Op::Put { .. } | Op::Patch { .. } | Op::Pin { .. } | Op::Unpin { .. } => {
+            unreachable!()
+        }
+    }
+}
+
+/// Does the caller's next lines, up to one that is no caller's; or that one, where it is the next. The lines end there where a sync stopped.
+fn next_lines<P: Pool, D: CacheDev, G: Gate>(
+    alloc: Global,
+    rt: &impl Wait,
+    arcs: &Cells,
+    trace: &Trace,
+    crew: Crew<HeapCell>,
+    syncs: Syncs,
+    replies: &mut Vec<Reply>,
+    pool: &mut P,
+    device: &mut Device<D>,
+    gate: &G,
+) -> Result<(Crew<HeapCell>, Syncs, Ending), NoMemory> {
+    let ops = trace.ops.as_slice();
+    let first = replies.len();
+    let to = own_end(ops, first);
+    if first < to {
+        let blocks = trace.blocks.as_slice();
+        let lines = &ops[first..to];
+        let (crew, answered) = own_lines(
+            alloc,
+            rt,
+            arcs,
+            crew,
+            pool,
+            device,
+            blocks,
+            lines,
+            first as u32,
+            gate,
+        )?;
+        append(replies, answered)?;
+        return Ok((crew, syncs, Ending::Whole));
+    }
+    let (crew, syncs, came) = other_line(alloc, rt, arcs, crew, &ops[first], syncs, pool, device)?;
+    match came {
+        Ok(reply) => {
+            replies.push(reply)?;
+            Ok((crew, syncs, Ending::Whole))
+        }
+        Err(ending) => Ok((crew, syncs, ending)),
+    }
+}
+
+/// Does all lines of a trace of one caller, one after another, up to a sync that stops.
+fn all_in_turn<P: Pool, D: CacheDev, G: Gate>(
+    alloc: Global,
+    rt: &impl Wait,
+    arcs: &Cells,
+    trace: &Trace,
+    crew: Crew<HeapCell>,
+    syncs: Syncs,
+    pool: &mut P,
+    device: &mut Device<D>,
+    gate: &G,
+) -> Result<Came<HeapCell>, NoMemory> {
+    let mut crew = crew;
+    let mut syncs = syncs;
+    let mut replies = Vec::new(alloc);
+    while replies.len() < trace.ops.as_slice().len() {
+        let (after, later, ending) = next_lines(
+            alloc,
+            rt,
+            arcs,
+            trace,
+            crew,
+            syncs,
+            &mut replies,
+            pool,
+            device,
+            gate,
+        )?;
+        crew = after;
+        syncs = later;
+        if !goes_on(ending) {
+            return Ok(Came {
+                crew,
+                replies,
+                ending,
+            });
+        }
+    }
+    Ok(Came {
+        crew,
+        replies,
+        ending: Ending::Whole,
+    })
+}
+
+/// Runs a trace of one caller with any lines: one after another, over the pool and the cache device that are handed in, once these keys are
+/// restored. Where a sync stops, no line behind it is done.
+pub(crate) fn run_one<P: Pool, D: CacheDev, G: Gate>(
+    alloc: Global,
+    rt: &impl Wait,
+    trace: &Trace,
+    restored: &[Restored],
+    pool: &mut P,
+    device: &mut Device<D>,
+    gate: &G,
+) -> Result<Ran, NoMemory> {
+    let (arcs, parties) = open_cache(alloc, trace)?;
+    let crew = crew_of(alloc, parties)?;
+    let crew = restore_crew(alloc, rt, &arcs, crew, restored)?;
+    let syncs = Syncs {
+        group: 1,
+        next: first_place(trace.blocks.as_slice(), pool.len()),
+    };
+    let Came {
+        crew,
+        replies,
+        ending,
+    } = all_in_turn(alloc, rt, &arcs, trace, crew, syncs, pool, device, gate)?;
+    let closed = close_crew(alloc, rt, arcs, crew)?;
+    Ok(Ran {
+        replies,
+        closed,
+        ending,
+    })
+}
