@@ -47,6 +47,7 @@ use Rattle.trace_run.specs.States.{Handed}
 use Rattle.vdev_io.specs.Streams.{NoneFailed, OneFailed, StreamState}
 use Rattle.vdev_io.specs.Streams.{Gives, AppendsFront, TakesAtMost}
 use Rattle.trace_run.specs.callers.DeviceForks.{UsedInGroups}
+use Rattle.trace_run.specs.callers.Group.{LeavesDeclared}
 use Rattle.trace_run.specs.callers.Together.{IsFirstPlace, RunsTogether, StopsSo, TellsClosed, answered_ops, faults_told, groups_done, report_status}
 use Rattle.trace_run.specs.Words.{IsCommand, IsFirstWrong}
 
@@ -147,14 +148,8 @@ pub record IsReport {P D : Type 0} (pool : Ghosts P) (device : Devices D) (befor
   pub first : Option CursorState
   pub found : Finds device before.cache started first report.rebuilt
   pub ending : Ending
-  -- what the answered lines did beside their replies, and the feeder
-  pub work : RunWork
-  pub used : WasUsed device (with_bound trace (device_len device.size before.cache)) ending work started after.cache
-  pub did : IsRunWork trace.config (answered_ops trace ending report.replies) report.replies work
-  pub run : IsRun pool device before.pool after.pool (usable device started) (usable device after.cache) (with_bound trace (device_len device.size before.cache)) ending work closed report
-  -- the cells began with the trace's lines; that was done to them, and they were ended
-  pub cells : AreCellsOf (with_bound trace (device_len device.size before.cache)) (noted_by trace.config work) closed
-  pub status : report.status ≡ report_status ending report.replies
+  pub run : HasRun pool device before.pool after.pool (usable device started) (usable device after.cache) (with_bound trace (device_len device.size before.cache)) ending closed report
+  pub used : WasUsed device (with_bound trace (device_len device.size before.cache)) ending run.work started after.cache
   pub told : TellsEnding answer ending
   pub whole : report.short ≡ false
 
@@ -365,6 +360,8 @@ pub record DoesRun {P D : Type 0} (pool : Ghosts P) (device : Devices D) (events
   pub took : TakesAtMost before.source.told after.source.told (longest_text + 1)
   pub unrun : OnFalse (ran status) ((after.pool ≡ before.pool) × (after.cache ≡ before.cache))
   pub cache : MayLose device before.cache after.cache
+  -- what the pool tells is as it was, but for what syncs of the trace that was read wrote behind its declared blocks
+  pub told : (pool.told after.pool ≡ pool.told before.pool) ⊎ ((trace : Trace) × WasRead before.source after.source trace × LeavesDeclared pool trace.blocks before.pool after.pool)
   pub reported : IfReported report closed (IsReport pool device before after status)
   pub sink : AnswersSink events before.sink after.sink status report
   pub present : is_some report ≡ has_report status

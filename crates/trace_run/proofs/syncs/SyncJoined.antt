@@ -212,9 +212,9 @@ module _ (cache : Cache) (p : PartyPlace) (others : List PartyPlace) (stands : S
       all-did : AllByRecursion (HasDoneTo g cells) (p ∷ others)
       all-did = (
         (λ noted made i c at.
-        let h = done-here i c at in
-        let same = (grown-same g p q met.number met.about met.mine met.self.starts met.self.cells stands.seen stands.cells).entries i h.0 in
-        subst (λ (n : ℕ). done_by n c.value.history ≡ events_of_cell i noted) met.number (h.1.own (events_of_cell i noted) (same ∙ made i h.0))),
+            let h = done-here i c at in
+            let same = (grown-same g p q met.number met.about met.mine met.self.starts met.self.cells stands.seen stands.cells).entries i h.0 in
+            subst (λ (n : ℕ). done_by n c.value.history ≡ events_of_cell i noted) met.number (h.1.own (events_of_cell i noted) (same ∙ made i h.0))),
         all-done cells others apart (λ i c at. let h = done-here i c at in (h.0, subst (AllByRecursion (λ k. AreEntriesSeen g k.number k.view.mine k.view.seen → DidSo k.number (made_from i 0 k.view.mine (front_of i k.view.seen)) c)) met.joined h.1.joined)),
       )
 

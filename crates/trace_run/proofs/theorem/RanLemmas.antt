@@ -160,8 +160,8 @@ module _ {P D : Type 0} (pools : Ghosts P) (devices : DeviceGhosts D) (before af
       unworked none whole =
           let no_ops : answered_ops trace ending replies ≡ [] = ap (λ (e : Ending). answered_ops trace e replies) whole ∙ none in
           let empty : work.lines ≡ [] = no-lines (answered_ops trace ending replies) replies work.lines no_ops ran.did.lines in
-          let groups : WorkInGroups pools trace.config (StoodThen trace closed.cells) [] (between_groups before 1 ran.place) told.reached =
-          subst (λ (x : Ending × List Line). WorkInGroups pools trace.config (StoodThen trace closed.cells) (groups_done x.0 x.1) (between_groups before 1 ran.place) told.reached) (λ i. (whole i, empty i)) told.groups in
-          let ended : EndsRun pools trace.config (StoodThen trace closed.cells) trace replies work.stopped Whole told.reached after =
-          subst (λ (e : Ending). EndsRun pools trace.config (StoodThen trace closed.cells) trace replies work.stopped e told.reached after) whole told.ended in
+          let groups : WorkInGroups pools trace.config (StoodThen trace closed.cells) [] [] (between_groups before 1 ran.place) told.reached =
+          subst (λ (x : Ending × List Line). WorkInGroups pools trace.config (StoodThen trace closed.cells) [] (groups_done x.0 x.1) (between_groups before 1 ran.place) told.reached) (λ i. (whole i, empty i)) told.groups in
+          let ended : EndsRun pools trace.config (StoodThen trace closed.cells) trace replies work.lines work.stopped Whole told.reached after =
+          subst (λ (e : Ending). EndsRun pools trace.config (StoodThen trace closed.cells) trace replies work.lines work.stopped e told.reached after) whole told.ended in
           ended.1 ∙ ap (λ (s : BetweenGroups P). s.pool) groups

@@ -4,6 +4,7 @@ use Rattle.std.specs.Prelude.{filter, slice_get, slice_index_or, sum_by}
 use Rattle.std.specs.List.{AllByRecursion}
 use Rattle.std.proofs.lemmas.Bool.{eqb-true}
 use Rattle.std.proofs.lemmas.List.{length-map}
+use Rattle.std.proofs.lemmas.Option.{slice_get_within}
 use mathlib.Core.Option.{some, some-injective, some-ne-none}
 use lib.ListN.{get_elem?}
 use Rattle.arc_lists.proofs.Tables.{cases_true}
@@ -17,7 +18,7 @@ use Rattle.arc_core.specs.Operations.{Act, Fails, GivesBack, Keeps, Loads, Makes
 use Rattle.arc_core.specs.ShardLog.{ShardLog}
 use Rattle.arc_table.specs.declared.about.About.{About}
 use Rattle.arc_table.specs.declared.view.Known.{Known}
-use Rattle.arc_table.specs.declared.view.Line.{Line as Seen}
+use Rattle.arc_table.specs.declared.view.Line.TheVariants as line
 use Rattle.arc_table.specs.Ended.{Ended}
 use Rattle.arc_table.specs.Cache.{Cache}
 use Rattle.arc_table.specs.Fronts.{StartsWith, front_of}
@@ -27,12 +28,13 @@ use Rattle.arc_table.specs.TableLaws.{get_front, within}
 use Rattle.arc_table.specs.Telling.{opening_of}
 use Rattle.arc_table.proofs.TableLaws.{get_last, there}
 use Rattle.dbuf_cells.specs.Turns.{OnHeap, PartyPlace, dbuf_meanings}
+use Rattle.dbuf_state.specs.Numbers.{event_numbers}
 use Rattle.trace_text.specs.declared.op.Op.{Op}
 use Rattle.trace_text.specs.declared.reply.Reply.{Reply}
 use Rattle.trace_text.specs.declared.trace.Trace.{Trace}
 use Rattle.trace_run.specs.declared.groups.Crew.{Crew}
 use Rattle.trace_run.specs.declared.kept_blocks.KeptBlock.{KeptBlock}
-use Rattle.trace_run.specs.Acts.{acts_of_drops, events_of_feeder}
+use Rattle.trace_run.specs.Acts.{acts_of_drops}
 use Rattle.trace_run.specs.Answers.{AnswersAll, is_pool_fault}
 use Rattle.trace_run.specs.CellEnds.{AreCellsOf, EndedCrew, IsCellDrop, ends_from}
 use Rattle.trace_run.specs.Deeds.{HasToldAll, HasToldOthers, KeepsCells, Noted, acts_of_events, events_there, lines_of_cell}
@@ -53,10 +55,11 @@ use Rattle.trace_run.specs.Restores.{events_by_feeder, restores_in}
 use Rattle.trace_run.specs.RunWork.{IsRunWork, RunWork, acts_by, acts_of_caller_lines, acts_of_syncs, kept_after_lines, lines_of_caller, noted_by, noted_of_syncs}
 use Rattle.trace_run.specs.callers.GroupRun.{HaveClosed, HaveStopped}
 use Rattle.trace_run.specs.callers.Groups.{HaveCome}
-use Rattle.trace_run.specs.callers.Together.{AreCut, IsCut, ends_group, over_callers, reads_of_caller}
+use Rattle.trace_run.specs.Syncing.{inserts_noted}
+use Rattle.trace_run.specs.callers.Together.{AreCut, IsCut, IsCutLast, events_at_end, over_callers, reads_of_caller}
 use Rattle.trace_run.specs.callers.WorkLines.{AnswersLines, AreLinesOf, calls_of_lines, noted_of_work}
 use Rattle.trace_run.proofs.CellLemmas.{all-empty}
-use Rattle.trace_run.proofs.callers.AfterEnds.{crew-long, crew-stopped, last-same}
+use Rattle.trace_run.proofs.callers.AfterEnds.{crew-long, last-same, same-long}
 use Rattle.trace_run.proofs.callers.CallerActLemmas.{caller-is}
 use Rattle.trace_run.proofs.callers.GroupCounts.{IsLineAct, acts-counted, over-same, reads_of_act}
 use Rattle.trace_run.proofs.callers.GroupRunLemmas.{come-wait, gave-at, gone-long, gone-stopped, lines-acts, lines-noted}
@@ -65,7 +68,7 @@ use Rattle.trace_run.proofs.one_caller.TellLemmas.{all-map}
 use Rattle.trace_run.proofs.theorem.CellRun.{crew-cells}
 use Rattle.trace_run.proofs.theorem.CrewEnds.{crew-ended, crew-level}
 use Rattle.trace_run.proofs.theorem.LineActs.{Own, caller-own, own-fits}
-use Rattle.trace_run.proofs.theorem.AnsweredCells.{EndsFrom, all-by-cells}
+use Rattle.trace_run.proofs.theorem.AnsweredCells.{EndsFrom, all-by-cells, goes-on}
 use Rattle.trace_run.proofs.theorem.EndLemmas.{shown-at}
 use Rattle.trace_run.proofs.theorem.LineAnswers.{IsOfOne, lines-answered, own-lines-of}
 use Rattle.trace_run.proofs.theorem.WorkEnds.{HasEndedWork, IsCallersAct, acts-same, begins-seen, own-told, reads-counted, work-explains, work-level}
@@ -136,18 +139,17 @@ drops-are g blocks shard n (k ∷ ks) os rs each =
 
 -- ---- cuts of a front are cuts of the whole
 
-pub cut-more : (g : Config) (restored : List Restored) (blocks : List Ptr) (shard : ℕ) (work ended : RunWork) (front history : List Event) → ended.lines ≡ work.lines → ended.feeds ≡ work.feeds → StartsWith history front
-    → AreCut g restored blocks shard work front → AreCut g restored blocks shard ended history
-cut-more g restored blocks shard work ended front history same_lines same_feeds starts cut k l at ends =
-    let c = cut k l (ap (λ (ls : List Line). slice_get ls k) (sym same_lines) ∙ at) ends in
-    subst (λ (x : List Line × List FeedDone). IsCut g restored blocks shard (take k x.0) x.1 (events_of_feeder g.callers l.op) history) (λ i. (sym same_lines i, sym same_feeds i)) record {
-      front = c.front;
-      rest = c.rest ++ starts.0;
-      whole = starts.1 ∙ (ap (λ (es : List Event). es ++ starts.0) c.whole
-          ∙ (append_assoc c.front (events_of_feeder g.callers l.op ++ c.rest) starts.0 ∙ ap (λ (es : List Event). c.front ++ es) (append_assoc (events_of_feeder g.callers l.op) c.rest starts.0)));
-      callers = c.callers;
-      feeder = c.feeder;
-    }
+pub one-cut-more : (g : Config) (restored : List Restored) (blocks : List Ptr) (shard : ℕ) (lines : List Line) (fs : List FeedDone) (acts : List Act) (here : List Event → List Event) (front history : List Event) → StartsWith history front
+    → IsCut g restored blocks shard lines fs acts here front → IsCut g restored blocks shard lines fs acts here history
+one-cut-more g restored blocks shard lines fs acts here front history starts c = record {
+  front = c.front;
+  rest = c.rest ++ starts.0;
+  whole = starts.1 ∙ (ap (λ (es : List Event). es ++ starts.0) c.whole
+      ∙ (append_assoc c.front (here c.front ++ c.rest) starts.0 ∙ ap (λ (es : List Event). c.front ++ es) (append_assoc (here c.front) c.rest starts.0)));
+  callers = c.callers;
+  feeder = c.feeder;
+  inserted = c.inserted;
+}
 
 -- ---- acts
 
@@ -369,7 +371,10 @@ module _ (cache : Cache) (valid : IsConfig cache.config) (restored : List Restor
   pub run-cut : (i : ℕ) (l : ShardLog) → get_elem? closed.shards i ≡ some l → AreCut g restored blocks i ended-work l.history
   run-cut i l at =
       let inside : i < g.shards = subst (λ (k : ℕ). i < k) h.ends.shards (within closed.shards i l at) in
-      cut-more g restored blocks i work ended-work (seen_of g i crew.feeder) l.history refl refl (since i l at) (come.cut i inside)
+      λ k x there_is ends. one-cut-more g restored blocks i (take k work.lines) work.feeds x.work.acts (events_at_end g i x.op x.work.noted) (seen_of g i crew.feeder) l.history (since i l at) (come.cut i inside k x there_is ends)
+
+  pub run-cut-last : (i t : ℕ) (l : ShardLog) → get_elem? closed.shards i ≡ some l → IsCutLast g restored blocks i t work (seen_of g i crew.feeder) → IsCutLast g restored blocks i t ended-work l.history
+  run-cut-last i t l at last = one-cut-more g restored blocks i work.lines work.feeds work.stopped.acts (inserts_noted g t work.stopped.noted i) (seen_of g i crew.feeder) l.history (since i l at) last
 
   pub run-answers : ((k : ℕ) (op : Op) → slice_get os k ≡ Some op → (n : ℕ) → caller_of op ≡ Some n → n < g.callers) → AnswersAll len image blocks os rs
   run-answers below = lines-answered g len image place blocks (λ n. (party-at n).own.about.openings) (λ n. (party-at n).own.seen) (λ n. n < g.callers) os rs work.lines come.did.lines below come.ended line-answers
@@ -406,8 +411,7 @@ module _ (cache : Cache) (valid : IsConfig cache.config) (restored : List Restor
       let r = parted-cells c.callers c.parted n q.0 c.ended.parted (λ k o at. (caller-waits k o at).1.stands) there_is in
       let last : get_elem? h.closing n ≡ some r.0 = ap (λ (l : List PartyPlace). get_elem? l n) c.then ∙ get_front c.parted (c.last ∷ []) n r.0 r.1 in
       let shown : get_elem? h.ends.views n ≡ some r.0.own = subst (λ (k : ℕ). get_elem? h.ends.views k ≡ some r.0.own) (ended n r.0 last).number (shown-at h.ends.views h.closing n r.0 last h.ends.shown) in
-      let all = starts-cells p q.0 r.0 q.2 r.2 in
-      (
+      let all = starts-cells p q.0 r.0 q.2 r.2 in (
         r.0.own,
         shown,
         subst (λ (x : PartyPlace). EndsFrom g x.own.about.openings x.own.seen r.0.own) (party-is n below) (record { about = ap (λ (a : About). a.openings) all.about; fronts = all.fronts }),
@@ -422,3 +426,21 @@ module _ (cache : Cache) (valid : IsConfig cache.config) (restored : List Restor
       own-at [] all k l at n is = cc
       own-at (x ∷ ls) all zero l at n is = let same : x ≡ l = cc in all.0 n (ap (λ (y : Line). caller_of y.op) same ∙ is)
       own-at (x ∷ ls) all (suc k) l at n is = own-at ls all.1 k l at n is
+
+  -- A closed cell goes on from what the feeder had seen of it between the groups.
+  pub feeder-begins : (i : ℕ) (x : OnHeap) → slice_get closed.cells i ≡ Some x → StartsWith (map line.Entry (map event_numbers x.value.history)) (front_of i crew.feeder.own.seen)
+  feeder-begins i x at =
+      let range : IsCell g i = subst (λ (k : ℕ). i < k) h.ends.cells (slice_get_within closed.cells i x at) in
+      let last_at : get_elem? h.closing g.callers ≡ some c.last = ap (λ (l : List PartyPlace). get_elem? l g.callers) c.then ∙ (ap (get_elem? (c.parted ++ c.last ∷ [])) (sym many-parted) ∙ get_last c.parted c.last) in
+      let shown : get_elem? h.ends.views g.callers ≡ some c.last.own = subst (λ (k : ℕ). get_elem? h.ends.views k ≡ some c.last.own) (ended g.callers c.last last_at).number (shown-at h.ends.views h.closing g.callers c.last last_at h.ends.shown) in
+      let feeder_front : StartsWith (front_of i c.feeder.own.seen) (front_of i crew.feeder.own.seen) = subst (λ (p : PartyPlace). StartsWith (front_of i p.own.seen) (front_of i crew.feeder.own.seen)) (sym same-parties.1) (gave.fed_cells.fronts i range) in
+      starts-then (map line.Entry (map event_numbers x.value.history)) (front_of i c.last.own.seen) (front_of i crew.feeder.own.seen) (goes-on cache valid h.closing closed h.ends i x (get-of closed.cells i x at) g.callers c.last.own shown)
+      (starts-then (front_of i c.last.own.seen) (front_of i c.feeder.own.seen) (front_of i crew.feeder.own.seen) (c.ended.grows i range) feeder_front)
+    where
+      many-parted : length c.parted ≡ g.callers
+      many-parted = same-long cache c.ended.lines c.callers c.parted c.ended.parted ∙ many
+
+      get-of : (l : List OnHeap) (i : ℕ) (x : OnHeap) → slice_get l i ≡ Some x → get_elem? l i ≡ some x
+      get-of [] i x at = cc
+      get-of (y ∷ ys) zero x at = let is : y ≡ x = cc in ap some is
+      get-of (y ∷ ys) (suc i) x at = get-of ys i x at

@@ -19,9 +19,11 @@ use Rattle.arc_core.specs.Operations.{pool_reads}
 use Rattle.arc_core.specs.ShardLog.{ShardLog}
 use Rattle.arc_table.specs.Ended.{Ended}
 use Rattle.arc_table.specs.Cache.{Cache}
+use Rattle.arc_table.specs.TableLaws.{within}
 use Rattle.arc_table.proofs.TableLaws.{there}
 use Rattle.dbuf_cells.specs.Turns.{OnHeap, dbuf_meanings}
 use Rattle.txg_sync.specs.Items.{SyncItem}
+use Rattle.txg_sync.specs.declared.syncing.SyncFault.{SyncFault}
 use Rattle.txg_sync.specs.declared.syncing.SyncFault.TheVariants as fault
 use Rattle.vdev_io.specs.Faults.{CountsOne, Rose, last_count}
 use Rattle.vdev_io.specs.declared.device.CacheDev.{Ghosts as Devices}
@@ -46,16 +48,16 @@ use Rattle.trace_run.specs.one_caller.Alone.{ends_in, histories_of}
 use Rattle.trace_run.specs.RunWork.{IsRunWork, RunWork, lines_of_caller, noted_by}
 use Rattle.trace_run.specs.callers.DeviceForks.{UsedInGroups}
 use Rattle.trace_run.specs.callers.GroupRun.{HaveClosed, RanTogether}
-use Rattle.trace_run.specs.callers.Groups.{AreDone, EndsLines, HaveCome, IsEndLine, StoodFresh}
-use Rattle.trace_run.specs.callers.Together.{AreCut, BetweenGroups, EndsRun, GroupLines, StoodThen, StopsSo, StopsSync, WorkInGroups, answered_ops, between_groups, faults_told, groups_done, over_callers, reads_of_caller}
+use Rattle.trace_run.specs.callers.Groups.{AreDone, EndsLines, HaveCome, IsEndLine, StoodSo}
+use Rattle.trace_run.specs.callers.Together.{AreCut, BetweenGroups, EndsRun, IsCutLast, GroupLines, StoodThen, StopsSo, StopsSync, WorkInGroups, answered_ops, between_groups, faults_told, groups_done, over_callers, reads_of_caller}
 use Rattle.trace_run.specs.callers.WorkLines.{calls_of_lines, effect_with}
 use Rattle.trace_run.proofs.callers.AbsorbLemmas.{over-few}
 use Rattle.trace_run.proofs.callers.CallerActLemmas.{line-kind}
 use Rattle.trace_run.proofs.callers.GroupCounts.{over-add, over-one, over-same, over-zero}
 use Rattle.trace_run.proofs.callers.GroupRunLemmas.{all-callers}
-use Rattle.trace_run.proofs.callers.SyncRun.{failed-as, fresh-then, full-as, in-groups-as}
+use Rattle.trace_run.proofs.callers.SyncRun.{in-groups-as, stood-then, stops-sync-as}
 use Rattle.trace_run.proofs.theorem.LineAnswers.{EndsWell, IsOfOne, end-lines, lines-replies, own-lines-of}
-use Rattle.trace_run.proofs.theorem.RunEnds.{did-work, ended-work, lines-long, run-answers, run-cells, run-counted, run-cut, run-explains, run-objects, run-reads}
+use Rattle.trace_run.proofs.theorem.RunEnds.{did-work, ended-work, lines-long, run-answers, run-cells, feeder-begins, run-counted, run-cut, run-cut-last, run-explains, run-objects, run-reads}
 
 -- ---- what the callers' replies tell is what all replies tell
 
@@ -171,7 +173,7 @@ module _ {P D : Type 0} (cache : Cache) (pools : Ghosts P) (devices : Devices D)
   done-work = ended-work cache valid restored (pools.size before) (pools.told before) place trace.blocks os more rs work crew come closed h
 
   -- all are answered
-  all-are : (e : Ending) → EndsLines pools cache trace rs work.stopped e d.now after → os ≡ answered_ops trace e rs
+  all-are : (e : Ending) → EndsLines pools cache trace rs crew.feeder work e d.now after → os ≡ answered_ops trace e rs
   all-are Whole ends = take_all (length rs) trace.ops (omega (arith, ends.1))
   all-are Fork ends = refl
   all-are Sync ends = refl
@@ -229,7 +231,7 @@ module _ {P D : Type 0} (cache : Cache) (pools : Ghosts P) (devices : Devices D)
   after-reads : pools.reads before < 2 ^ 63 → pools.reads after ≡ pools.reads before + sum_by pool_reads (histories_of closed)
   after-reads room = go ending d.ended
     where
-      go : (e : Ending) → EndsLines pools cache trace rs work.stopped e d.now after → pools.reads after ≡ pools.reads before + sum_by pool_reads (histories_of closed)
+      go : (e : Ending) → EndsLines pools cache trace rs crew.feeder work e d.now after → pools.reads after ≡ pools.reads before + sum_by pool_reads (histories_of closed)
       go Whole ends = ap (λ (p : P). pools.reads p) ends.2 ∙ reached-reads room
       go Fork ends = ends.3.reads (omega (arith, room, d.reached.counted.reads room, reads-few, few-callers)) ∙ reached-reads room
       go Sync ends = ends.answer.outside.reads ∙ reached-reads room
@@ -238,7 +240,7 @@ module _ {P D : Type 0} (cache : Cache) (pools : Ghosts P) (devices : Devices D)
   after-faults : pools.faults before < 2 ^ 63 → pools.faults after ≡ pools.faults before + faults_told ending rs
   after-faults room = go ending d.ended
     where
-      go : (e : Ending) → EndsLines pools cache trace rs work.stopped e d.now after → pools.faults after ≡ pools.faults before + faults_told e rs
+      go : (e : Ending) → EndsLines pools cache trace rs crew.feeder work e d.now after → pools.faults after ≡ pools.faults before + faults_told e rs
       go Whole ends = ap (λ (p : P). pools.faults p) ends.2 ∙ reached-faults room
       go Fork ends = omega (arith, ends.3.faults (omega (arith, room, reached-faults room, faults-few)), reached-faults room)
       go Sync ends = omega (arith, ends.answer.outside.faults.more (omega (arith, room, reached-faults room, faults-few)), reached-faults room)
@@ -279,8 +281,8 @@ module _ {P D : Type 0} (cache : Cache) (pools : Ghosts P) (devices : Devices D)
     faults = after-faults;
     together = λ rebuilt found. record {
       reached = d.now;
-      groups = in-groups-as pools trace.config (StoodFresh (openings_of trace) trace.config.cells) (StoodThen trace closed.cells) stood (groups_done ending work.lines) (between_groups before 1 place) d.now
-          (subst (λ (g : Config). WorkInGroups pools g (StoodFresh (openings_of trace) g.cells) (groups_done ending work.lines) (between_groups before 1 place) d.now) config d.reached.groups);
+      groups = in-groups-as pools trace.config (StoodSo (openings_of trace) trace.config crew.feeder) (StoodThen trace closed.cells) stood [] (groups_done ending work.lines) (between_groups before 1 place) d.now
+          (subst (λ (g : Config). WorkInGroups pools g (StoodSo (openings_of trace) g crew.feeder) [] (groups_done ending work.lines) (between_groups before 1 place) d.now) config d.reached.groups);
       ended = ends ending d.ended;
       counted = λ n below. counted-at n (subst (λ (g : Config). n < g.callers) (sym config) below);
       cut = λ shard below.
@@ -288,23 +290,32 @@ module _ {P D : Type 0} (cache : Cache) (pools : Ghosts P) (devices : Devices D)
           let here : slice_index_or (histories_of closed) shard [] ≡ l.0.history = index-history closed.shards shard l.0 l.1 in
           subst (λ (x : Config × List Event × List Restored). AreCut x.0 x.2 trace.blocks shard done-work x.1) (λ i. (config i, sym here i, sym found i))
           (run-cut cache valid restored (pools.size before) (pools.told before) place trace.blocks os more rs work crew come closed h shard l.0 l.1);
+      last = λ t stopped shard below.
+          let l = there closed.shards shard (subst (λ (n : ℕ). shard < n) (length-map closed.shards (λ (log : ShardLog). log.history)) below) in
+          let here : slice_index_or (histories_of closed) shard [] ≡ l.0.history = index-history closed.shards shard l.0 l.1 in
+          let inside : shard < cache.config.shards = subst (λ (n : ℕ). shard < n) h.ends.shards (within closed.shards shard l.0 l.1) in
+          subst (λ (x : Config × List Event × List Restored). IsCutLast x.0 x.2 trace.blocks shard t done-work x.1) (λ i. (config i, sym here i, sym found i))
+          (run-cut-last cache valid restored (pools.size before) (pools.told before) place trace.blocks os more rs work crew come closed h shard t l.0 l.1 (d.last t stopped shard inside));
     };
     used = subst (λ (g : Config). UsedInGroups devices trace.blocks g.callers (groups_done ending work.lines) work.feeds (lent_in was) (lent_in is)) config d.reached.used;
     stopped = stops ending d.ended;
   }
     where
-      stood : (tick : ℕ) (w : Work) (cells : List OnHeap) (xs : List SyncItem) → StoodFresh (openings_of trace) trace.config.cells tick w cells xs → StoodThen trace closed.cells tick w cells xs
-      stood = fresh-then trace (noted_by trace.config done-work) closed cells-are
+      stood : (done : List Line) (tick : ℕ) (w : Work) (cells : List OnHeap) (xs : List SyncItem) → StoodSo (openings_of trace) trace.config crew.feeder done tick w cells xs → StoodThen trace closed.cells done tick w cells xs
+      stood = stood-then trace (noted_by trace.config done-work) closed cells-are crew.feeder (feeder-begins cache valid restored (pools.size before) (pools.told before) place trace.blocks os more rs work crew come closed h)
 
-      ends : (e : Ending) → EndsLines pools cache trace rs work.stopped e d.now after → EndsRun pools trace.config (StoodThen trace closed.cells) trace rs work.stopped e d.now after
+      stops-as : (why : SyncFault) → StopsSync pools cache.config (StoodSo (openings_of trace) cache.config crew.feeder) trace rs work.lines work.stopped why d.now after
+          → StopsSync pools trace.config (StoodThen trace closed.cells) trace rs work.lines work.stopped why d.now after
+      stops-as why s = stops-sync-as pools trace.config (StoodSo (openings_of trace) trace.config crew.feeder) (StoodThen trace closed.cells) stood trace rs work.lines work.stopped why d.now after
+          (subst (λ (g : Config). StopsSync pools g (StoodSo (openings_of trace) g crew.feeder) trace rs work.lines work.stopped why d.now after) config s)
+
+      ends : (e : Ending) → EndsLines pools cache trace rs crew.feeder work e d.now after → EndsRun pools trace.config (StoodThen trace closed.cells) trace rs work.lines work.stopped e d.now after
       ends Whole ended = (ended.0, ended.2)
       ends Fork ended = (ended.0, ended.3.keeps.size, ended.3.keeps.told)
-      ends Sync ended = failed-as pools trace.config (StoodFresh (openings_of trace) trace.config.cells) (StoodThen trace closed.cells) stood trace rs work.stopped d.now after
-          (subst (λ (g : Config). StopsSync pools g (StoodFresh (openings_of trace) g.cells) trace rs work.stopped fault.PoolFault d.now after) config ended)
-      ends (Full need left) ended = full-as pools trace.config (StoodFresh (openings_of trace) trace.config.cells) (StoodThen trace closed.cells) stood trace rs work.stopped need left d.now after
-          (subst (λ (g : Config). StopsSync pools g (StoodFresh (openings_of trace) g.cells) trace rs work.stopped (fault.PoolFull need left) d.now after) config ended)
+      ends Sync ended = stops-as fault.PoolFault ended
+      ends (Full need left) ended = stops-as (fault.PoolFull need left) ended
 
-      stops : (e : Ending) → EndsLines pools cache trace rs work.stopped e d.now after → StopsSo pools before after trace rs e
+      stops : (e : Ending) → EndsLines pools cache trace rs crew.feeder work e d.now after → StopsSo pools before after trace rs e
       stops Whole ended = tt
       stops Fork ended = (rose-then (pools.faults before) (pools.faults d.now.pool) (pools.faults after) d.reached.counted.keeps.faults ended.3.rose, record { some = ended.1; begins = ended.2 })
       stops Sync ended = (rose-then (pools.faults before) (pools.faults d.now.pool) (pools.faults after) d.reached.counted.keeps.faults (one-rose (pools.faults d.now.pool) (pools.faults after) ended.answer.outside.faults), ended.behind)

@@ -360,7 +360,7 @@ module _ (g : Config) where
       ap (λ (y : Line). on_object y.op) (sym same) ∙ off o (first-done (is_undone g.callers) o os done).0
   plain-off (o ∷ os) (r ∷ rs) done (suc k) l at = plain-off os rs (first-done (is_undone g.callers) o os done).1 k l at
 
-  plain-noted : (os : List Op) (rs : List Reply) (n : ℕ) → only_ended g n ≡ noted_by g (plain_work os rs) n
+  pub plain-noted : (os : List Op) (rs : List Reply) (n : ℕ) → only_ended g n ≡ noted_by g (plain_work os rs) n
   plain-noted os rs n = elim (cases_true (n == g.callers)) [
     | inl feeder ↦ rw feeder (sym (ap (λ (l : List Noted). (l ++ []) ++ ends_from n 0 g.cells) (feeder-noted os rs)))
     | inr other ↦ rw other (sym (ap noted_of_work (lines-plain n os rs) ∙ noted-none n (filter (is_of_caller n) os) (replies_where (is_of_caller n) os rs)))

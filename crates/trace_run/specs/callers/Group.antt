@@ -60,13 +60,18 @@ pub record LeavesPool {P : Type 0} (pools : Ghosts P) (old new : P) : Type 0 whe
   pub told : pools.told new ≡ pools.told old
   pub faults : min (pools.faults old) last_count ≤ pools.faults new
 
--- The same, where what it tells is the same up to this place.
+-- It has its length, and its count of faults has not fallen so.
+pub record StaysPool {P : Type 0} (pools : Ghosts P) (old new : P) : Type 0 where
+  pub size : pools.size new ≡ pools.size old
+  pub faults : min (pools.faults old) last_count ≤ pools.faults new
+
+-- Its length and its faults are so, and what it tells is the same up to this place.
 pub record LeavesFront {P : Type 0} (pools : Ghosts P) (place : ℕ) (old new : P) : Type 0 where
   pub size : pools.size new ≡ pools.size old
   pub told : option_map (take place) (pools.told new) ≡ option_map (take place) (pools.told old)
   pub faults : min (pools.faults old) last_count ≤ pools.faults new
 
--- The same, where what it tells is the same, or at least up to the end of these declared blocks, behind which syncs write.
+-- They are so, and what it tells is the same, or at least up to the end of these declared blocks, behind which syncs write.
 pub record LeavesDeclared {P : Type 0} (pools : Ghosts P) (blocks : List Ptr) (old new : P) : Type 0 where
   pub size : pools.size new ≡ pools.size old
   pub told : (pools.told new ≡ pools.told old) ⊎ ((place : ℕ) × IsFirstPlace (pools.size old) blocks place × (option_map (take place) (pools.told new) ≡ option_map (take place) (pools.told old)))
