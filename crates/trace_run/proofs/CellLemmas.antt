@@ -55,6 +55,17 @@ events-same (x ∷ []) e is = ap (λ (z : CellEvent). z ∷ []) (sym (events-rea
     numbers : event_numbers x ≡ event_numbers e
     numbers = cc
 
+-- a history whose entries begin with those of another begins with it
+pub entries-front : (h a : List CellEvent) (rest : List Line) → map line.Entry (map event_numbers h) ≡ map line.Entry (map event_numbers a) ++ rest → (r : List CellEvent) × (h ≡ a ++ r)
+entries-front h [] rest is = (h, refl)
+entries-front [] (x ∷ a) rest is = cc
+entries-front (y ∷ h) (x ∷ a) rest is =
+    let numbers : event_numbers y ≡ event_numbers x = cc in
+    let tail : map line.Entry (map event_numbers h) ≡ map line.Entry (map event_numbers a) ++ rest = cc in
+    let same : y ≡ x = sym (events-read y) ∙ (ap event_in numbers ∙ events-read x) in
+    let more = entries-front h a rest tail in
+    (more.0, λ i. same i ∷ more.1 i)
+
 mappings-same : (a b : List Mapping) → mapping_numbers a ≡ mapping_numbers b → a ≡ b
 mappings-same a b is = sym (mappings-read a) ∙ (ap (λ (ns : List ℕ). mappings_in (length ns) ns) is ∙ mappings-read b)
 
@@ -90,7 +101,7 @@ all-placed P [] each = tt
 all-placed P (e ∷ h) each = (each 0 e refl, all-placed P h (λ x f at. each (suc x) f at))
 
 -- where each owner is the number of what it did
-by-number : (owner : ℕ → ℕ) (n place : ℕ) (h : List CellEvent) → ((x : ℕ) (e : CellEvent) → get_elem? h x ≡ some e → owner (place + x) ≡ number_of e) → done_by n h ≡ owned_from owner n place h
+pub by-number : (owner : ℕ → ℕ) (n place : ℕ) (h : List CellEvent) → ((x : ℕ) (e : CellEvent) → get_elem? h x ≡ some e → owner (place + x) ≡ number_of e) → done_by n h ≡ owned_from owner n place h
 by-number owner n place [] each = refl
 by-number owner n place (e ∷ h) each = go (cases_true (number_of e == n)) (by-number owner n (suc place) h (λ x f at. let z : suc place + x ≡ place + suc x = omega arith in ap owner z ∙ each (suc x) f at))
   where
@@ -184,7 +195,7 @@ module _ (cache : Cache) (ps : List PartyPlace) (e : Ended OnHeap) (ends : Ends 
     sound : IsSoundItem dbuf_meanings scene.about i (item.Cell c)
     sound = subst (IsSoundItem dbuf_meanings scene.about i) now (ends.pact.logged.sound i)
 
-    lines-are : lines_in dbuf_meanings (scene.now i) ≡ map line.Entry (map event_numbers c.value.history)
+    pub lines-are : lines_in dbuf_meanings (scene.now i) ≡ map line.Entry (map event_numbers c.value.history)
     lines-are = ap (lines_in dbuf_meanings) now
 
     -- behind its end it keeps nothing

@@ -4,6 +4,7 @@ use Rattle.vdev_io.specs.declared.device.CacheDev.{Ghosts}
 use Rattle.std.specs.Prelude.{nat_lt, true, false}
 use Rattle.std.proofs.lemmas.Bool.Decides.{nat_tests}
 use Rattle.l2_log.specs.Rules.{least_ring_end}
+use Rattle.l2_dev.specs.Cursor.{CursorState}
 use Rattle.l2_dev.specs.Reading.{OnlyRead}
 use Rattle.trace_text.specs.declared.rebuilt.Rebuilt.{Rebuilt}
 use Rattle.trace_run.specs.declared.device.Device.{Device}
@@ -80,53 +81,16 @@ module _ {D : Type 0} (devices : Ghosts D) where
   lent-back (device.Ready a) (device.Short b) lent = absurd lent
   lent-back (device.Ready a) (device.Ready b) lent = lent.2
 
-  kind-kept : (x y : Device D) → WasLent devices x y → IsRightKind devices x → IsRightKind devices y
-  kind-kept device.None device.None lent kind = tt
-  kind-kept device.None (device.Short b) lent kind = absurd lent
-  kind-kept device.None (device.Ready b) lent kind = absurd lent
-  kind-kept (device.Short a) device.None lent kind = absurd lent
-  kind-kept (device.Short a) (device.Short b) lent kind = let same = ap (λ (d : D). devices.size d) lent in omega (arith, same, kind)
-  kind-kept (device.Short a) (device.Ready b) lent kind = absurd lent
-  kind-kept (device.Ready a) device.None lent kind = absurd lent
-  kind-kept (device.Ready a) (device.Short b) lent kind = absurd lent
-  kind-kept (device.Ready a) (device.Ready b) lent kind = let same = lent.2.size in omega (arith, same, kind)
-
   -- what callers may read is what is lent
   pub usable-lent : (x : Device D) → IsRightKind devices x → usable devices (device_of x) ≡ lent_in x
   usable-lent device.None kind = refl
   usable-lent (device.Short dev) kind = let short : nat_lt (devices.size dev) least_ring_end ≡ true = grind (arith, nat_tests, kind) in rw short refl
   usable-lent (device.Ready l2) kind = let long : nat_lt (devices.size l2.dev) least_ring_end ≡ false = grind (arith, nat_tests, kind) in rw long refl
 
-  pub usable-kept : (x y : Device D) → WasLent devices x y → IsRightKind devices x → usable devices (device_of y) ≡ lent_in y
-  usable-kept x y lent kind = usable-lent y (kind-kept x y lent kind)
-
-  -- one that callers may not read is as it was
-  unlent-same : (x y : Device D) → WasLent devices x y → lent_in x ≡ None → device_of y ≡ device_of x
-  unlent-same device.None device.None lent none = refl
-  unlent-same device.None (device.Short b) lent none = absurd lent
-  unlent-same device.None (device.Ready b) lent none = absurd lent
-  unlent-same (device.Short a) device.None lent none = absurd lent
-  unlent-same (device.Short a) (device.Short b) lent none = ap (λ (d : D). Some d) lent
-  unlent-same (device.Short a) (device.Ready b) lent none = absurd lent
-  unlent-same (device.Ready a) y lent none = cc
-
-  pub short-same : (x y : Device D) → WasLent devices x y → IsRightKind devices x → usable devices (device_of x) ≡ None → device_of y ≡ device_of x
-  short-same x y lent kind none = unlent-same x y lent (sym (usable-lent x kind) ∙ none)
-
-  -- one that was found, and is handed back, is not lost
-  pub found-kept : (before started after : Option D) (rebuilt : Option Rebuilt) → Finds devices before started rebuilt → IsHandedBack devices started after → MayLose devices before after
-  found-kept None None None rebuilt is back = tt
-  found-kept None None (Some c) rebuilt is back = absurd back
-  found-kept None (Some b) after rebuilt is back = cc
-  found-kept (Some a) None after rebuilt is back = absurd is
-  found-kept (Some a) (Some b) after None is back = absurd is
-  found-kept (Some a) (Some b) None (Some rebuilt) is back = tt
-  found-kept (Some a) (Some b) (Some c) (Some rebuilt) is back = only-then a b c is.only back
-
   -- one that isn't touched is none that is lost
   pub nothing-lost : (cache : Option D) → MayLose devices cache cache
   nothing-lost None = tt
-  nothing-lost (Some d) = only-same d
+  nothing-lost (Some d) = (refl, refl)
 
   -- ---- forks, one after another
 

@@ -8,6 +8,7 @@ use Rattle.arc_core.specs.declared.event.Event.{Event}
 use Rattle.arc_core.specs.Operations.{moments, own_moments}
 use Rattle.turn_table.specs.declared.standing.Kept.{Kept}
 use Rattle.turn_table.specs.Places.{IsIn, SomeHas}
+use Rattle.arc_table.specs.declared.about.About.{About}
 use Rattle.arc_table.specs.declared.view.Known.{Known}
 use Rattle.arc_table.specs.declared.view.Ledger.{Ledger}
 use Rattle.arc_table.specs.declared.view.Line.{Line}
@@ -19,7 +20,7 @@ use Rattle.arc_table.specs.Seen.{AreEntriesSeen, AreSeen, HasAll, events_in, see
 use Rattle.arc_table.specs.Telling.{opening_of}
 use Rattle.dbuf_cells.specs.Ending.{EndsFrom}
 use Rattle.dbuf_cells.specs.Turns.{KeepsClaims, OnHeap, PartyPlace, dbuf_meanings}
-use Rattle.trace_run.specs.CellEnds.{EndedCells, EndedIdle, end_entry, ends_from}
+use Rattle.trace_run.specs.CellEnds.{EndedCells, EndedIdle, SeesEnds, end_entry, ends_from}
 use Rattle.trace_run.specs.Deeds.{HasToldOthers, Noted, acts_of_events, events_there}
 use Rattle.trace_run.specs.KeptBlocks.{Stands, times}
 use Rattle.trace_run.specs.Making.{AreEventsSeen, AreNoEntries}
@@ -43,7 +44,7 @@ module _ (cache : Cache) (p : PartyPlace) (others : List PartyPlace) (stands : S
   pub q-stands : Stands cache q []
   q-stands = joined-stands dbuf_meanings cache p [] others stands alone apart everyone count differ q joins
 
-  q-all : HasAll q
+  pub q-all : HasAll q
   q-all = joined-all dbuf_meanings cache p [] others stands alone apart everyone count differ q joins
 
   -- all numbers, where there are two parties
@@ -61,7 +62,7 @@ module _ (cache : Cache) (p : PartyPlace) (others : List PartyPlace) (stands : S
       has (inr (inr never)) = absurd never
 
   -- where the one other has seen all, that is what both have seen
-  one-front : (o : PartyPlace) → others ≡ o ∷ [] → AreEventsSeen g p.number p.own.mine o.own.seen → (shard : ℕ) → seen_of g shard q ≡ seen_of g shard o
+  pub one-front : (o : PartyPlace) → others ≡ o ∷ [] → AreEventsSeen g p.number p.own.mine o.own.seen → (shard : ℕ) → seen_of g shard q ≡ seen_of g shard o
   one-front o is seen shard =
       let j = subst (λ (os : List PartyPlace). JoinAll dbuf_meanings os p q) is joins in
       let of_o = (subst (AllByRecursion (IsApart cache)) is apart).0 in
@@ -80,31 +81,29 @@ module _ (cache : Cache) (p : PartyPlace) (others : List PartyPlace) (stands : S
     joined = subst (AllByRecursion (λ k. NoneFrom g 0 k.view.mine)) (sym have.joined) (untouched-kept others rest);
   }
 
-  module _ (r : PartyPlace) (did : EndsFrom g 0 g.cells q r) (of : IsPartyOf cache r) (free : r.held ≡ []) (claims : KeepsClaims q r) where
-    ended : HasEndedFrom g stands.valid 0 g.cells q r
-    ended = all-ended g stands.valid 0 g.cells q r (omega arith) q-stands.of.config q-stands.seen q-stands.cells q-all did
-
-    abbrev then : HasEndedSome g ended.drops q r
-    then = ended.some_ended
-
-    number : r.number ≡ p.number
+  -- what they are behind events with cells' numbers that the party made then
+  module _ (es : List Event) (r : PartyPlace) (then : HasEndedSome g es q r) (of : IsPartyOf cache r) (free : r.held ≡ []) (claims : KeepsClaims q r) where
+    pub number : r.number ≡ p.number
     number = then.number ∙ have.number
 
     kept-joined : r.joined ≡ joined_of others
     kept-joined = then.joined ∙ have.joined
 
-    abbrev lines : ℕ → List Line
+    abbrev pub lines : ℕ → List Line
     lines shard = front_of (turn_of g shard) r.own.seen
 
     unmade : (n : ℕ) → n < parties_of g → (shard : ℕ) → own_moments n (moments (opening_of g) (seen_of g shard r)) ≡ own_moments n (moments (opening_of g) (seen_of g shard q))
     unmade n below shard = ap (λ (es : List Event). own_moments n (moments (opening_of g) es)) (then.shards shard)
-        ∙ drops-unmade g n (opening_of g) (seen_of g shard q) (events_there g shard ended.drops) below (cell-drops-there g shard ended.drops then.drops)
+        ∙ drops-unmade g n (opening_of g) (seen_of g shard q) (events_there g shard es) below (cell-drops-there g shard es then.drops)
 
     all-parted-from : (os : List PartyPlace) → AllByRecursion (λ o. HasLearned g o q) os → AllByRecursion (λ o. o.number < parties_of g) os → HaveParted cache lines os (map (parted_from r) os)
     all-parted-from [] learned below = tt
     all-parted-from (o ∷ os) learned below = (parted-then cache q r o learned.0 of then.starts then.cells (unmade o.number below.0), all-parted-from os learned.1 below.1)
 
-    last-stands : Stands cache (left_alone r) []
+    pub all-parted-then : HaveParted cache lines others (map (parted_from r) others)
+    all-parted-then = all-parted-from others have.all have.below
+
+    pub last-stands : Stands cache (left_alone r) []
     last-stands = record {
       valid = stands.valid;
       of = record { row = of.row; config = of.config };
@@ -118,6 +117,19 @@ module _ (cache : Cache) (p : PartyPlace) (others : List PartyPlace) (stands : S
       owned = tt;
       listed = λ x. ap (times x) then.holds ∙ q-stands.listed x;
     }
+
+    pub last-from : (numbers : List ℕ) → numbers ≡ map (λ o. o.number) others → AreLast numbers r.joined
+    last-from numbers is = subst (λ (x : List ℕ × List (Kept (Known OnHeap))). AreLast x.0 x.1) (λ i. (sym is i, sym kept-joined i)) (are-last others)
+
+    pub parted : (numbers : List ℕ) → numbers ≡ map (λ o. o.number) others → (xs : List PartyPlace) (z : PartyPlace) → PartAll numbers r xs z → (xs ≡ map (parted_from r) others) × (z ≡ left_alone r)
+    parted numbers numbers_are xs z parts = all-parted others numbers r xs z kept-joined (subst (λ (l : List ℕ). AreLast l (joined_of others)) (sym numbers_are) (are-last others)) parts
+
+  module _ (r : PartyPlace) (did : EndsFrom g 0 g.cells q r) (of : IsPartyOf cache r) (free : r.held ≡ []) (claims : KeepsClaims q r) where
+    ended : HasEndedFrom g stands.valid 0 g.cells q r
+    ended = all-ended g stands.valid 0 g.cells q r (omega arith) q-stands.of.config q-stands.seen q-stands.cells q-all did
+
+    abbrev then : HasEndedSome g ended.drops q r
+    then = ended.some_ended
 
     -- what it comes to where nobody had done anything to a cell
     was-idle : AreNoEntries g p.own.mine → AllByRecursion (λ o. AreNoEntries g o.own.mine) others → EndedIdle cache ended.drops p (left_alone r)
@@ -134,7 +146,7 @@ module _ (cache : Cache) (p : PartyPlace) (others : List PartyPlace) (stands : S
     may-part = (of, free)
 
     pub last-of : (numbers : List ℕ) → numbers ≡ map (λ o. o.number) others → AreLast numbers r.joined
-    last-of numbers is = subst (λ (x : List ℕ × List (Kept (Known OnHeap))). AreLast x.0 x.1) (λ i. (sym is i, sym kept-joined i)) (are-last others)
+    last-of = last-from ended.drops r then of free claims
 
     all-entries : (os : List PartyPlace) → AllByRecursion (λ o. HasLearned g o q) os → AllByRecursion (IsApart cache) os → AllByRecursion (λ o. AreEntriesSeen g o.number o.own.mine r.own.seen) os
     all-entries [] learned each = tt
@@ -145,18 +157,15 @@ module _ (cache : Cache) (p : PartyPlace) (others : List PartyPlace) (stands : S
     )
 
     module _ (numbers : List ℕ) (numbers_are : numbers ≡ map (λ o. o.number) others) (xs : List PartyPlace) (z : PartyPlace) (parts : PartAll numbers r xs z) where
-      parted : (xs ≡ map (parted_from r) others) × (z ≡ left_alone r)
-      parted = all-parted others numbers r xs z kept-joined (subst (λ (l : List ℕ). AreLast l (joined_of others)) (sym numbers_are) (are-last others)) parts
-
       left : EndedCells cache p others (left_alone r) (map (parted_from r) others)
       left = record {
-        lines = lines;
-        parted = all-parted-from others have.all have.below;
+        lines = lines ended.drops r then of free claims;
+        parted = all-parted-then ended.drops r then of free claims;
         level = λ shard. refl;
-        number = number;
+        number = number ended.drops r then of free claims;
         about = then.about ∙ have.about;
         alone = refl;
-        stands = last-stands;
+        stands = last-stands ended.drops r then of free claims;
         own = λ shard. subst (λ (n : ℕ). own_moments n (moments (opening_of g) (seen_of g shard r)) ≡ own_moments n (moments (opening_of g) (seen_of g shard q))) have.number (then.own shard) ∙ have.self.own shard;
         drops = ended.drops;
         numbers = then.drops;
@@ -167,12 +176,16 @@ module _ (cache : Cache) (p : PartyPlace) (others : List PartyPlace) (stands : S
             subst (λ (l : List Noted). HasToldOthers g (did ++ acts_of_events ended.drops) l (left_alone r)) is record { cells = r_told.cells; kinds = r_told.kinds; entries = r_told.entries };
         ends = λ i range. let e = ended.last i range (omega arith) (omega (arith, range)) in (e.0, e.1 ∙ ap (λ (n : ℕ). e.0 ++ end_entry n i) have.number);
         entries = all-entries others have.all apart;
+        grows = λ i range. starts-then (front_of i r.own.seen) (front_of i q.own.seen) (front_of i p.own.seen) (then.cells i range) (have.self.cells i range);
         same = λ before own rest shard. then.shards shard ∙ ap (λ (l : List Line). events_in l ++ events_there g shard ended.drops) (have.level before own rest shard);
         one = λ o is seen shard. then.shards shard ∙ ap (λ (l : List Event). l ++ events_there g shard ended.drops) (one-front o is seen shard);
         idle = was-idle;
-        are = then.are;
+        kept = subst (λ (x : ℕ × List (List ℕ)). SeesEnds g x.1 r.own.seen x.0 0 g.cells ended.drops) (λ i. (have.number i, (ap (λ (a : About). a.openings) have.about) i)) ended.kept;
+        are = ended.are;
         settled = λ feeder settled i. then.picks (have.number ∙ feeder) i ∙ (ap (λ (l : Ledger). list_at i l.picked) have.ledger ∙ settled i);
       }
 
       pub ended-cells : EndedCells cache p others z xs
-      ended-cells = subst (λ (x : PartyPlace × List PartyPlace). EndedCells cache p others x.0 x.1) (λ i. (sym parted.1 i, sym parted.0 i)) left
+      ended-cells =
+          let is = parted ended.drops r then of free claims numbers numbers_are xs z parts in
+          subst (λ (x : PartyPlace × List PartyPlace). EndedCells cache p others x.0 x.1) (λ i. (sym is.1 i, sym is.0 i)) left

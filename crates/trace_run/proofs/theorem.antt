@@ -1,11 +1,15 @@
+pub mod AnsweredCells
 pub mod CellActs
 pub mod CellRun
 pub mod CloseLemmas
 pub mod CrewEnds
+pub mod DeviceUsed
 pub mod EndLemmas
 pub mod FeederKinds
+pub mod FirstPlace
 pub mod GenLemmas
 pub mod HistoryLemmas
+pub mod KeptEnds
 pub mod LineActs
 pub mod LineAnswers
 pub mod OutcomeLemmas
@@ -13,7 +17,9 @@ pub mod PlacedLemmas
 pub mod RanLemmas
 pub mod ReportLemmas
 pub mod RestLemmas
+pub mod RunEnds
 pub mod SourceLemmas
+pub mod TogetherRun
 pub mod ToldLemmas
 pub mod WordLemmas
 pub mod WorkEnds

@@ -7,8 +7,9 @@ use Rattle.vdev_io.specs.declared.device.CacheDev.{Ghosts}
 use Rattle.l2_log.specs.Rules.{least_ring_end}
 use Rattle.l2_dev.specs.declared.stop.Stop.TheVariants as stops
 use Rattle.l2_dev.specs.Cursor.{CursorState}
-use Rattle.l2_dev.specs.Rebuilding.{HaveKeys, IsStarted, ring_end_of}
+use Rattle.l2_dev.specs.Rebuilding.{HaveKeys, IsOpened, IsStarted, ring_end_of}
 use Rattle.l2_dev.specs.Restoring.{IsRebuilt}
+use Rattle.l2_dev.specs.Starting.{StartKeeps}
 use Rattle.trace_text.specs.declared.rebuilt.Rebuilt.{Rebuilt}
 use Rattle.trace_run.specs.declared.device.Device.{Device}
 use Rattle.trace_run.specs.declared.device.Device.TheVariants as device
@@ -18,6 +19,12 @@ abbrev pub device_of : {D : Type 0} → Device D → Option D
 device_of device.None = None
 device_of (device.Short dev) = Some dev
 device_of (device.Ready l2) = Some l2.dev
+
+-- where it is written, where it was started
+abbrev pub cursor_in : {D : Type 0} → Device D → Option CursorState
+cursor_in device.None = None
+cursor_in (device.Short dev) = None
+cursor_in (device.Ready l2) = Some l2.cursor
 
 -- the device that is lent to callers, where it was started
 abbrev pub lent_in : {D : Type 0} → Device D → Option D
@@ -36,13 +43,13 @@ module _ {D : Type 0} (devices : Ghosts D) where
     pub time : LeavesNothingNew (devices.moment before) (devices.moment after) (devices.left_since before) (devices.left_since after)
     pub faults : min (devices.faults before) last_count ≤ devices.faults after
 
-  -- so it was, or it is lost; and none is made up
+  -- The device has its length and its kind, or it is lost; and none is made up.
   abbrev pub MayLose : Option D → Option D → Type 0
   MayLose before None = Unit {0}
   MayLose None (Some after) = ⊥
-  MayLose (Some before) (Some after) = WasOnlyRead before after
+  MayLose (Some before) (Some after) = (devices.size after ≡ devices.size before) × (devices.has_sectors after ≡ devices.has_sectors before)
 
-  -- so it was, and it is not lost
+  -- one that was only read is not lost
   abbrev pub IsHandedBack : Option D → Option D → Type 0
   IsHandedBack None None = Unit {0}
   IsHandedBack None (Some after) = ⊥
@@ -68,21 +75,22 @@ module _ {D : Type 0} (devices : Ghosts D) where
   WasLent _ _ = ⊥
 
   -- What the start of a device found on it, and how the start left it: exactly a device that is too short is told so, and it is not looked at. Of any other
-  -- one the list and the stop are those of the bytes that it tells, and it was asked for just the reads that lead there, each once. The stop says that it
-  -- failed only where it did. No key stands twice in the list.
-  pub record IsFoundOn (before after : D) (rebuilt : Rebuilt) : Type 0 where
-    pub short : devices.size before < least_ring_end → (rebuilt.list ≡ []) × (rebuilt.stop ≡ stops.Short (devices.size before)) × (after ≡ before)
+  -- one the list and the stop are those of the bytes that it tells, it was asked for just the reads that lead there, each once, and its ring is written from this cursor on.
+  -- The stop says that it failed only where it did. No key stands twice in the list. Of every crash the start keeps what was there.
+  pub record IsFoundOn (before after : D) (first : Option CursorState) (rebuilt : Rebuilt) : Type 0 where
+    pub short : devices.size before < least_ring_end → (rebuilt.list ≡ []) × (rebuilt.stop ≡ stops.Short (devices.size before)) × (after ≡ before) × (first ≡ None)
     pub long : (len : ℕ) → rebuilt.stop ≡ stops.Short len → (devices.size before < least_ring_end) × (len ≡ devices.size before)
     pub image : least_ring_end ≤ devices.size before → IfSome (devices.told before) (λ image. IsRebuilt (ring_end_of (devices.size before)) image rebuilt.list rebuilt.stop)
-    pub reads : least_ring_end ≤ devices.size before → (calls : List DeviceCall) × MakesDeviceCalls devices calls before after
-        × IfSome (devices.told before) (λ image. (cursor : CursorState) × IsStarted (ring_end_of (devices.size before)) image calls cursor rebuilt.list rebuilt.stop)
+    pub reads : least_ring_end ≤ devices.size before → (calls : List DeviceCall) × MakesDeviceCalls devices calls before after × (cursor : CursorState) × (first ≡ Some cursor) × IsOpened (ring_end_of (devices.size before)) cursor rebuilt.list
+        × IfSome (devices.told before) (λ image. IsStarted (ring_end_of (devices.size before)) image calls cursor rebuilt.list rebuilt.stop)
     pub cause : rebuilt.stop ≡ stops.DevFault → Rose (devices.faults before) (devices.faults after)
     pub keys : HaveKeys rebuilt.list
     pub only : WasOnlyRead before after
+    pub crash : (cursor : CursorState) → first ≡ Some cursor → StartKeeps devices.told devices.has_sectors devices.may_leave (ring_end_of (devices.size before)) before after cursor rebuilt.list rebuilt.stop
 
   -- something is reported of a device exactly where one was handed in, and this is that device behind its start
-  abbrev pub Finds : Option D → Option D → Option Rebuilt → Type 0
-  Finds None after rebuilt = (after ≡ None) × (rebuilt ≡ None)
-  Finds (Some before) None rebuilt = ⊥
-  Finds (Some before) (Some after) None = ⊥
-  Finds (Some before) (Some after) (Some rebuilt) = IsFoundOn before after rebuilt
+  abbrev pub Finds : Option D → Option D → Option CursorState → Option Rebuilt → Type 0
+  Finds None after first rebuilt = (after ≡ None) × (first ≡ None) × (rebuilt ≡ None)
+  Finds (Some before) None first rebuilt = ⊥
+  Finds (Some before) (Some after) first None = ⊥
+  Finds (Some before) (Some after) first (Some rebuilt) = IsFoundOn before after first rebuilt

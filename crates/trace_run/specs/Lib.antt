@@ -13,6 +13,7 @@ pub mod Effects
 pub mod Ends
 pub mod Explaining
 pub mod FeedEvents
+pub mod FeedSeries
 pub mod Feeds
 pub mod KeptBlocks
 pub mod KeptQueue

@@ -18,7 +18,7 @@ use Rattle.arc_table.specs.Items.{Meanings}
 use Rattle.arc_table.specs.pact.Rule.{Pact}
 use Rattle.arc_table.specs.Seen.{events_in, seen_of, turn_of}
 use Rattle.arc_table.specs.Telling.{opening_of}
-use Rattle.trace_run.specs.Deeds.{HasToldAll, HasToldOthers, Noted, SameMade}
+use Rattle.trace_run.specs.Deeds.{HasToldAll, HasToldOthers, KeepsCells, Noted, SameMade}
 use Rattle.trace_run.specs.Making.{AreEventsSeen, AreNoEntries, HasSeenItsEvents, MadeItsOwn}
 use Rattle.arc_table.specs.Views.{after_learned}
 use Rattle.trace_run.specs.declared.kept_blocks.KeptBlock.{KeptBlock}
@@ -140,6 +140,13 @@ module _ {C : Type 0} where
   HaveParted cache lines (o ∷ os) (x ∷ xs) = HasParted cache lines o x × HaveParted cache lines os xs
   HaveParted cache lines _ _ = ⊥
 
+  -- each of these parties knows and has seen of cells at least what it had
+  abbrev pub AllKeepCells : Config → (olds news : List (Place (Known C))) → Type 0
+  AllKeepCells g [] [] = Unit {0}
+  AllKeepCells g [] (x ∷ xs) = ⊥
+  AllKeepCells g (o ∷ os) [] = ⊥
+  AllKeepCells g (o ∷ os) (x ∷ xs) = KeepsCells g o x × AllKeepCells g os xs
+
   -- While all others had joined it, the party gave back what it kept. Then all have seen the same: where they had before, just its drops more.
   -- The others stand in their order, and then the party.
   pub record GaveBackJoined (cache : Cache) (p : Place (Known C)) (kept : List KeptBlock) (others news : List (Place (Known C))) : Type 0 where
@@ -149,6 +156,7 @@ module _ {C : Type 0} where
     pub are : news ≡ rest ++ last ∷ []
     pub parted : HaveParted cache lines others rest
     pub level : IsLevel cache.config lines last
+    pub cells : KeepsCells cache.config p last
     pub gave : (n : ℕ) (acts : List Act) (noted : List Noted) → Waits cache n acts noted kept p → Waits cache n (acts ++ acts_of_drops n (map read_of kept)) noted [] last
     pub fed : (openings : List (List ℕ)) (fed since : (shard : ℕ) → List Event) (acts : List Act) (noted : List Noted) → kept ≡ [] → IsFed cache openings fed since acts noted p → IsFed cache openings fed since acts noted last
     pub drops : (before : ℕ → List Line) → IsLevel cache.config before p → AllByRecursion (IsLevel cache.config before) others
@@ -195,12 +203,14 @@ module _ {C : Type 0} where
 
   -- All callers gave back what they kept, by rising caller; the feeder's party stands behind theirs. All have seen the same: of each shard what was
   -- so before, and then their drops.
-  pub record HaveGivenBack (cache : Cache) (acts : ℕ → List Act) (noted : ℕ → List Noted) (openings : List (List ℕ)) (feeds since : (shard : ℕ) → List Event) (inserted : List Act) (synced : List Noted) (kept : List (List KeptBlock)) (ps : List (Place (Known C))) : Type 0 where
+  pub record HaveGivenBack (cache : Cache) (acts : ℕ → List Act) (noted : ℕ → List Noted) (openings : List (List ℕ)) (feeds since : (shard : ℕ) → List Event) (inserted : List Act) (synced : List Noted) (olds : List (Place (Known C))) (old : Place (Known C)) (kept : List (List KeptBlock)) (ps : List (Place (Known C))) : Type 0 where
     pub callers : List (Place (Known C))
     pub feeder : Place (Known C)
     pub are : ps ≡ callers ++ feeder ∷ []
     pub gave : AllGave cache acts noted 0 kept callers
     pub fed : IsFed cache openings feeds since inserted synced feeder
+    pub cells : AllKeepCells cache.config olds callers
+    pub fed_cells : KeepsCells cache.config old feeder
     pub first : ℕ → List Event
     pub lines : ℕ → List Line
     pub level : AllByRecursion (IsLevel cache.config lines) ps

@@ -32,20 +32,23 @@ use Rattle.dbuf_cells.specs.Turns.{OnHeap}
 use Rattle.trace_text.specs.Generator.{generated_block, generated_read, generated_sizes}
 use Rattle.trace_run.specs.Answers.{AnswersAll}
 use Rattle.trace_run.specs.Bounded.{device_len, with_bound}
-use Rattle.trace_run.specs.CellEnds.{AreCellsOf}
+use Rattle.trace_run.specs.CellEnds.{AreCellsOf, AreEndedSo}
 use Rattle.trace_run.specs.RunWork.{IsRunWork, RunWork, noted_by, only_ended, plain_work}
 use Rattle.trace_run.specs.CheckText.{check_text}
 use Rattle.trace_run.specs.DeviceUse.{WasUsed}
-use Rattle.trace_run.specs.Devices.{Finds, MayLose, usable}
+use Rattle.trace_run.specs.Devices.{Finds, IsHandedBack, MayLose, usable}
 use Rattle.trace_run.specs.Explaining.{Explain, RunsAlone}
 use Rattle.trace_run.specs.Lines.{has_undone}
 use Rattle.trace_run.specs.ObjectAnswers.{AreAnsweredByCells}
 use Rattle.trace_run.specs.one_caller.PlainRun.{images, report_of}
+use Rattle.l2_dev.specs.Cursor.{CursorState}
 use Rattle.trace_run.specs.Restores.{found_keys}
 use Rattle.trace_run.specs.States.{Handed}
 use Rattle.vdev_io.specs.Streams.{NoneFailed, OneFailed, StreamState}
 use Rattle.vdev_io.specs.Streams.{Gives, AppendsFront, TakesAtMost}
-use Rattle.trace_run.specs.callers.Together.{IsFirstPlace, RunsTogether, StopsSo, TellsClosed, answered_ops, faults_told, report_status}
+use Rattle.trace_run.specs.callers.DeviceForks.{UsedInGroups}
+use Rattle.trace_run.specs.callers.Group.{LeavesDeclared}
+use Rattle.trace_run.specs.callers.Together.{IsFirstPlace, RunsTogether, StopsSo, TellsClosed, answered_ops, faults_told, groups_done, report_status}
 use Rattle.trace_run.specs.Words.{IsCommand, IsFirstWrong}
 
 -- The words are a command, and this is what it did; or they are none, and their first wrong word is told.
@@ -108,6 +111,20 @@ pub record IsRun {P D : Type 0} (pool : Ghosts P) (device : Devices D) (before a
   -- a fork failed as a group began, or a sync stopped, which has no reply then
   pub stopped : StopsSo pool before after trace report.replies ending
 
+-- A run of a trace came to a report, and this is what it did beside its replies: the lines with their work, and what the feeder did. The cells began with the trace's lines; that was done
+-- to them, and they were ended. With several callers the cache device was read and fed just so, and one that was not fed was only read; one caller's lines did nothing beside their replies.
+pub record HasRun {P D : Type 0} (pool : Ghosts P) (device : Devices D) (before after : P) (lent back : Option D) (trace : Trace) (ending : Ending) (closed : Ended OnHeap) (report : Report) : Type 0 where
+  pub work : RunWork
+  pub did : IsRunWork trace.config (answered_ops trace ending report.replies) report.replies work
+  pub run : IsRun pool device before after lent back trace ending work closed report
+  pub cells : AreCellsOf trace (noted_by trace.config work) closed
+  -- what each still kept was given back as it ended
+  pub kept : AreEndedSo trace.config 0 closed.cells work.ended
+  pub used : 2 ≤ trace.config.callers → UsedInGroups device trace.blocks trace.config.callers (groups_done ending work.lines) work.feeds lent back
+  pub unfed : work.feeds ≡ [] → IsHandedBack device lent back
+  pub plain : trace.config.callers ≡ 1 → work ≡ plain_work trace.ops report.replies
+  pub status : report.status ≡ report_status ending report.replies
+
 -- Room is told as missing with the numbers of the sync that stopped for it, and of no other end.
 abbrev pub TellsEnding : Status → Ending → Type 0
 TellsEnding (statuses.PoolFull need left) ending = ending ≡ Full need left
@@ -129,16 +146,12 @@ pub record IsReport {P D : Type 0} (pool : Ghosts P) (device : Devices D) (befor
   pub done : has_undone trace ≡ false
   -- the device behind its start
   pub started : Option D
-  pub found : Finds device before.cache started report.rebuilt
+  -- where it is written from then on
+  pub first : Option CursorState
+  pub found : Finds device before.cache started first report.rebuilt
   pub ending : Ending
-  -- what the answered lines did beside their replies, and the feeder
-  pub work : RunWork
-  pub used : WasUsed device (with_bound trace (device_len device.size before.cache)) work started after.cache
-  pub did : IsRunWork trace.config (answered_ops trace ending report.replies) report.replies work
-  pub run : IsRun pool device before.pool after.pool (usable device started) (usable device after.cache) (with_bound trace (device_len device.size before.cache)) ending work closed report
-  -- the cells began with the trace's lines; that was done to them, and they were ended
-  pub cells : AreCellsOf (with_bound trace (device_len device.size before.cache)) (noted_by trace.config work) closed
-  pub status : report.status ≡ report_status ending report.replies
+  pub run : HasRun pool device before.pool after.pool (usable device started) (usable device after.cache) (with_bound trace (device_len device.size before.cache)) ending closed report
+  pub used : WasUsed device (with_bound trace (device_len device.size before.cache)) ending run.work started after.cache
   pub told : TellsEnding answer ending
   pub whole : report.short ≡ false
 
@@ -343,12 +356,14 @@ IfReported (Some report) None fact = ⊥
 IfReported (Some report) (Some closed) fact = fact closed report
 
 -- A run answers by what the source gave, and takes at most one byte past the longest text. Its report is that of the trace, and where none was
--- run the pool and the cache device are as they were. The device is only read, or it is lost where memory was refused.
+-- run the pool and the cache device are as they were. The device has its length and its kind, or it is lost where memory was refused.
 pub record DoesRun {P D : Type 0} (pool : Ghosts P) (device : Devices D) (events : Bool) (before after : Handed P D) (status : Status) (report : Option Report) (closed : Option (Ended OnHeap)) : Type 0 where
   pub source : AnswersSource before.source after.source status
   pub took : TakesAtMost before.source.told after.source.told (longest_text + 1)
   pub unrun : OnFalse (ran status) ((after.pool ≡ before.pool) × (after.cache ≡ before.cache))
   pub cache : MayLose device before.cache after.cache
+  -- what the pool tells is as it was, but for what syncs of the trace that was read wrote behind its declared blocks
+  pub told : (pool.told after.pool ≡ pool.told before.pool) ⊎ ((trace : Trace) × WasRead before.source after.source trace × LeavesDeclared pool trace.blocks before.pool after.pool)
   pub reported : IfReported report closed (IsReport pool device before after status)
   pub sink : AnswersSink events before.sink after.sink status report
   pub present : is_some report ≡ has_report status

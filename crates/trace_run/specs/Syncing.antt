@@ -2,6 +2,8 @@
 use Rattle.std.specs.Prelude.{◌≡◌, ◌==◌, ◌&&◌, Bool, ℕ, if◌then◌else◌, List, [], ◌∷◌, ◌++◌, Result, Ok, Err, Some, false, length, map, slice_get, slice_index_or, true}
 use Rattle.std.specs.List.{AllByRecursion}
 use Rattle.blk_ptr.specs.Hash.{shard_of}
+use Rattle.blk_ptr.specs.declared.digest.Digest.{Digest}
+use Rattle.blk_ptr.specs.declared.key.Key.{Key}
 use Rattle.arc_core.specs.Operations.{Act, moments, own_moments}
 use Rattle.arc_core.specs.Replay.{replay}
 use Rattle.arc_core.specs.Step.{is_new_here}
@@ -12,14 +14,14 @@ use Rattle.arc_table.specs.declared.view.Line.{Line}
 use Rattle.arc_table.specs.declared.view.Line.TheVariants as line
 use Rattle.arc_table.specs.Cache.{Cache}
 use Rattle.arc_table.specs.Fronts.{StartsWith, front_of}
-use Rattle.arc_table.specs.Geometry.{cell_number}
+use Rattle.arc_table.specs.Geometry.{IsCell, cell_number}
 use Rattle.arc_table.specs.Seen.{events_in, seen_of}
 use Rattle.arc_table.specs.Telling.{opening_of}
 use Rattle.dbuf_cells.specs.Turns.{OnHeap, PartyPlace}
 use Rattle.dbuf_state.specs.Numbers.{event_numbers, opening_numbers}
 use Rattle.dbuf_state.specs.Soundness.{IsSound}
 use Rattle.dbuf_state.specs.declared.event.CellEvent.{CellEvent}
-use Rattle.dbuf_state.specs.declared.event.CellEvent.TheVariants.{Synced as WasSynced}
+use Rattle.dbuf_state.specs.declared.event.CellEvent.TheVariants.{Get, Put, Patch, Pin, Unpin, Load, Evict, Synced as WasSynced, End}
 use Rattle.txg_sync.specs.Items.{SyncItem}
 use Rattle.txg_sync.specs.Syncing.{AnswersWith}
 use Rattle.txg_sync.specs.Turns.{synced_in}
@@ -27,14 +29,20 @@ use Rattle.txg_sync.specs.declared.syncing.SyncFault.{SyncFault}
 use Rattle.txg_sync.specs.declared.syncing.SyncFault.TheVariants as fault
 use Rattle.txg_sync.specs.declared.syncing.Synced.{Synced}
 use Rattle.vdev_io.specs.declared.pool.Pool.{Ghosts}
-use Rattle.trace_run.specs.Deeds.{HasToldAll, Noted, acts_of_events, events_there}
+use Rattle.trace_run.specs.CellEnds.{done_by}
+use Rattle.trace_run.specs.Deeds.{HasToldOthers, Noted, acts_of_events, events_of_cell, events_there, lines_of_cell}
 use Rattle.trace_run.specs.KeptBlocks.{Stands}
-use Rattle.trace_run.specs.Making.{AreEventsSeen, AreNoEntries, MadeItsOwn}
+use Rattle.trace_run.specs.MadeLines.{made_of}
+use Rattle.trace_run.specs.Making.{AreEventsSeen, AreNoEntries}
 use Rattle.trace_run.specs.Meeting.{HasSettled, HaveParted, IsLevel}
 
 -- the event that takes a block in, under its cell's number
 abbrev pub insert_of : Config → (tick : ℕ) → SyncItem → Event
 insert_of g tick x = Insert (cell_number g x.due.cell) x.ptr.key x.ptr.digest tick
+
+-- a block was taken in, under its cell's number
+abbrev pub IsInsert : Config → Event → Type 0
+IsInsert g e = (i : ℕ) × (k : Key) × (d : Digest) × (t : ℕ) × (e ≡ Insert (cell_number g i) k d t) × IsCell g i
 
 -- the block is of this shard, whose history is this, and its key is new there
 abbrev pub comes_in : Config → (shard : ℕ) → (history : List Event) → SyncItem → Bool
@@ -46,6 +54,24 @@ inserts_in g tick [] shard history = []
 inserts_in g tick (x ∷ xs) shard history =
     if comes_in g shard history x then (insert_of g tick x ∷ inserts_in g tick xs shard (history ++ insert_of g tick x ∷ [])) else inserts_in g tick xs shard history
 
+-- the same by what was noted: of each block that n wrote
+abbrev pub insert_noted : Config → (tick cell shard : ℕ) → (history : List Event) → CellEvent → List Event
+insert_noted g tick i shard history (WasSynced n at ptr) =
+    if shard_of g.shards ptr.key == shard && is_new_here ptr.key (replay (opening_of g) history) then (Insert (cell_number g i) ptr.key ptr.digest tick ∷ []) else []
+insert_noted g tick i shard history (Get n at) = []
+insert_noted g tick i shard history (Put n at size fill) = []
+insert_noted g tick i shard history (Patch n at from bytes) = []
+insert_noted g tick i shard history (Pin n at) = []
+insert_noted g tick i shard history (Unpin n at) = []
+insert_noted g tick i shard history (Load n at) = []
+insert_noted g tick i shard history (Evict n at) = []
+insert_noted g tick i shard history (End n) = []
+
+abbrev pub inserts_noted : Config → (tick : ℕ) → List Noted → (shard : ℕ) → (history : List Event) → List Event
+inserts_noted g tick [] shard history = []
+inserts_noted g tick (note ∷ noted) shard history =
+    insert_noted g tick note.cell shard history note.event ++ inserts_noted g tick noted shard (history ++ insert_noted g tick note.cell shard history note.event)
+
 -- that these blocks were written, as n notes it of each in its cell
 abbrev pub noted_of : (n : ℕ) → List SyncItem → List Noted
 noted_of n xs = map (λ (x : SyncItem). record { cell = x.due.cell; event = WasSynced n x.due.at x.ptr }) xs
@@ -53,6 +79,10 @@ noted_of n xs = map (λ (x : SyncItem). record { cell = x.due.cell; event = WasS
 -- these entries of a cell, as a party sees them
 abbrev pub lines_of : List CellEvent → List Line
 lines_of es = map line.Entry (map event_numbers es)
+
+-- what is noted of a party is what it had done to these cells
+abbrev pub HasDoneTo : Config → List OnHeap → PartyPlace → Type 0
+HasDoneTo g cells p = (noted : List Noted) → ((i : ℕ) → IsCell g i → made_of i p ≡ lines_of_cell i noted) → (i : ℕ) (c : OnHeap) → slice_get cells i ≡ Some c → done_by p.number c.value.history ≡ events_of_cell i noted
 
 -- The feeder took all cells, which were so, while all others had joined it. It inserted these blocks and noted them, and did nothing else; then they parted,
 -- and all have seen that. Each cell began as the feeder knows, and just what all parties had seen of it was done to it before.
@@ -82,15 +112,21 @@ pub record SyncsJoined (cache : Cache) (tick : ℕ) (p : PartyPlace) (olds : Lis
   pub sound : (i : ℕ) (c : OnHeap) → slice_get cells i ≡ Some c → IsSound c.value
   pub began : (i : ℕ) (c : OnHeap) → slice_get cells i ≡ Some c → opening_numbers c.value.limit c.value.opening ≡ slice_index_or p.own.about.openings i []
   pub noted : (i : ℕ) (c : OnHeap) → slice_get cells i ≡ Some c → front_of i q.own.seen ≡ lines_of c.value.history ++ lines_of (synced_in p.number i xs)
+  -- it has seen of each cell what it had
+  pub grown : (i : ℕ) → IsCell cache.config i → StartsWith (front_of i q.own.seen) (front_of i p.own.seen)
+  -- and each had done just what is noted of it
+  pub did : AllByRecursion (HasDoneTo cache.config cells) (p ∷ olds)
   -- where no party had made an entry of a cell, nothing was done to one before
   pub fresh : AreNoEntries cache.config p.own.mine → AllByRecursion (λ o. AreNoEntries cache.config o.own.mine) olds → (i : ℕ) (c : OnHeap) → slice_get cells i ≡ Some c → c.value.history ≡ []
+  -- each block is one of these cells'
+  pub inside : AllByRecursion (λ x. IsCell cache.config x.due.cell) xs
   -- What the feeder is told to have done more, and of what it did to cells: each Insert of a shard as it stands there, and each block as it was noted. They
   -- stand in the order of writing.
   pub inserts : List Event
+  pub kinds : AllByRecursion (IsInsert cache.config) inserts
   pub are : (shard : ℕ) → events_there cache.config shard inserts ≡ inserts_in cache.config tick xs shard (front shard)
-  pub told : (did : List Act) (noted : List Noted) → HasToldAll cache.config did noted p → HasToldAll cache.config (did ++ acts_of_events inserts) (noted ++ noted_of p.number xs) q
-  -- where nothing was written, the feeder made nothing
-  pub only : xs ≡ [] → MadeItsOwn cache.config p → MadeItsOwn cache.config q
+  pub told : (did : List Act) (had : List Noted) → HasToldOthers cache.config did had p → HasToldOthers cache.config (did ++ acts_of_events inserts) (had ++ noted_of p.number xs) q
+  -- where nothing was written, the feeder made nothing of a cell
   pub entries : xs ≡ [] → AreNoEntries cache.config p.own.mine → AreNoEntries cache.config q.own.mine
 
 -- a sync of a group from a place on: it was done, or it stopped for this reason

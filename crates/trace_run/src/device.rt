@@ -2,7 +2,7 @@
 ghost use Rattle.std.specs.Prelude.{◌≡◌, IfOk};
 ghost use Rattle.l2_dev.specs.Rebuilding.{HaveKeys};
 ghost use Rattle.trace_run.specs.Bounded.{device_len};
-ghost use Rattle.trace_run.specs.Devices.{Finds, IsRightKind, device_of};
+ghost use Rattle.trace_run.specs.Devices.{Finds, IsRightKind, cursor_in, device_of};
 ghost use Rattle.trace_run.specs.Feeds.{IsOpenedAt};
 ghost use Rattle.trace_run.specs.Restores.{found_keys};
 
@@ -43,7 +43,7 @@ pub(crate) fn device_len<D: CacheDev>(cache: &Option<D>) -> u64
 
 /// Starts the device that was handed in. Where memory is refused it is let go.
 pub(crate) fn begin<D: CacheDev>(alloc: Global, cache: Option<D>) -> Result<Begun<D>, NoMemory>
-    ensures found { IfOk result (λ begun. Finds D.CacheDev cache (device_of begun.device) begun.rebuilt) }
+    ensures found { IfOk result (λ begun. Finds D.CacheDev cache (device_of begun.device) (cursor_in begun.device) begun.rebuilt) }
     ensures keys { IfOk result (λ begun. HaveKeys (found_keys begun.rebuilt)) }
     ensures kind { IfOk result (λ begun. IsRightKind D.CacheDev begun.device) }
     ensures opened { IfOk result (λ begun. IsOpenedAt D.CacheDev (device_len D.size cache) begun.device (found_keys begun.rebuilt)) }
@@ -56,10 +56,6 @@ pub(crate) fn begin<D: CacheDev>(alloc: Global, cache: Option<D>) -> Result<Begu
     };
     match L2Dev::start(alloc, dev) {
         Started::Ready { l2, restored, stop } => {
-            // A device that is long enough is never told as too short. No clause of `start` says so.
-            if let Stop::Short { .. } = stop {
-                return Err(NoMemory);
-            }
             Ok(Begun {
                 device: Device::Ready(l2),
                 rebuilt: Some(Rebuilt {

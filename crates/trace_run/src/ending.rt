@@ -109,7 +109,7 @@ pub(crate) fn all_give_back<C: Keeps>(
     requires feeder { (openings : List (List ℕ)) × (feeds since : (shard : ℕ) → List Event) × (inserted : List Act) × (synced : List Noted) × IsFed arcs.now openings feeds since inserted synced feeder }
     ensures { IfOk result (λ parties. (acts : ℕ → List Act) (noted : ℕ → List Noted) → AreWaiting arcs.now acts noted 0 kept.items callers.items
         → (openings : List (List ℕ)) (feeds since : (shard : ℕ) → List Event) (inserted : List Act) (synced : List Noted) → IsFed arcs.now openings feeds since inserted synced feeder
-        → HaveGivenBack arcs.now acts noted openings feeds since inserted synced kept.items parties.items) }
+        → HaveGivenBack arcs.now acts noted openings feeds since inserted synced callers.items feeder kept.items parties.items) }
 {
     let mut parties = give_back_joined(alloc, rt, arcs, feeder, KeptBlocks::new(alloc), callers)?;
     for reads in kept {

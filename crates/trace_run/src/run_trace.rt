@@ -1,17 +1,15 @@
 //! The run of a trace, and its report.
-ghost use Rattle.std.specs.Prelude.{◌≡◌, ◌≤◌, IfOk, false};
+ghost use Rattle.std.specs.Prelude.{◌≡◌, IfOk, false};
 ghost use Rattle.l2_dev.specs.Rebuilding.{HaveKeys};
 ghost use Rattle.trace_text.specs.Grammar.{IsFormed};
-ghost use Rattle.trace_run.specs.Outcome.{IsGenReport, IsRun};
-ghost use Rattle.trace_run.specs.CellEnds.{AreCellsOf};
-ghost use Rattle.trace_run.specs.Devices.{WasLent, lent_in};
+ghost use Rattle.trace_run.specs.Outcome.{HasRun, IsGenReport};
+ghost use Rattle.trace_run.specs.Devices.{lent_in};
 ghost use Rattle.trace_run.specs.Feeds.{MayBeFed};
-ghost use Rattle.trace_run.specs.callers.DeviceForks.{ReadInGroups};
-ghost use Rattle.trace_run.specs.callers.Group.{LeavesPool};
-ghost use Rattle.trace_run.specs.Devices.{WasLent, lent_in};
+ghost use Rattle.trace_run.specs.Lines.{has_undone};
+ghost use Rattle.trace_run.specs.callers.Beside.{WasInUse};
+ghost use Rattle.trace_run.specs.callers.Group.{LeavesDeclared};
+ghost use Rattle.trace_run.specs.callers.Together.{report_status};
 ghost use Rattle.trace_run.specs.Restores.{found_keys};
-ghost use Rattle.trace_run.specs.RunWork.{only_ended, plain_work};
-ghost use Rattle.trace_run.specs.callers.Together.{groups_of, report_status};
 ghost use Rattle.trace_run.specs.Words.{IsInRange};
 ghost use Rattle.trace_run.specs.declared.words.Command.TheVariants as command;
 
@@ -51,17 +49,14 @@ pub(crate) fn run_trace<R: Threads + Wait + Sync, P: Pool, D: CacheDev, G: Gate>
     gate: &G,
 ) -> Result<Reported, NoMemory>
     requires formed { IsFormed trace.now }
+    requires done { has_undone trace.now ≡ false }
     requires keys { HaveKeys (found_keys rebuilt) }
     requires device { MayBeFed D.CacheDev trace.now.config device.old }
-    ensures run { IfOk result (λ told. IsRun P.Pool D.CacheDev pool.old pool.new (lent_in device.old) (lent_in device.new) trace.now told.ending (plain_work trace.now.ops told.report.replies) told.closed told.report
-        × (told.report.status ≡ report_status told.ending told.report.replies)) }
-    ensures cells { IfOk result (λ told. AreCellsOf trace.now (only_ended trace.now.config) told.closed) }
+    ensures run { IfOk result (λ told. HasRun P.Pool D.CacheDev pool.old pool.new (lent_in device.old) (lent_in device.new) trace.now told.ending told.closed told.report) }
     ensures rebuilt { IfOk result (λ told. told.report.rebuilt ≡ rebuilt) }
     ensures whole { IfOk result (λ told. told.report.short ≡ false) }
-    ensures together { IfOk result (λ told. 2 ≤ trace.now.config.callers
-        → ReadInGroups D.CacheDev trace.now.blocks trace.now.config.callers (groups_of trace.now.ops told.report.replies) (lent_in device.old) (lent_in device.new)) }
-    ensures pool { LeavesPool P.Pool pool.old pool.new }
-    ensures device { WasLent D.CacheDev device.old device.new }
+    ensures pool { LeavesDeclared P.Pool trace.now.blocks pool.old pool.new }
+    ensures device { WasInUse D.CacheDev device.old device.new }
 {
     let restored = found_keys(&rebuilt);
     let ran = if trace.config.callers > 1 {

@@ -53,6 +53,7 @@ pub(crate) fn sync_joined<P: Pool>(
     requires inside { next ≤ P.size pool.old }
     ensures synced { IfOk result (λ r. SyncedJoined P.Pool arcs.now group tick next pool.old pool.new feeder callers.items r.feeder r.callers.items r.came) }
     ensures some { IfOk result (λ r. wants_memory r.came ≡ false) }
+    ensures aligned { IfOk result (λ r. IfOk r.came (λ done. done.next % sector ≡ 0)) }
     ensures front { LeavesFront P.Pool next pool.old pool.new }
     ensures still { AllByRecursion (λ o. AreNoEntries arcs.now.config o.own.mine) (feeder ∷ callers.items) → LeavesPool P.Pool pool.old pool.new }
 {

@@ -4,17 +4,15 @@ ghost use Rattle.arc_core.specs.declared.event.Event.{Event};
 ghost use Rattle.arc_core.specs.Operations.{Act};
 ghost use Rattle.arc_table.specs.Ended.{Ends};
 ghost use Rattle.arc_table.specs.Geometry.{parties_of};
-ghost use Rattle.arc_table.specs.declared.view.Line.{Line};
 ghost use Rattle.l2_dev.specs.Rebuilding.{HaveKeys};
 ghost use Rattle.trace_text.specs.Grammar.{IsFormed};
-ghost use Rattle.trace_run.specs.RunWork.{only_ended};
-ghost use Rattle.trace_run.specs.CellEnds.{AreCellsOf};
 ghost use Rattle.trace_run.specs.Deeds.{Noted};
-ghost use Rattle.trace_run.specs.Devices.{WasLent, lent_in};
+ghost use Rattle.trace_run.specs.Devices.{lent_in};
+ghost use Rattle.trace_run.specs.FeedSeries.{LeavesFed};
 ghost use Rattle.trace_run.specs.Feeds.{MayBeFed};
-ghost use Rattle.trace_run.specs.callers.DeviceForks.{ReadInGroups};
-ghost use Rattle.trace_run.specs.callers.Together.{groups_of};
-ghost use Rattle.trace_run.specs.callers.Group.{LeavesPool};
+ghost use Rattle.trace_run.specs.RunWork.{RunWork};
+ghost use Rattle.trace_run.specs.callers.Beside.{WasInUse};
+ghost use Rattle.trace_run.specs.callers.Group.{LeavesDeclared};
 ghost use Rattle.trace_run.specs.callers.GroupRun.{HaveClosed, HaveStopped, RanTogether};
 ghost use Rattle.trace_run.specs.Meeting.{AreWaiting, IsFed, MadeJoined, MayGoOn};
 ghost use Rattle.trace_run.specs.Restores.{restores_in};
@@ -54,7 +52,7 @@ pub(crate) fn close_crew(
     requires rows { arcs.row.parties ≡ parties_of arcs.config }
     requires count { vec_len crew.kept ≡ arcs.config.callers }
     requires callers { (acts : ℕ → List Act) × (noted : ℕ → List Noted) × AreWaiting arcs acts noted 0 crew.kept.items crew.parties.items }
-    requires feeder { (openings : List (List ℕ)) × (feeds since : (shard : ℕ) → List Event) × IsFed arcs openings feeds since crew.feeder }
+    requires feeder { (openings : List (List ℕ)) × (feeds since : (shard : ℕ) → List Event) × (inserted : List Act) × (synced : List Noted) × IsFed arcs openings feeds since inserted synced crew.feeder }
     ensures { IfOk result (λ closed. HaveClosed ⟦<HeapCell as Keeps>⟧ arcs crew closed) }
 {
     let Crew {
@@ -108,11 +106,10 @@ pub(crate) fn run_together<R: Threads + Wait + Sync, P: Pool, D: CacheDev, G: Ga
     requires formed { IsFormed trace.now }
     requires keys { HaveKeys restored.now }
     requires device { MayBeFed D.CacheDev trace.now.config device.old }
-    ensures ran { IfOk result (λ ran. RanTogether P.Pool pool.old pool.new trace.now ran.ending restored.now ran.replies.items ran.closed) }
-    ensures cells { IfOk result (λ ran. AreCellsOf trace.now (only_ended trace.now.config) ran.closed) }
-    ensures read { IfOk result (λ ran. ReadInGroups D.CacheDev trace.now.blocks trace.now.config.callers (groups_of trace.now.ops ran.replies.items) (lent_in device.old) (lent_in device.new)) }
-    ensures pool { LeavesPool P.Pool pool.old pool.new }
-    ensures device { WasLent D.CacheDev device.old device.new }
+    ensures ran { IfOk result (λ ran. (work : RunWork) × RanTogether P.Pool D.CacheDev pool.old pool.new (lent_in device.old) (lent_in device.new) trace.now ran.ending restored.now ran.replies.items work ran.closed
+        × LeavesFed D.CacheDev trace.now.config restored.now work.feeds device.old device.new (histories_of ran.closed)) }
+    ensures pool { LeavesDeclared P.Pool trace.now.blocks pool.old pool.new }
+    ensures device { WasInUse D.CacheDev device.old device.new }
 {
     let (arcs, parties) = open_cache(alloc, trace)?;
     let crew = crew_of(alloc, parties)?;

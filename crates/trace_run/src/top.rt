@@ -4,7 +4,7 @@ ghost use Rattle.trace_text.specs.Grammar.{IsFormed, longest_text};
 ghost use Rattle.trace_run.specs.Lines.{has_undone};
 ghost use Rattle.vdev_io.specs.Streams.{TakesAtMost};
 ghost use Rattle.trace_run.specs.Outcome.{AnswersWords, AnswersSource, AnswersSink, DoesCommand, DoesRun, IfReported, IfUsage, IsDelivered, IsGenReport, IsGenStatus, IsReadStatus, TellsEnding, WasRead, has_report};
-ghost use Rattle.trace_run.specs.callers.Group.{LeavesPool};
+ghost use Rattle.trace_run.specs.callers.Group.{StaysPool};
 ghost use Rattle.trace_run.specs.callers.Together.{report_status};
 ghost use Rattle.trace_run.specs.States.{handed};
 ghost use Rattle.vdev_io.specs.Streams.{sink_state, source_state};
@@ -54,8 +54,8 @@ pub fn run<R: Threads + Wait + Sync, S: Source, K: Sink, P: Pool, D: CacheDev, G
     ensures untouched { IfUsage result.status
         ((source.new ≡ source.old) × (sink.new ≡ sink.old) × (pool.new ≡ pool.old) × (cache.new ≡ cache.old) × (result.report ≡ None) × (result.closed ≡ None)) }
 
-    // The pool holds what it held.
-    ensures pool { LeavesPool P.Pool pool.old pool.new }
+    // The pool has its length.
+    ensures pool { StaysPool P.Pool pool.old pool.new }
 {
     match Command::parse(words) {
         Ok(Command::Run { events }) => run_source(
@@ -95,7 +95,7 @@ fn run_source<R: Threads + Wait + Sync, S: Source, K: Sink, P: Pool, D: CacheDev
     ensures past_words { IfUsage result.status ⊥ }
     ensures does { DoesRun P.Pool D.CacheDev events
         (handed S.Source K.Sink source.old sink.old pool.old cache.old) (handed S.Source K.Sink source.new sink.new pool.new cache.new) result.status result.report result.closed }
-    ensures pool { LeavesPool P.Pool pool.old pool.new }
+    ensures pool { StaysPool P.Pool pool.old pool.new }
 {
     let trace = match read_source(alloc, source) {
         Ok(trace) => trace,

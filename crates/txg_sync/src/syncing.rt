@@ -1,5 +1,5 @@
 //! The sync of a transaction group.
-ghost use Rattle.std.specs.Prelude.{◌≡◌, ◌+◌, ◌-◌, ◌<◌, ◌≤◌, ◌%◌, ◌^◌, [], length};
+ghost use Rattle.std.specs.Prelude.{◌≡◌, ◌+◌, ◌-◌, ◌<◌, ◌≤◌, ◌%◌, ◌^◌, [], IfOk, length};
 ghost use Rattle.blk_ptr.specs.Size.{sector};
 ghost use Rattle.arc_core.specs.Config.{IsConfig};
 ghost use Rattle.arc_table.specs.Cache.{IsPartyOf};
@@ -84,6 +84,7 @@ fn write_dues<P: Pool>(
     requires fits { next + need_of cells.old dues.now ≤ P.size pool.old }
     requires length { P.size pool.old ≤ 2 ^ 40 }
     ensures answer { AnswersDues P.Pool arcs.now group tick next cells.old cells.new dues.now pool.old pool.new party.old party.new result }
+    ensures aligned { IfOk result (λ place. place % sector ≡ 0) }
 {
     let mut place = next;
     for due in dues {
@@ -116,6 +117,7 @@ fn sync_cells<P: Pool>(
     ensures number { party.new.number ≡ party.old.number }
     ensures claims { party.new.own.ledger.claims ≡ party.old.own.ledger.claims }
     ensures answer { AnswersWith P.Pool group next pool.old pool.new arcs.now.config (SyncsInHand arcs.now tick cells.old cells.new party.old party.new) result }
+    ensures aligned { IfOk result (λ done. done.next % sector ≡ 0) }
 {
     let Ok(dues) = dirty_of(alloc, cells) else {
         return Err(SyncFault::NoMemory);
@@ -158,6 +160,7 @@ pub fn sync<P: Pool>(
     requires inside { next ≤ P.size pool.old }
     requires length { P.size pool.old ≤ 2 ^ 40 }
     ensures answer { AnswersSync P.Pool arcs.now.config group tick next pool.old pool.new party.old party.new result }
+    ensures aligned { IfOk result (λ done. done.next % sector ≡ 0) }
     ensures party { IsPartyOf arcs.now party.new }
     ensures free { party.new.held ≡ [] }
     ensures number { party.new.number ≡ party.old.number }

@@ -30,7 +30,7 @@ use Rattle.trace_run.proofs.DeviceLemmas.{lent-same}
 use Rattle.trace_run.proofs.feeds.FeedLemmas.{made-none, none-done}
 
 -- lines of which none is found to ask for a feed ask for none
-none-found : (os : List Op) → list_any is_feed os ≡ false → filter is_feed os ≡ []
+pub none-found : (os : List Op) → list_any is_feed os ≡ false → filter is_feed os ≡ []
 none-found [] none = refl
 none-found (o ∷ os) none = elim (cases_true (is_feed o)) [
   | inl asks ↦ absurd (false≢true (sym none ∙ rw asks refl))

@@ -1,26 +1,35 @@
 -- A line that ends a group of several callers: what the feeder did for it, and what it leaves of the pool and of what stands between two groups.
-use Rattle.std.proofs.Common.{◌≡◌, ◌⊎◌, ◌%◌, ◌≤◌, ℕ, suc, false, List, length, Option, Some, Result, Ok, Err, refl, sym, ap, ◌∙◌, subst, inl, inr, arith}
+use Rattle.std.proofs.Common.{◌≡◌, ◌⊎◌, ◌%◌, ◌≤◌, ◌++◌, ℕ, suc, false, List, length, Option, Some, Result, Ok, Err, refl, sym, ap, ◌∙◌, subst, inl, inr, arith}
 use Rattle.std.specs.Prelude.{slice_get}
 use Rattle.blk_ptr.specs.Size.{sector}
 use Rattle.arc_core.specs.declared.event.Event.{Event}
 use Rattle.arc_table.specs.Cache.{Cache}
 use Rattle.dbuf_cells.specs.Turns.{OnHeap}
+use Rattle.txg_sync.specs.Items.{SyncItem}
+use Rattle.txg_sync.specs.declared.syncing.SyncFault.{SyncFault}
+use Rattle.txg_sync.specs.declared.syncing.SyncFault.TheVariants as fault
+use Rattle.txg_sync.specs.declared.syncing.Synced.{Synced as SyncAnswer}
 use Rattle.trace_text.specs.declared.op.Op.{Op}
 use Rattle.trace_text.specs.declared.op.Op.TheVariants as ops
 use Rattle.trace_text.specs.declared.reply.Reply.{Reply}
-use Rattle.trace_text.specs.declared.reply.Reply.TheVariants.{Capped}
+use Rattle.trace_text.specs.declared.reply.Reply.TheVariants.{Capped, Synced}
 use Rattle.trace_text.specs.declared.trace.Trace.{Trace}
 use Rattle.vdev_io.specs.declared.pool.Pool.{Ghosts}
 use Rattle.trace_run.specs.declared.groups.Crew.{Crew}
 use Rattle.trace_run.specs.declared.ran.Ending.{Ending}
+use Rattle.trace_run.specs.declared.ran.Ending.TheVariants.{Full, Sync}
+use Rattle.trace_run.specs.Deeds.{HasToldOthers, acts_of_events}
 use Rattle.trace_run.specs.Meeting.{resizes_in}
 use Rattle.trace_run.specs.Objects.{Line, Work, no_work}
 use Rattle.trace_run.specs.Openings.{Knows, openings_of}
+use Rattle.trace_run.specs.RunWork.{RunWork}
+use Rattle.trace_run.specs.Syncing.{SyncedJoined, SyncsJoined, inserts_in, noted_of}
 use Rattle.trace_run.specs.callers.Group.{LeavesFront}
-use Rattle.trace_run.specs.callers.Groups.{DidCap, DidEndLine, DidSync, EndsLines, MaySync, StoodFresh, goes_on}
-use Rattle.trace_run.specs.callers.Together.{EndsGroup, BetweenGroups, groups_begun, groups_done}
-use Rattle.trace_run.proofs.callers.EndedLemmas.{EndsSo, StopsSo, cap-ends}
+use Rattle.trace_run.specs.callers.Groups.{DidCap, DidEndLine, DidSync, EndsLines, MaySync, StoodSo, TellsSync, goes_on}
+use Rattle.trace_run.specs.callers.Together.{EndsGroup, BetweenGroups, StoppedAt, groups_begun, groups_done}
+use Rattle.trace_run.proofs.callers.EndedLemmas.{EndsSo, MadeWork, StopsSo, cap-ends, with_stop}
 use Rattle.trace_run.proofs.callers.FrontLemmas.{front-same}
+use Rattle.trace_run.proofs.syncs.SyncTurned.{AreToldOf, more-acts, more-noted, none-own, sync-of, sync-stood, sync_work, work-fits}
 
 -- The pool is as it was, and has counted nothing since.
 pub record IsUnused {P : Type 0} (pools : Ghosts P) (old now : P) : Type 0 where
@@ -29,8 +38,8 @@ pub record IsUnused {P : Type 0} (pools : Ghosts P) (old now : P) : Type 0 where
   pub reads : pools.reads now ≡ pools.reads old
   pub faults : pools.faults now ≡ pools.faults old
 
--- What a line that ends a group comes to where it is answered: what the feeder did for it, and what stands before the next group.
-pub record Turned {P : Type 0} (cache : Cache) (pools : Ghosts P) (openings : List (List ℕ)) (op : Op) (reply : Reply) (from to : BetweenGroups P) (old new : Crew OnHeap) : Type 0 where
+-- What a line that ends a group comes to where it is answered, behind these lines: what the feeder did for it, and what stands before the next group.
+pub record Turned {P : Type 0} (cache : Cache) (pools : Ghosts P) (openings : List (List ℕ)) (before : List Line) (op : Op) (reply : Reply) (from to : BetweenGroups P) (old new : Crew OnHeap) : Type 0 where
   pub work : Work
   pub more : (shard : ℕ) → List Event
   pub so : EndsSo cache (record { op = op; reply = reply; work = work }) more old new
@@ -41,26 +50,54 @@ pub record Turned {P : Type 0} (cache : Cache) (pools : Ghosts P) (openings : Li
   pub later : from.next ≤ to.next
   pub aligned : to.next % sector ≡ 0
   pub inside : to.next ≤ pools.size to.pool
-  pub ends : EndsGroup pools cache.config (StoodFresh openings cache.config.cells) (Some (record { op = op; reply = reply; work = work })) from to
+  pub ends : EndsGroup pools cache.config (StoodSo openings cache.config new.feeder) before (Some (record { op = op; reply = reply; work = work })) from to
 
 -- And where it is a sync that stopped, so that the lines end before it.
-pub record Halted {P : Type 0} (cache : Cache) (pools : Ghosts P) (trace : Trace) (replies : List Reply) (ending : Ending) (from : BetweenGroups P) (after : P) (old new : Crew OnHeap) : Type 0 where
+pub record Halted {P : Type 0} (cache : Cache) (pools : Ghosts P) (trace : Trace) (replies : List Reply) (done : RunWork) (ending : Ending) (from : BetweenGroups P) (after : P) (old new : Crew OnHeap) : Type 0 where
+  pub tick : ℕ
   pub work : Work
   pub more : (shard : ℕ) → List Event
-  pub so : StopsSo cache work more old new
+  pub so : StopsSo cache tick work more old new
   pub stops : goes_on ending ≡ false
   pub begun : (ls : List Line) → groups_done ending ls ≡ groups_begun ls
-  pub ended : EndsLines pools cache trace replies work ending from after
+  pub ended : EndsLines pools cache trace replies new.feeder (with_stop done work) ending from after
+  pub ticks : (t : ℕ) → StoppedAt trace replies ending t → t ≡ tick
 
-module _ {P : Type 0} (cache : Cache) (pools : Ghosts P) (openings : List (List ℕ)) (from to : BetweenGroups P) (old new : Crew OnHeap) (number : old.feeder.number ≡ cache.config.callers) (knows : Knows openings old.feeder) (kept : new.kept.items ≡ old.kept.items) (lines : ℕ) (may : MaySync pools lines from) where
-  cap-turned : (c : ℕ) (reply : Reply) → reply ≡ Capped c → DidCap cache c from to old new (Ok reply) → Turned cache pools openings (ops.Cap c) reply from to old new
+-- ---- what a sync made
+
+module _ (cache : Cache) (old new : Crew OnHeap) (number : old.feeder.number ≡ cache.config.callers) (kept : new.kept.items ≡ old.kept.items) (t : ℕ) (cells : List OnHeap) (xs : List SyncItem)
+    (j : SyncsJoined cache t old.feeder old.parties.items new.feeder new.parties.items cells xs) where
+  abbrev sync-made : MadeWork cache (sync_work cache.config.callers xs j.inserts) (λ shard. inserts_in cache.config t xs shard (j.front shard)) old new
+  sync-made = record {
+    lines = j.lines;
+    parted = j.parted;
+    kept = kept;
+    number = j.number;
+    about = j.about;
+    alone = j.alone;
+    stands = j.stands;
+    settled = j.settled number;
+    front = j.front;
+    seen = j.seen;
+    own = j.own;
+    others = j.others;
+    since = j.since;
+    told = λ acts noted told. subst (λ (n : ℕ). HasToldOthers cache.config (acts ++ acts_of_events j.inserts) (noted ++ noted_of n xs) new.feeder) number (j.told acts noted told);
+    cells = j.grown;
+    inserted = more-acts cache t old.feeder old.parties.items new.feeder new.parties.items cells xs j;
+  }
+
+-- ---- the line
+
+module _ {P : Type 0} (cache : Cache) (pools : Ghosts P) (openings : List (List ℕ)) (before : List Line) (from to : BetweenGroups P) (old new : Crew OnHeap) (so_far : AreToldOf cache before old) (knows : Knows openings old.feeder) (kept : new.kept.items ≡ old.kept.items) (lines : ℕ) (may : MaySync pools lines from) where
+  cap-turned : (c : ℕ) (reply : Reply) → reply ≡ Capped c → DidCap cache c from to old new (Ok reply) → Turned cache pools openings before (ops.Cap c) reply from to old new
   cap-turned c reply is d =
       let pool : to.pool ≡ from.pool = ap (λ (s : BetweenGroups P). s.pool) d.stays in
       let next : to.next ≡ from.next = ap (λ (s : BetweenGroups P). s.next) d.stays in
-      subst (λ (r : Reply). Turned cache pools openings (ops.Cap c) r from to old new) (sym is) record {
+      subst (λ (r : Reply). Turned cache pools openings before (ops.Cap c) r from to old new) (sym is) record {
         work = no_work;
         more = resizes_in cache.config.shards cache.config.callers c;
-        so = cap-ends cache c old new number d.resized kept;
+        so = cap-ends cache c old new so_far.number d.resized kept;
         leaves = subst (LeavesFront pools from.next from.pool) (sym pool) (front-same pools from.next from.pool);
         reads = ap pools.reads pool;
         faults = ap pools.faults pool;
@@ -71,29 +108,123 @@ module _ {P : Type 0} (cache : Cache) (pools : Ghosts P) (openings : List (List 
         ends = d.stays;
       }
 
-  sync-turned : (t : ℕ) (reply : Reply) → DidSync cache pools t from to old new (Ok reply) → Turned cache pools openings (ops.Txg t) reply from to old new
-  sync-turned t reply did = ?
-
   ok-is : (a b : Reply) → ◌≡◌ {A = Result Reply Ending} (Ok a) (Ok b) → a ≡ b
   ok-is a b is = cc
 
-  pub end-turned : (op : Op) (reply : Reply) → DidEndLine cache pools op from to old new (Ok reply) → Turned cache pools openings op reply from to old new
-  end-turned op reply ended = go ended.did
-    where
-      go : ((c : ℕ) × (op ≡ ops.Cap c) × DidCap cache c from to old new (Ok reply)) ⊎ ((t : ℕ) × (op ≡ ops.Txg t) × DidSync cache pools t from to old new (Ok reply)) → Turned cache pools openings op reply from to old new
-      go (inl cap) = subst (λ (o : Op). Turned cache pools openings o reply from to old new) (sym cap.1) (cap-turned cap.0 reply (ok-is reply (Capped cap.0) cap.2.answer) cap.2)
-      go (inr sync) = subst (λ (o : Op). Turned cache pools openings o reply from to old new) (sym sync.1) (sync-turned sync.0 reply sync.2)
-
-module _ {P : Type 0} (cache : Cache) (pools : Ghosts P) (trace : Trace) (replies : List Reply) (from to : BetweenGroups P) (old new : Crew OnHeap) (number : old.feeder.number ≡ cache.config.callers) (knows : Knows (openings_of trace) old.feeder) (kept : new.kept.items ≡ old.kept.items) where
-  sync-halted : (t : ℕ) (ending : Ending) → slice_get trace.ops (length replies) ≡ Some (ops.Txg t) → DidSync cache pools t from to old new (Err ending) → Halted cache pools trace replies ending from to.pool old new
-  sync-halted t ending at did = ?
-
-  never-both : (a : Reply) (b : Ending) → ◌≡◌ {A = Result Reply Ending} (Err b) (Ok a) → ⊥
+  never-both : (a : Reply) (b : Ending) → ◌≡◌ {A = Result Reply Ending} (Ok a) (Err b) → ⊥
   never-both a b is = cc
 
-  pub end-halted : (op : Op) (ending : Ending) → slice_get trace.ops (length replies) ≡ Some op → DidEndLine cache pools op from to old new (Err ending) → Halted cache pools trace replies ending from to.pool old new
+  sync-turned : (t : ℕ) (reply : Reply) → DidSync cache pools t from to old new (Ok reply) → Turned cache pools openings before (ops.Txg t) reply from to old new
+  sync-turned t reply did = go did.sync did.synced did.told
+    where
+      go : (sync : Result SyncAnswer SyncFault) → SyncedJoined pools cache from.group t from.next from.pool to.pool old.feeder old.parties.items new.feeder new.parties.items sync → TellsSync from to sync (Ok reply)
+          → Turned cache pools openings before (ops.Txg t) reply from to old new
+      go (Ok done) s told =
+          let o = sync-of pools cache from.group t from.next from.pool to.pool old.feeder old.parties.items new.feeder new.parties.items (Ok done) refl s in
+          let j = o.joined in
+          let need = s.next_is in
+          let fits = s.fits in
+          let size = s.outside.size in
+          subst (λ (r : Reply). Turned cache pools openings before (ops.Txg t) r from to old new) (sym (ok-is reply (Synced from.group done.blocks done.bytes) told.0)) record {
+            work = sync_work cache.config.callers o.xs j.inserts;
+            more = λ shard. inserts_in cache.config t o.xs shard (j.front shard);
+            so = record {
+              made = sync-made cache old new so_far.number kept t o.cells o.xs j;
+              end = inr (inl (t, from.group, done.blocks, done.bytes, refl, refl));
+              ends = refl;
+              fits = work-fits cache t old.feeder old.parties.items new.feeder new.parties.items o.cells o.xs j;
+              feeds = λ shard below. none-own cache t old.feeder old.parties.items new.feeder new.parties.items o.cells o.xs j shard;
+              here = λ shard below. more-noted cache t old.feeder old.parties.items new.feeder new.parties.items o.cells o.xs j shard;
+            };
+            leaves = did.leaves;
+            reads = s.outside.reads;
+            faults = s.outside.faults;
+            group = told.1;
+            later = omega (arith, told.2, need);
+            aligned = ap (λ (n : ℕ). n % sector) told.2 ∙ told.3;
+            inside = omega (arith, told.2, need, fits, size, may.inside);
+            ends = record {
+              done = done;
+              answer = o.answers (StoodSo openings cache.config new.feeder before t (sync_work cache.config.callers o.xs j.inserts)) (sync-stood cache openings before old so_far knows t new.feeder new.parties.items o.cells o.xs j);
+              replied = refl;
+              group = told.1;
+              next = told.2;
+            };
+          }
+      go (Err fault.PoolFault) s told = absurd (never-both reply Sync told)
+      go (Err (fault.PoolFull need left)) s told = absurd (never-both reply (Full need left) told)
+      go (Err fault.NoMemory) s told = absurd told
+
+  pub end-turned : (op : Op) (reply : Reply) → DidEndLine cache pools op from to old new (Ok reply) → Turned cache pools openings before op reply from to old new
+  end-turned op reply ended = go ended.did
+    where
+      go : ((c : ℕ) × (op ≡ ops.Cap c) × DidCap cache c from to old new (Ok reply)) ⊎ ((t : ℕ) × (op ≡ ops.Txg t) × DidSync cache pools t from to old new (Ok reply)) → Turned cache pools openings before op reply from to old new
+      go (inl cap) = subst (λ (o : Op). Turned cache pools openings before o reply from to old new) (sym cap.1) (cap-turned cap.0 reply (ok-is reply (Capped cap.0) cap.2.answer) cap.2)
+      go (inr sync) = subst (λ (o : Op). Turned cache pools openings before o reply from to old new) (sym sync.1) (sync-turned sync.0 reply sync.2)
+
+module _ {P : Type 0} (cache : Cache) (pools : Ghosts P) (trace : Trace) (replies : List Reply) (done : RunWork) (from to : BetweenGroups P) (old new : Crew OnHeap) (so_far : AreToldOf cache done.lines old) (knows : Knows (openings_of trace) old.feeder) (kept : new.kept.items ≡ old.kept.items) where
+  err-is : (a b : Ending) → ◌≡◌ {A = Result Reply Ending} (Err a) (Err b) → a ≡ b
+  err-is a b is = cc
+
+  never-ok : (a : Reply) (b : Ending) → ◌≡◌ {A = Result Reply Ending} (Err b) (Ok a) → ⊥
+  never-ok a b is = cc
+
+  tick-is : (a b : ℕ) → ◌≡◌ {A = Option Op} (Some (ops.Txg a)) (Some (ops.Txg b)) → a ≡ b
+  tick-is a b is = cc
+
+  module _ (t : ℕ) (at : slice_get trace.ops (length replies) ≡ Some (ops.Txg t)) (cells : List OnHeap) (xs : List SyncItem) (j : SyncsJoined cache t old.feeder old.parties.items new.feeder new.parties.items cells xs) where
+    abbrev did-work : Work
+    did-work = sync_work cache.config.callers xs j.inserts
+
+    sync-stops : StopsSo cache t did-work (λ shard. inserts_in cache.config t xs shard (j.front shard)) old new
+    sync-stops = record {
+      made = sync-made cache old new so_far.number kept t cells xs j;
+      fits = work-fits cache t old.feeder old.parties.items new.feeder new.parties.items cells xs j;
+      none = λ shard below. none-own cache t old.feeder old.parties.items new.feeder new.parties.items cells xs j shard;
+      here = λ shard below. more-noted cache t old.feeder old.parties.items new.feeder new.parties.items cells xs j shard;
+    }
+
+    abbrev So : List OnHeap → List SyncItem → Type 0
+    So = StoodSo (openings_of trace) cache.config new.feeder done.lines t did-work
+
+    stood : So cells xs
+    stood = sync-stood cache (openings_of trace) done.lines old so_far knows t new.feeder new.parties.items cells xs j
+
+  sync-halted : (t : ℕ) (ending : Ending) → slice_get trace.ops (length replies) ≡ Some (ops.Txg t) → DidSync cache pools t from to old new (Err ending) → Halted cache pools trace replies done ending from to.pool old new
+  sync-halted t ending at did = go did.sync did.synced did.told
+    where
+      go : (sync : Result SyncAnswer SyncFault) → SyncedJoined pools cache from.group t from.next from.pool to.pool old.feeder old.parties.items new.feeder new.parties.items sync → TellsSync from to sync (Err ending)
+          → Halted cache pools trace replies done ending from to.pool old new
+      go (Ok answer) s told = absurd (never-ok (Synced from.group answer.blocks answer.bytes) ending told.0)
+      go (Err fault.PoolFault) s told =
+          let o = sync-of pools cache from.group t from.next from.pool to.pool old.feeder old.parties.items new.feeder new.parties.items (Err fault.PoolFault) refl s in
+          subst (λ (e : Ending). Halted cache pools trace replies done e from to.pool old new) (sym (err-is ending Sync told)) record {
+            tick = t;
+            work = did-work t at o.cells o.xs o.joined;
+            more = λ shard. inserts_in cache.config t o.xs shard (o.joined.front shard);
+            so = sync-stops t at o.cells o.xs o.joined;
+            stops = refl;
+            begun = λ ls. refl;
+            ended = record { behind = record { tick = t; at = at }; answer = o.answers (So t at o.cells o.xs o.joined) (stood t at o.cells o.xs o.joined) };
+            ticks = λ u is. tick-is u t (sym is ∙ at);
+          }
+      go (Err (fault.PoolFull need left)) s told =
+          let o = sync-of pools cache from.group t from.next from.pool to.pool old.feeder old.parties.items new.feeder new.parties.items (Err (fault.PoolFull need left)) refl s in
+          subst (λ (e : Ending). Halted cache pools trace replies done e from to.pool old new) (sym (err-is ending (Full need left) told)) record {
+            tick = t;
+            work = did-work t at o.cells o.xs o.joined;
+            more = λ shard. inserts_in cache.config t o.xs shard (o.joined.front shard);
+            so = sync-stops t at o.cells o.xs o.joined;
+            stops = refl;
+            begun = λ ls. refl;
+            ended = record { behind = record { tick = t; at = at }; answer = o.answers (So t at o.cells o.xs o.joined) (stood t at o.cells o.xs o.joined) };
+            ticks = λ u is. tick-is u t (sym is ∙ at);
+          }
+      go (Err fault.NoMemory) s told = absurd told
+
+  pub end-halted : (op : Op) (ending : Ending) → slice_get trace.ops (length replies) ≡ Some op → DidEndLine cache pools op from to old new (Err ending) → Halted cache pools trace replies done ending from to.pool old new
   end-halted op ending at ended = go ended.did
     where
-      go : ((c : ℕ) × (op ≡ ops.Cap c) × DidCap cache c from to old new (Err ending)) ⊎ ((t : ℕ) × (op ≡ ops.Txg t) × DidSync cache pools t from to old new (Err ending)) → Halted cache pools trace replies ending from to.pool old new
-      go (inl cap) = absurd (never-both (Capped cap.0) ending cap.2.answer)
+      go : ((c : ℕ) × (op ≡ ops.Cap c) × DidCap cache c from to old new (Err ending)) ⊎ ((t : ℕ) × (op ≡ ops.Txg t) × DidSync cache pools t from to old new (Err ending)) → Halted cache pools trace replies done ending from to.pool old new
+      go (inl cap) = absurd (never-ok (Capped cap.0) ending cap.2.answer)
       go (inr sync) = sync-halted sync.0 ending (at ∙ ap (λ (o : Op). Some o) sync.1) sync.2

@@ -9,6 +9,7 @@ use Rattle.std.proofs.lemmas.Option.{slice_get_within}
 use Rattle.std.proofs.Math.Seq.{take-append_seam}
 use mathlib.Core.Option.{some, some-injective, some-ne-none}
 use lib.ListN.{get_elem?}
+use Rattle.arc_lists.proofs.Tables.{cases_true}
 use Rattle.blk_ptr.specs.declared.ptr.Ptr.{Ptr}
 use Rattle.blk_ptr.specs.Hash.{shard_of}
 use Rattle.vdev_io.specs.declared.device.CacheDev.{Ghosts as Devices}
@@ -20,11 +21,13 @@ use Rattle.arc_core.specs.declared.served.Restored.{Restored}
 use Rattle.arc_core.specs.Operations.{Act, Tell, acts_in, moments, own_events, own_moments}
 use Rattle.arc_table.specs.Cache.{Cache}
 use Rattle.arc_table.specs.declared.view.Line.{Line as Seen}
-use Rattle.arc_table.specs.Fronts.{StartsWith}
+use Rattle.arc_table.specs.Fronts.{StartsWith, front_of}
+use Rattle.arc_table.specs.Geometry.{IsCell, cell_number}
 use Rattle.arc_table.specs.Seen.{seen_of}
 use Rattle.arc_table.specs.TableLaws.{starts_whole}
 use Rattle.arc_table.specs.Telling.{opening_of}
 use Rattle.dbuf_cells.specs.Turns.{OnHeap, PartyPlace}
+use Rattle.l2_feed.specs.Series.{GivesNone}
 use Rattle.trace_text.specs.declared.op.Op.{Op}
 use Rattle.trace_text.specs.declared.op.Op.TheVariants as ops
 use Rattle.trace_text.specs.declared.reply.Reply.{Reply}
@@ -32,8 +35,9 @@ use Rattle.trace_text.specs.declared.reply.Reply.TheVariants.{Capped}
 use Rattle.trace_run.specs.declared.groups.Crew.{Crew}
 use Rattle.trace_run.specs.declared.kept_blocks.KeptBlock.{KeptBlock}
 use Rattle.trace_run.specs.Acts.{events_of_feeder}
-use Rattle.trace_run.specs.Deeds.{HasToldOthers, Noted}
+use Rattle.trace_run.specs.Deeds.{HasToldOthers, Noted, acts_of_events, with_number}
 use Rattle.trace_run.specs.FeedEvents.{events_of_lines, feeds_told}
+use Rattle.trace_run.specs.FeedSeries.{SeesMore}
 use Rattle.trace_run.specs.Feeds.{FeedDone, is_feed}
 use Rattle.trace_run.specs.KeptBlocks.{Stands}
 use Rattle.trace_run.specs.KeptReads.{KeptRead}
@@ -42,8 +46,9 @@ use Rattle.trace_run.specs.Meeting.{HasSettled, HaveParted, IsFed, Resized, Wait
 use Rattle.trace_run.specs.Objects.{Line, Work, no_work, ops_of, replies_of}
 use Rattle.trace_run.specs.Restores.{events_by_feeder, restores_in}
 use Rattle.trace_run.specs.RunWork.{AllFit, FitsBy, FitsFeeder, IsRunWork, IsSyncWork, RunWork, acts_of_syncs, lines_of_caller, lines_of_feeder, noted_of_syncs}
+use Rattle.trace_run.specs.Syncing.{inserts_noted}
 use Rattle.trace_run.specs.callers.Groups.{AreEndLines, ComesAt, HaveCome, IsEndLine}
-use Rattle.trace_run.specs.callers.Together.{AreCut, IsCut, ends_group}
+use Rattle.trace_run.specs.callers.Together.{AreCut, IsCut, IsCutLast, ends_group, events_at_end}
 use Rattle.trace_run.specs.callers.WorkLines.{AreLinesOf, acts_of_work, acts_with, acts_with_op, noted_of_work}
 use Rattle.trace_run.proofs.callers.GroupLists.{Cuts, cut-before, cuts-more, get-right, some-same}
 use Rattle.trace_run.proofs.callers.GroupsLemmas.{parted-at, parted-length}
@@ -52,6 +57,7 @@ use Rattle.trace_run.proofs.callers.MeetLemmas.{parted-waits, same-own-events, s
 use Rattle.trace_run.proofs.callers.MoreLemmas.{answers-grown, ends-append, none-synced}
 use Rattle.trace_run.proofs.deeds.DeedLemmas.{others-still}
 use Rattle.trace_run.proofs.feeds.FedLemmas.{as-told, lines-append, one-asked, ops-are, told-still}
+use Rattle.trace_run.proofs.feeds.SeriesLemmas.{sees-by}
 use Rattle.trace_run.proofs.one_caller.TellLemmas.{all-append}
 
 -- ---- the work so far, and more
@@ -84,6 +90,9 @@ pub record MadeWork (cache : Cache) (work : Work) (more : (shard : ℕ) → List
       → AllByRecursion (λ o. own_moments o.number (moments (opening_of cache.config) (front shard)) ≡ own_moments o.number (moments (opening_of cache.config) (seen_of cache.config shard o))) old.parties.items
   pub since : (shard : ℕ) → StartsWith (front shard) (seen_of cache.config shard old.feeder)
   pub told : (acts : List Act) (noted : List Noted) → HasToldOthers cache.config acts noted old.feeder → HasToldOthers cache.config (acts ++ work.acts) (noted ++ work.noted) new.feeder
+  -- it has seen of each cell what it had, and its acts with the numbers of cells are those of these events
+  pub cells : (i : ℕ) → IsCell cache.config i → StartsWith (front_of i new.feeder.own.seen) (front_of i old.feeder.own.seen)
+  pub inserted : (shard i : ℕ) → IsCell cache.config i → acts_in (shard_of cache.config.shards) shard (cell_number cache.config i) work.acts ≡ acts_of_events (with_number (cell_number cache.config i) (more shard))
 
 -- A line that ends a group was done so: of its own number the feeder made just what the line asks of it.
 pub record EndsSo (cache : Cache) (l : Line) (more : (shard : ℕ) → List Event) (old new : Crew OnHeap) : Type 0 where
@@ -92,13 +101,40 @@ pub record EndsSo (cache : Cache) (l : Line) (more : (shard : ℕ) → List Even
   pub ends : ends_group l.op ≡ true
   pub fits : FitsFeeder cache.config l.op l.work
   pub feeds : (shard : ℕ) → shard < cache.config.shards → own_events cache.config.callers (more shard) ≡ events_of_feeder cache.config.callers l.op
-  pub here : (shard : ℕ) → shard < cache.config.shards → StartsWith (more shard) (events_of_feeder cache.config.callers l.op)
+  pub here : (shard : ℕ) → shard < cache.config.shards → more shard ≡ events_at_end cache.config shard l.op l.work.noted (made.front shard)
 
--- A sync stopped, which did this work: of its own number the feeder made nothing.
-pub record StopsSo (cache : Cache) (work : Work) (more : (shard : ℕ) → List Event) (old new : Crew OnHeap) : Type 0 where
+-- A sync of this tick stopped, which did this work: of its own number the feeder made nothing.
+pub record StopsSo (cache : Cache) (tick : ℕ) (work : Work) (more : (shard : ℕ) → List Event) (old new : Crew OnHeap) : Type 0 where
   pub made : MadeWork cache work more old new
   pub fits : IsSyncWork cache.config work
   pub none : (shard : ℕ) → shard < cache.config.shards → own_events cache.config.callers (more shard) ≡ []
+  pub here : (shard : ℕ) → shard < cache.config.shards → more shard ≡ inserts_noted cache.config tick work.noted shard (made.front shard)
+
+-- ---- what the feeder has seen behind it
+
+-- what a line asks of the feeder gives no place
+pub asked-gives : (n : ℕ) (op : Op) → AllByRecursion GivesNone (events_of_feeder n op)
+asked-gives n (ops.Cap c) = ((λ k. refl), tt)
+asked-gives n (ops.Txg t) = tt
+asked-gives n ops.Feed = tt
+asked-gives n (ops.Read m t x window) = tt
+asked-gives n (ops.Hold m t x) = tt
+asked-gives n (ops.Drop m x) = tt
+asked-gives n (ops.Get m t at window) = tt
+asked-gives n (ops.Put m t at size fill) = tt
+asked-gives n (ops.Patch m t at from bytes) = tt
+asked-gives n (ops.Pin m t at) = tt
+asked-gives n (ops.Unpin m at) = tt
+
+pub made-sees : (cache : Cache) (work : Work) (more : (shard : ℕ) → List Event) (old new : Crew OnHeap) → old.feeder.number ≡ cache.config.callers → MadeWork cache work more old new → (shard : ℕ) (asked : List Event) → own_events cache.config.callers (more shard) ≡ asked
+    → AllByRecursion GivesNone asked → SeesMore cache.config (seen_of cache.config shard old.feeder) (seen_of cache.config shard new.feeder)
+made-sees cache work more old new number made shard asked is none =
+    let g : Config = cache.config in
+    let front = same-own-events g g.callers (seen_of g shard old.feeder) (made.front shard)
+    (subst (λ (n : ℕ). own_moments n (moments (opening_of g) (made.front shard)) ≡ own_moments n (moments (opening_of g) (seen_of g shard old.feeder))) number (made.own shard)) in
+    sees-by g (seen_of g shard old.feeder) (seen_of g shard new.feeder) asked
+    (starts-then (seen_of g shard new.feeder) (made.front shard) (seen_of g shard old.feeder) (more shard, made.seen shard) (made.since shard))
+    (ap (own_events g.callers) (made.seen shard) ∙ (filter-append _ (made.front shard) (more shard) ∙ (λ i. front i ++ is i))) none
 
 -- ---- small steps
 
@@ -163,6 +199,24 @@ module _ {P D : Type 0} (pools : Ghosts P) (devices : Devices D) (cache : Cache)
     grown : (shard : ℕ) → StartsWith (seen_of g shard new.feeder) (seen_of g shard old.feeder)
     grown shard = starts-then (seen_of g shard new.feeder) (made.front shard) (seen_of g shard old.feeder) (more shard, made.seen shard) (made.since shard)
 
+    -- what stands before it
+    cut-at : (shard : ℕ) → shard < g.shards → (here : List Event → List Event) → more shard ≡ here (made.front shard) → IsCut g restored blocks shard w.lines w.feeds work.acts here (seen_of g shard new.feeder)
+    cut-at shard below here is =
+        let are = ops-are os rs w.lines before.did.lines in
+        record {
+          front = made.front shard;
+          rest = [];
+          whole = made.seen shard ∙ ap (λ (es : List Event). made.front shard ++ es) (is ∙ sym (append-nil (here (made.front shard))));
+          callers = λ n lt.
+              let b = before.each n lt in
+              let same = all-at _ old.parties.items n b.party (made.others shard) b.at.party_at in
+              let acts : List Act = acts_of_work g blocks [] (lines_of_caller n w.lines) in
+              subst (λ (k : ℕ). Tell (acts_in (shard_of g.shards) shard k acts) (own_moments k (moments (opening_of g) (made.front shard)))) b.come.waits.number
+              (subst (Tell (acts_in (shard_of g.shards) shard b.party.number acts)) (sym same) (b.come.waits.told.acts shard));
+          feeder = front-own shard below ∙ sym (λ i. events_by_feeder g restored (are.0 i) (are.1 i) w.feeds shard);
+          inserted = λ i range. made.inserted shard i range ∙ ap (λ (es : List Event). acts_of_events (with_number (cell_number g i) es)) is;
+        }
+
     -- it has made these events more, which the lines ask of it
     module _ (asked : (shard : ℕ) → List Event) (feeds : (shard : ℕ) → shard < g.shards → own_events g.callers (more shard) ≡ asked shard) (ops_now : List Op) (replies_now : List Reply)
         (grows : (shard : ℕ) → events_by_feeder g restored ops_now replies_now w.feeds shard ≡ events_by_feeder g restored os rs w.feeds shard ++ asked shard) (acts : List Act) (noted : List Noted) (told_then : HasToldOthers g acts noted new.feeder) where
@@ -184,7 +238,7 @@ module _ {P D : Type 0} (pools : Ghosts P) (devices : Devices D) (cache : Cache)
 
   -- ---- a sync that stopped
 
-  module _ (work : Work) (so : StopsSo cache work more old new) where
+  module _ (tick : ℕ) (work : Work) (so : StopsSo cache tick work more old new) where
     abbrev stopped : RunWork
     stopped = with_stop w work
 
@@ -208,6 +262,9 @@ module _ {P D : Type 0} (pools : Ghosts P) (devices : Devices D) (cache : Cache)
       begun = λ shard below. starts-then (seen_of g shard new.feeder) (seen_of g shard old.feeder) (restores_in g restored shard) (grown work so.made shard) (before.begun shard below);
       cut = λ shard below. cuts-more g restored blocks shard w.lines w.feeds (seen_of g shard old.feeder) (seen_of g shard new.feeder) (grown work so.made shard) (before.cut shard below);
     }
+
+    pub stopped-cut : (shard : ℕ) → shard < g.shards → IsCutLast g restored blocks shard tick stopped (seen_of g shard new.feeder)
+    stopped-cut shard below = cut-at work so.made shard below (inserts_noted g tick work.noted shard) (so.here shard below)
 
   -- ---- a line that was answered
 
@@ -258,34 +315,20 @@ module _ {P D : Type 0} (pools : Ghosts P) (devices : Devices D) (cache : Cache)
         ∙ sym (append_assoc (restores_in g restored shard) (events_of_lines g shard os rs w.feeds) asked)
 
     -- what stands before it
-    cut-here : (shard : ℕ) → shard < g.shards → IsCut g restored blocks shard w.lines w.feeds asked (seen_of g shard new.feeder)
-    cut-here shard below =
-        let are = ops-are os rs w.lines before.did.lines in
-        let here = so.here shard below in
-        record {
-          front = so.made.front shard;
-          rest = here.0;
-          whole = so.made.seen shard ∙ ap (λ (es : List Event). so.made.front shard ++ es) here.1;
-          callers = λ n lt.
-              let b = before.each n lt in
-              let same = all-at _ old.parties.items n b.party (so.made.others shard) b.at.party_at in
-              let acts : List Act = acts_of_work g blocks [] (lines_of_caller n w.lines) in
-              subst (λ (k : ℕ). Tell (acts_in (shard_of g.shards) shard k acts) (own_moments k (moments (opening_of g) (so.made.front shard)))) b.come.waits.number
-              (subst (Tell (acts_in (shard_of g.shards) shard b.party.number acts)) (sym same) (b.come.waits.told.acts shard));
-          feeder = front-own l.work so.made shard below ∙ sym (λ i. events_by_feeder g restored (are.0 i) (are.1 i) w.feeds shard);
-        }
+    cut-here : (shard : ℕ) → shard < g.shards → IsCut g restored blocks shard w.lines w.feeds l.work.acts (events_at_end g shard l.op l.work.noted) (seen_of g shard new.feeder)
+    cut-here shard below = cut-at l.work so.made shard below (events_at_end g shard l.op l.work.noted) (so.here shard below)
 
     all-cut : (shard : ℕ) → shard < g.shards → AreCut g restored blocks shard answered (seen_of g shard new.feeder)
     all-cut shard below k x at ends = elim (cases_lt k (length w.lines)) [
       | inl early ↦
-          subst (λ (fs : List FeedDone). IsCut g restored blocks shard (take k (w.lines ++ l ∷ [])) fs (events_of_feeder g.callers x.op) (seen_of g shard new.feeder)) (append-nil w.feeds)
+          subst (λ (fs : List FeedDone). IsCut g restored blocks shard (take k (w.lines ++ l ∷ [])) fs x.work.acts (events_at_end g shard x.op x.work.noted) (seen_of g shard new.feeder)) (append-nil w.feeds)
           (cut-before g restored blocks shard w.lines (l ∷ []) w.feeds [] (seen_of g shard new.feeder) few
           (cuts-more g restored blocks shard w.lines w.feeds (seen_of g shard old.feeder) (seen_of g shard new.feeder) (grown l.work so.made shard) (before.cut shard below)) k x at ends early)
       | inr late ↦
           let inside = slice_get_within (w.lines ++ l ∷ []) k x at in
           let last : k ≡ length w.lines = omega (arith, late, inside, length-append w.lines (l ∷ [])) in
           let is : x ≡ l = some-same x l (sym at ∙ (ap (slice_get (w.lines ++ l ∷ [])) (last ∙ omega arith) ∙ get-right w.lines (l ∷ []) 0)) in
-          subst (λ (y : List Line × Line). IsCut g restored blocks shard y.0 w.feeds (events_of_feeder g.callers y.1.op) (seen_of g shard new.feeder))
+          subst (λ (y : List Line × Line). IsCut g restored blocks shard y.0 w.feeds y.1.work.acts (events_at_end g shard y.1.op y.1.work.noted) (seen_of g shard new.feeder))
           (λ i. (sym (ap (λ (n : ℕ). take n (w.lines ++ l ∷ [])) last ∙ take-append_seam w.lines (l ∷ [])) i, sym is i)) (cut-here shard below)
     ]
       where
@@ -320,6 +363,14 @@ module _ {P D : Type 0} (pools : Ghosts P) (devices : Devices D) (cache : Cache)
 
 -- ---- a capacity
 
+-- a Resize stands for no act
+none-inserted : (n c d : ℕ) (b : Bool) → acts_of_events (with_number d (if b then (Resize n c ∷ []) else [])) ≡ []
+none-inserted n c d true = elim (cases_true (n == d)) [
+  | inl is ↦ rw is refl
+  | inr differs ↦ rw differs refl
+]
+none-inserted n c d false = refl
+
 pub cap-ends : (cache : Cache) (c : ℕ) (old new : Crew OnHeap) → old.feeder.number ≡ cache.config.callers → Resized cache c old.feeder old.parties.items new.feeder new.parties.items → new.kept.items ≡ old.kept.items
     → EndsSo cache (record { op = ops.Cap c; reply = Capped c; work = no_work }) (resizes_in cache.config.shards cache.config.callers c) old new
 cap-ends cache c old new number resized kept = record {
@@ -339,12 +390,14 @@ cap-ends cache c old new number resized kept = record {
     since = resized.since;
     told = λ acts noted told. subst (λ (x : List Act × List Noted). HasToldOthers cache.config x.0 x.1 new.feeder) (λ i. (sym (append-nil acts) i, sym (append-nil noted) i))
         (others-still cache.config acts noted old.feeder new.feeder resized.made told);
+    cells = resized.made.keeps.fronts;
+    inserted = λ shard i range. sym (none-inserted cache.config.callers c (cell_number cache.config i) (nat_lt shard cache.config.shards));
   };
   end = inl (c, refl, refl);
   ends = refl;
   fits = refl;
   feeds = λ shard below. ap (own_events cache.config.callers) (here shard below) ∙ own-resize cache.config.callers;
-  here = λ shard below. ([], here shard below ∙ sym (append-nil (Resize cache.config.callers c ∷ [])));
+  here = λ shard below. here shard below;
 }
   where
     here : (shard : ℕ) → shard < cache.config.shards → resizes_in cache.config.shards cache.config.callers c shard ≡ Resize cache.config.callers c ∷ []

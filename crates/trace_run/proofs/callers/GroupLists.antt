@@ -10,12 +10,12 @@ use Rattle.arc_core.specs.declared.event.Event.{Event}
 use Rattle.arc_core.specs.declared.served.Restored.{Restored}
 use Rattle.arc_table.specs.Fronts.{StartsWith}
 use Rattle.trace_text.specs.declared.op.Op.{Op}
-use Rattle.trace_run.specs.Acts.{events_of_feeder}
+use Rattle.arc_core.specs.Operations.{Act}
 use Rattle.trace_run.specs.FeedEvents.{feeds_told}
 use Rattle.trace_run.specs.Feeds.{FeedDone}
 use Rattle.trace_run.specs.Objects.{Line, ops_of, replies_of}
 use Rattle.trace_run.specs.Restores.{restores_in}
-use Rattle.trace_run.specs.callers.Together.{BeginsGroup, GroupLines, IsCut, ends_group, groups_begun, groups_of, with_first}
+use Rattle.trace_run.specs.callers.Together.{BeginsGroup, GroupLines, IsCut, ends_group, events_at_end, groups_begun, groups_of, with_first}
 use Rattle.trace_run.proofs.callers.LineLists.{AreInside}
 use Rattle.trace_run.proofs.feeds.FedLemmas.{lines-enough, told-front}
 
@@ -44,31 +44,35 @@ take-map f (suc k) (x ∷ xs) = ap (λ (ys : List _). f x ∷ ys) (take-map f k 
 -- these lines cut the history, each behind those before it
 abbrev pub Cuts : Config → List Restored → List Ptr → (shard : ℕ) → List Line → List FeedDone → (history : List Event) → Type 0
 Cuts config restored blocks shard ls fs history =
-    (k : ℕ) (l : Line) → slice_get ls k ≡ Some l → ends_group l.op ≡ true → IsCut config restored blocks shard (take k ls) fs (events_of_feeder config.callers l.op) history
+    (k : ℕ) (l : Line) → slice_get ls k ≡ Some l → ends_group l.op ≡ true → IsCut config restored blocks shard (take k ls) fs l.work.acts (events_at_end config shard l.op l.work.noted) history
 
 module _ (config : Config) (restored : List Restored) (blocks : List Ptr) (shard : ℕ) where
   -- behind what the feeder had seen
-  pub cut-more : (ls : List Line) (fs : List FeedDone) (here h g : List Event) → StartsWith g h → IsCut config restored blocks shard ls fs here h → IsCut config restored blocks shard ls fs here g
-  cut-more ls fs here h g starts cut = record {
+  pub cut-more : (ls : List Line) (fs : List FeedDone) (acts : List Act) (here : List Event → List Event) (h g : List Event) → StartsWith g h → IsCut config restored blocks shard ls fs acts here h → IsCut config restored blocks shard ls fs acts here g
+  cut-more ls fs acts here h g starts cut = record {
     front = cut.front;
     rest = cut.rest ++ starts.0;
     whole = starts.1
-        ∙ (ap (λ (l : List Event). l ++ starts.0) cut.whole ∙ (append_assoc cut.front (here ++ cut.rest) starts.0 ∙ ap (λ (l : List Event). cut.front ++ l) (append_assoc here cut.rest starts.0)));
+        ∙ (ap (λ (l : List Event). l ++ starts.0) cut.whole
+        ∙ (append_assoc cut.front (here cut.front ++ cut.rest) starts.0 ∙ ap (λ (l : List Event). cut.front ++ l) (append_assoc (here cut.front) cut.rest starts.0)));
     callers = cut.callers;
     feeder = cut.feeder;
+    inserted = cut.inserted;
   }
 
   pub cuts-more : (ls : List Line) (fs : List FeedDone) (h g : List Event) → StartsWith g h → Cuts config restored blocks shard ls fs h → Cuts config restored blocks shard ls fs g
-  cuts-more ls fs h g starts cut k l at ends = cut-more (take k ls) fs (events_of_feeder config.callers l.op) h g starts (cut k l at ends)
+  cuts-more ls fs h g starts cut k l at ends = cut-more (take k ls) fs l.work.acts (events_at_end config shard l.op l.work.noted) h g starts (cut k l at ends)
 
   -- where more feeds were made
-  cut-fed : (ls : List Line) (fs gs : List FeedDone) (here h : List Event) → feeds_told (ops_of ls) (replies_of ls) ≤ length fs → IsCut config restored blocks shard ls fs here h → IsCut config restored blocks shard ls (fs ++ gs) here h
-  cut-fed ls fs gs here h few cut = record {
+  cut-fed : (ls : List Line) (fs gs : List FeedDone) (acts : List Act) (here : List Event → List Event) (h : List Event) → feeds_told (ops_of ls) (replies_of ls) ≤ length fs → IsCut config restored blocks shard ls fs acts here h
+      → IsCut config restored blocks shard ls (fs ++ gs) acts here h
+  cut-fed ls fs gs acts here h few cut = record {
     front = cut.front;
     rest = cut.rest;
     whole = cut.whole;
     callers = cut.callers;
     feeder = cut.feeder ∙ ap (λ (l : List Event). restores_in config restored shard ++ l) (sym (lines-enough config shard (ops_of ls) (replies_of ls) fs gs few));
+    inserted = cut.inserted;
   }
 
   front-told : (k : ℕ) (ls : List Line) → feeds_told (ops_of (take k ls)) (replies_of (take k ls)) ≤ feeds_told (ops_of ls) (replies_of ls)
@@ -76,10 +80,11 @@ module _ (config : Config) (restored : List Restored) (blocks : List Ptr) (shard
 
   -- by lines that stand before others
   pub cut-before : (ls ms : List Line) (fs gs : List FeedDone) (h : List Event) → feeds_told (ops_of ls) (replies_of ls) ≤ length fs → Cuts config restored blocks shard ls fs h
-      → (k : ℕ) (l : Line) → slice_get (ls ++ ms) k ≡ Some l → ends_group l.op ≡ true → k < length ls → IsCut config restored blocks shard (take k (ls ++ ms)) (fs ++ gs) (events_of_feeder config.callers l.op) h
+      → (k : ℕ) (l : Line) → slice_get (ls ++ ms) k ≡ Some l → ends_group l.op ≡ true → k < length ls
+      → IsCut config restored blocks shard (take k (ls ++ ms)) (fs ++ gs) l.work.acts (events_at_end config shard l.op l.work.noted) h
   cut-before ls ms fs gs h told cut k l at ends below =
-      subst (λ (x : List Line). IsCut config restored blocks shard x (fs ++ gs) (events_of_feeder config.callers l.op) h) (sym (take-append-le k ls ms (omega (arith, below))))
-      (cut-fed (take k ls) fs gs (events_of_feeder config.callers l.op) h (omega (arith, told, front-told k ls)) (cut k l (sym (get-left ls ms k below) ∙ at) ends))
+      subst (λ (x : List Line). IsCut config restored blocks shard x (fs ++ gs) l.work.acts (events_at_end config shard l.op l.work.noted) h) (sym (take-append-le k ls ms (omega (arith, below))))
+      (cut-fed (take k ls) fs gs l.work.acts (events_at_end config shard l.op l.work.noted) h (omega (arith, told, front-told k ls)) (cut k l (sym (get-left ls ms k below) ∙ at) ends))
 
 -- ---- groups
 

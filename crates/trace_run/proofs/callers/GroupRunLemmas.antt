@@ -142,8 +142,8 @@ module _ {C : Type 0} (cache : Cache) (acts : ℕ → List Act) (noted : ℕ →
   gave-length n (k ∷ ks) (p ∷ ps) gave = ap suc (gave-length (suc n) ks ps gave.1)
 
 -- all parties have stopped once the callers gave back what they kept
-module _ {C : Type 0} (cache : Cache) (acts : ℕ → List Act) (noted : ℕ → List Noted) (openings : List (List ℕ)) (feeds since : (shard : ℕ) → List Event) (inserted : List Act) (synced : List Noted) (kept : List (List KeptBlock)) (all : List (Place (Known C))) (count : length kept ≡ cache.config.callers)
-    (gone : HaveGivenBack cache acts noted openings feeds since inserted synced kept all) where
+module _ {C : Type 0} (cache : Cache) (acts : ℕ → List Act) (noted : ℕ → List Noted) (openings : List (List ℕ)) (feeds since : (shard : ℕ) → List Event) (inserted : List Act) (synced : List Noted) (olds : List (Place (Known C))) (old : Place (Known C)) (kept : List (List KeptBlock)) (all : List (Place (Known C)))
+    (count : length kept ≡ cache.config.callers) (gone : HaveGivenBack cache acts noted openings feeds since inserted synced olds old kept all) where
   pub gone-long : length gone.callers ≡ cache.config.callers
   gone-long = gave-length cache acts noted 0 kept gone.callers gone.gave ∙ count
 

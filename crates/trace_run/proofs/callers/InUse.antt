@@ -44,7 +44,7 @@ module _ {D : Type 0} (devices : Ghosts D) where
   in-use-then (device.Ready a) (device.Ready b) device.None first second = absurd second
   in-use-then (device.Ready a) (device.Ready b) (device.Short c) first second = absurd second
 
-  lent-in-use : (a b : Device D) → WasLent devices a b → WasInUse devices a b
+  pub lent-in-use : (a b : Device D) → WasLent devices a b → WasInUse devices a b
   lent-in-use device.None device.None lent = tt
   lent-in-use (device.Short a) (device.Short b) lent = lent
   lent-in-use (device.Ready a) (device.Ready b) lent = (lent.2.size, lent.2.kind)

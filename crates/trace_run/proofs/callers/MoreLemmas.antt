@@ -27,7 +27,7 @@ use Rattle.trace_run.specs.declared.groups.Crew.{Crew}
 use Rattle.trace_run.specs.declared.kept_blocks.KeptBlock.{KeptBlock}
 use Rattle.trace_run.specs.Acts.{events_of_feeder}
 use Rattle.trace_run.specs.Deeds.{KeepsCells, Noted}
-use Rattle.trace_run.specs.FeedEvents.{feeds_told}
+use Rattle.trace_run.specs.FeedEvents.{AreFeedsTold, feeds_told}
 use Rattle.trace_run.specs.Feeds.{FeedDone, IsIdleFeeder, is_feed}
 use Rattle.trace_run.specs.KeptBlocks.{read_of}
 use Rattle.trace_run.specs.KeptReads.{KeptRead}
@@ -201,6 +201,7 @@ module _ {P D : Type 0} (m : Meanings OnHeap) (cache : Cache) (restored : List R
       (λ i. (sym (ap (λ (x : About). x.openings) fed.same.keeps.about) i, acts-same i, noted-same i))
       (fed-again cache old.feeder.own.about.openings restored os qs rs ss w.feeds did.beside.feeds (acts_of_syncs g blocks w) (noted_of_syncs w) old.feeder new.feeder g.callers long.0 before.did.fed told-more own same-length.0 before.feeder fed)
     where
+      told-more : AreFeedsTold g qs ss did.beside.feeds
       told-more = told-beside m devices cache blocks qs (length old.parties.items) (λ n. lines_of_caller n did.lines) ss a b old.feeder new.feeder did.beside
 
   -- ---- the cuts

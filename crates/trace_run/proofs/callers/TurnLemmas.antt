@@ -20,7 +20,7 @@ use Rattle.arc_table.specs.Geometry.{parties_of}
 use Rattle.arc_table.specs.Items.{Meanings}
 use Rattle.arc_table.specs.Seen.{HasAll, HasSeenItsEntries, events_in, seen_of, turn_of}
 use Rattle.arc_table.specs.Telling.{opening_of}
-use Rattle.trace_run.specs.Deeds.{HasToldAll, HasToldOthers, Noted}
+use Rattle.trace_run.specs.Deeds.{HasToldAll, HasToldOthers, KeepsCells, Noted}
 use Rattle.trace_run.proofs.deeds.DeedLemmas.{others-still, told-still}
 use Rattle.trace_run.proofs.deeds.MakesLemmas.{grown-same}
 use Rattle.arc_table.proofs.OwnLemmas.{no-own-moments, own-append}
@@ -183,6 +183,12 @@ module _ {C : Type 0} (m : Meanings C) (cache : Cache) (p : Place (Known C)) (ke
       listed = after.listed;
     }
 
+    last-cells : KeepsCells gk p last
+    last-cells = record {
+      about = about;
+      fronts = λ i in_range. subst (λ (x : List Line). StartsWith x (front_of i p.own.seen)) (sym (left.fronts i in_range)) (have.self.cells i in_range);
+    }
+
     -- the feeder's, which kept nothing
     last-fed : (openings : List (List ℕ)) (fed since : (shard : ℕ) → List Event) (acts : List Act) (noted : List Noted) → kept ≡ [] → IsFed cache openings fed since acts noted p → IsFed cache openings fed since acts noted last
     last-fed openings fed since acts noted none is = record {
@@ -235,6 +241,7 @@ module _ {C : Type 0} (m : Meanings C) (cache : Cache) (p : Place (Known C)) (ke
         are = refl;
         parted = subst (HaveParted cache lines others) (sym parted.0) (all-parted-from others have.all differ);
         level = subst (IsLevel gk lines) (sym parted.1) (λ shard. refl);
+        cells = subst (KeepsCells gk p) (sym parted.1) last-cells;
         gave = λ n acts noted waits. subst (Waits cache n (acts ++ acts_of_drops n reads) noted []) (sym parted.1) (last-waits n acts noted waits);
         fed = λ openings fed since acts noted none is. subst (IsFed cache openings fed since acts noted) (sym parted.1) (last-fed openings fed since acts noted none is);
         drops = λ before own rest shard. drops shard ∙ ap (λ (l : List Line). events_in l ++ events_of_drops p.number (holds_in gk shard reads)) (have.level before own rest shard);

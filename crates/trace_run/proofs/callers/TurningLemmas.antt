@@ -14,11 +14,12 @@ use Rattle.arc_table.specs.Seen.{events_in}
 use Rattle.trace_run.specs.declared.kept_blocks.KeptBlock.{KeptBlock}
 use Rattle.trace_run.specs.Acts.{acts_of_drops}
 use Rattle.trace_run.specs.KeptBlocks.{holds_in, read_of}
-use Rattle.trace_run.specs.Deeds.{Noted}
-use Rattle.trace_run.specs.Meeting.{AllGave, AreWaiting, FirstGaveBack, FirstMayGoOn, GaveBackJoined, HasParted, HaveGivenBack, HaveParted, IsApart, IsFed, IsLevel, MayGoOn, Waits, drops_from}
+use Rattle.trace_run.specs.Deeds.{KeepsCells, Noted}
+use Rattle.trace_run.specs.Meeting.{AllGave, AllKeepCells, AreWaiting, FirstGaveBack, FirstMayGoOn, GaveBackJoined, HasParted, HaveGivenBack, HaveParted, IsApart, IsFed, IsLevel, MayGoOn, Waits, drops_from}
 use Rattle.trace_run.specs.one_caller.OneCaller.{events_of_drops}
 use Rattle.trace_run.proofs.callers.AfterEnds.{last-same}
 use Rattle.trace_run.proofs.callers.MeetLemmas.{parted-fed, parted-waits}
+use Rattle.trace_run.proofs.deeds.MakesLemmas.{keeps-then}
 
 -- ---- the first of the parties
 
@@ -68,7 +69,52 @@ drops-last g shard n m (j ∷ ks) k is =
 number-there : (all gone : List (List KeptBlock)) (k : List KeptBlock) (ks : List (List KeptBlock)) → all ≡ gone ++ k ∷ ks → length all ≡ length gone + suc (length ks)
 number-there all gone k ks is = ap length is ∙ length-append gone (k ∷ ks)
 
-module _ {C : Type 0} (cache : Cache) (acts : ℕ → List Act) (noted : ℕ → List Noted) (openings : List (List ℕ)) (feeds since : (shard : ℕ) → List Event) (inserted : List Act) (synced : List Noted) where
+-- ---- what is known of cells
+
+module _ {C : Type 0} (g : Config) where
+  all-keep-then : (ps qs xs : List (Place (Known C))) → AllKeepCells g ps qs → AllKeepCells g qs xs → AllKeepCells g ps xs
+  all-keep-then [] [] [] first second = tt
+  all-keep-then [] [] (x ∷ xs) first second = absurd second
+  all-keep-then [] (q ∷ qs) xs first second = absurd first
+  all-keep-then (p ∷ ps) [] xs first second = absurd first
+  all-keep-then (p ∷ ps) (q ∷ qs) [] first second = absurd second
+  all-keep-then (p ∷ ps) (q ∷ qs) (x ∷ xs) first second = (keeps-then g p q x first.0 second.0, all-keep-then ps qs xs first.1 second.1)
+
+  all-keep-two : (ps xs qs ys : List (Place (Known C))) → AllKeepCells g ps xs → AllKeepCells g qs ys → AllKeepCells g (ps ++ qs) (xs ++ ys)
+  all-keep-two [] [] qs ys first second = second
+  all-keep-two [] (x ∷ xs) qs ys first second = absurd first
+  all-keep-two (p ∷ ps) [] qs ys first second = absurd first
+  all-keep-two (p ∷ ps) (x ∷ xs) qs ys first second = (first.0, all-keep-two ps xs qs ys first.1 second)
+
+  none-keeps : (ps : List (Place (Known C))) → AllKeepCells g ps [] → ps ≡ []
+  none-keeps [] keeps = refl
+  none-keeps (p ∷ ps) keeps = absurd keeps
+
+  -- Parties were these at first, of callers and of the feeder: the callers that have given back and are these, and those that wait and are these. Each knows and has seen of cells at least what it had.
+  pub record Keeping (olds : List (Place (Known C))) (old : Place (Known C)) (waiting : List (Place (Known C))) (feeder : Place (Known C)) (done : List (Place (Known C))) : Type 0 where
+    pub went : List (Place (Known C))
+    pub behind : List (Place (Known C))
+    pub were : olds ≡ went ++ behind
+    pub behind_cells : AllKeepCells g behind waiting
+    pub gone_cells : AllKeepCells g went done
+    pub fed_cells : KeepsCells g old feeder
+
+  keeping-then : (olds : List (Place (Known C))) (old p last : Place (Known C)) (waiting left done gone : List (Place (Known C))) (feeder fed : Place (Known C)) → KeepsCells g p last → AllKeepCells g waiting left → AllKeepCells g done gone → KeepsCells g feeder fed
+      → Keeping olds old (p ∷ waiting) feeder done → Keeping olds old left fed (gone ++ last ∷ [])
+  keeping-then olds old p last waiting left done gone feeder fed one others before its k = go k.behind k.were k.behind_cells
+    where
+      go : (behind : List (Place (Known C))) → olds ≡ k.went ++ behind → AllKeepCells g behind (p ∷ waiting) → Keeping olds old left fed (gone ++ last ∷ [])
+      go [] were cells = absurd cells
+      go (o ∷ os) were cells = record {
+        went = k.went ++ o ∷ [];
+        behind = os;
+        were = were ∙ sym (append_assoc k.went (o ∷ []) os);
+        behind_cells = all-keep-then os waiting left cells.1 others;
+        gone_cells = all-keep-two k.went gone (o ∷ []) (last ∷ []) (all-keep-then k.went done gone k.gone_cells before) (keeps-then g o p last cells.0 one, tt);
+        fed_cells = keeps-then g old feeder fed k.fed_cells its;
+      }
+
+module _ {C : Type 0} (cache : Cache) (acts : ℕ → List Act) (noted : ℕ → List Noted) (openings : List (List ℕ)) (feeds since : (shard : ℕ) → List Event) (inserted : List Act) (synced : List Noted) (olds : List (Place (Known C))) (old : Place (Known C)) where
   -- ---- callers that wait, by their numbers
 
   waiting-apart : (n : ℕ) (ks : List (List KeptBlock)) (ps : List (Place (Known C))) → AreWaiting cache acts noted n ks ps → AllByRecursion (IsApart cache) ps
@@ -144,6 +190,13 @@ module _ {C : Type 0} (cache : Cache) (acts : ℕ → List Act) (noted : ℕ →
   parted-gave lines n [] (o ∷ os) (x ∷ xs) parted gave = absurd gave
   parted-gave lines n (k ∷ ks) (o ∷ os) (x ∷ xs) parted gave = (parted-waits cache lines o x parted.0 n (acts n ++ acts_of_drops n (map read_of k)) (noted n) [] gave.0, parted-gave lines (suc n) ks os xs parted.1 gave.1)
 
+  -- and each knows and has seen of cells at least what it had
+  parted-cells : (lines : ℕ → List Line) (os xs : List (Place (Known C))) → HaveParted cache lines os xs → AllByRecursion (IsApart cache) os → AllKeepCells cache.config os xs
+  parted-cells lines [] [] parted apart = tt
+  parted-cells lines [] (x ∷ xs) parted apart = absurd parted
+  parted-cells lines (o ∷ os) [] parted apart = absurd parted
+  parted-cells lines (o ∷ os) (x ∷ xs) parted apart = ((parted.0.same apart.0.0 apart.0.1).keeps, parted-cells lines os xs parted.1 apart.1)
+
   parted-split : (lines : ℕ → List Line) (os : List (Place (Known C))) (o : Place (Known C)) (us xs : List (Place (Known C))) → HaveParted cache lines (os ++ o ∷ us) xs
       → (ys : List (Place (Known C))) × (y : Place (Known C)) × (zs : List (Place (Known C))) × (xs ≡ ys ++ y ∷ zs) × HaveParted cache lines os ys × HasParted cache lines o y × HaveParted cache lines us zs
   parted-split lines [] o us [] parted = absurd parted
@@ -166,6 +219,7 @@ module _ {C : Type 0} (cache : Cache) (acts : ℕ → List Act) (noted : ℕ →
     pub waits : AreWaiting cache acts noted (length gone) left waiting
     pub fed : IsFed cache openings feeds since inserted synced feeder
     pub gave : AllGave cache acts noted 0 gone done
+    pub keeps : Keeping cache.config olds old waiting feeder done
     pub first : ℕ → List Event
     pub lines : ℕ → List Line
     pub level : AllByRecursion (IsLevel cache.config lines) ps
@@ -196,7 +250,7 @@ module _ {C : Type 0} (cache : Cache) (acts : ℕ → List Act) (noted : ℕ →
         waiting-below n m (k ∷ ks) (p ∷ ps) below waits = ((λ is. let number = waits.0.number in absurd (omega (arith, is, number, below))), waiting-below (suc n) m ks ps (omega (arith, below)) waits.1)
 
     -- behind all of it the feeder may go on, with whom all have given back
-    pub may-end : (all : List (List KeptBlock)) (ps rest : List (Place (Known C))) (feeder : Place (Known C)) → length all ≡ cache.config.callers → ps ≡ rest ++ feeder ∷ [] → HaveGivenBack cache acts noted openings feeds since inserted synced all ps → MayGoOn cache [] feeder rest
+    pub may-end : (all : List (List KeptBlock)) (ps rest : List (Place (Known C))) (feeder : Place (Known C)) → length all ≡ cache.config.callers → ps ≡ rest ++ feeder ∷ [] → HaveGivenBack cache acts noted openings feeds since inserted synced olds old all ps → MayGoOn cache [] feeder rest
     may-end all ps rest feeder count are gone = subst (λ (x : List (Place (Known C)) × Place (Known C)). MayGoOn cache [] x.1 x.0) (λ i. (sym same.0 i, sym same.1 i)) record {
       stands = gone.fed.stands;
       alone = gone.fed.alone;
@@ -212,21 +266,22 @@ module _ {C : Type 0} (cache : Cache) (acts : ℕ → List Act) (noted : ℕ →
         same : (rest ≡ gone.callers) × (feeder ≡ gone.feeder)
         same = last-same rest gone.callers feeder gone.feeder (sym are ∙ gone.are)
 
-    pub begun : (all : List (List KeptBlock)) (ps : List (Place (Known C))) (feeder : Place (Known C)) (news : List (Place (Known C))) → length all ≡ cache.config.callers → AreWaiting cache acts noted 0 all ps → IsFed cache openings feeds since inserted synced feeder
-        → GaveBackJoined cache feeder [] ps news → Turning all all news
-    begun all ps feeder news count waits fed b = record {
+    pub begun : (all : List (List KeptBlock)) (news : List (Place (Known C))) → length all ≡ cache.config.callers → AreWaiting cache acts noted 0 all olds → IsFed cache openings feeds since inserted synced old
+        → GaveBackJoined cache old [] olds news → Turning all all news
+    begun all news count waits fed b = record {
       gone = [];
       parts = refl;
       waiting = b.rest;
       feeder = b.last;
       done = [];
       are = b.are;
-      waits = parted-waiting b.lines 0 all ps b.rest b.parted waits;
+      waits = parted-waiting b.lines 0 all olds b.rest b.parted waits;
       fed = b.fed openings feeds since inserted synced refl fed;
       gave = tt;
+      keeps = record { went = []; behind = olds; were = refl; behind_cells = parted-cells b.lines olds b.rest b.parted (waiting-apart 0 all olds waits); gone_cells = tt; fed_cells = b.cells };
       first = λ shard. events_in (b.lines shard);
       lines = b.lines;
-      level = subst (AllByRecursion (IsLevel cache.config b.lines)) (sym b.are) (all-append (IsLevel cache.config b.lines) b.rest (b.last ∷ []) (parted-level b.lines ps b.rest b.parted) (b.level, tt));
+      level = subst (AllByRecursion (IsLevel cache.config b.lines)) (sym b.are) (all-append (IsLevel cache.config b.lines) b.rest (b.last ∷ []) (parted-level b.lines olds b.rest b.parted) (b.level, tt));
       drops = λ shard. sym (append-nil (events_in (b.lines shard)));
     }
 
@@ -264,8 +319,8 @@ module _ {C : Type 0} (cache : Cache) (acts : ℕ → List Act) (noted : ℕ →
       next-then : (gone : List (List KeptBlock)) (p : Place (Known C)) (waiting : List (Place (Known C))) (feeder : Place (Known C)) (done news : List (Place (Known C))) (first : ℕ → List Event) (lines : ℕ → List Line)
           → all ≡ gone ++ k ∷ ks → Waits cache (length gone) (acts (length gone)) (noted (length gone)) k p → AreWaiting cache acts noted (suc (length gone)) ks waiting → IsFed cache openings feeds since inserted synced feeder → AllGave cache acts noted 0 gone done
           → IsLevel cache.config lines p → AllByRecursion (IsLevel cache.config lines) (waiting ++ feeder ∷ done) → ((shard : ℕ) → events_in (lines shard) ≡ first shard ++ drops_from cache.config shard 0 gone)
-          → GaveBackJoined cache p k (waiting ++ feeder ∷ done) news → Turning all ks news
-      next-then gone p waiting feeder done news first lines is one waits fed gave own_level level drops b =
+          → Keeping cache.config olds old (p ∷ waiting) feeder done → GaveBackJoined cache p k (waiting ++ feeder ∷ done) news → Turning all ks news
+      next-then gone p waiting feeder done news first lines is one waits fed gave own_level level drops keeps b =
           let h = parted-split b.lines waiting feeder done b.rest b.parted in
           let number : ℕ = length gone in
           record {
@@ -278,6 +333,8 @@ module _ {C : Type 0} (cache : Cache) (acts : ℕ → List Act) (noted : ℕ →
             waits = subst (λ (n : ℕ). AreWaiting cache acts noted n ks h.0) (let n : suc number ≡ length (gone ++ k ∷ []) = omega (arith, length-append gone (k ∷ [])) in n) (parted-waiting b.lines (suc number) ks waiting h.0 h.4 waits);
             fed = parted-fed cache b.lines feeder h.1 h.5 openings feeds since inserted synced fed;
             gave = gave-last 0 number gone h.2 k b.last (omega arith) (parted-gave b.lines 0 gone done h.2 h.6 gave) (b.gave number (acts number) (noted number) one);
+            keeps = keeping-then cache.config olds old p b.last waiting h.0 done h.2 feeder h.1 b.cells (parted-cells b.lines waiting h.0 h.4 (waiting-apart (suc number) ks waiting waits)) (parted-cells b.lines done h.2 h.6 (gave-apart 0 gone done gave))
+                (h.5.same [] fed.stands).keeps keeps;
             first = first;
             lines = b.lines;
             level = subst (AllByRecursion (IsLevel cache.config b.lines)) (sym b.are) (all-append (IsLevel cache.config b.lines) b.rest (b.last ∷ []) (parted-level b.lines (waiting ++ feeder ∷ done) b.rest b.parted) (b.level, tt));
@@ -289,22 +346,26 @@ module _ {C : Type 0} (cache : Cache) (acts : ℕ → List Act) (noted : ℕ →
           }
 
       pub turned : (ps news : List (Place (Known C))) → Turning all (k ∷ ks) ps → FirstGaveBack cache k ps news → Turning all ks news
-      turned ps news t gave = go t.waiting t.waits (subst (AllByRecursion (IsLevel cache.config t.lines)) t.are t.level) (subst (λ (l : List (Place (Known C))). FirstGaveBack cache k l news) t.are gave)
+      turned ps news t gave = go t.waiting t.waits t.keeps (subst (AllByRecursion (IsLevel cache.config t.lines)) t.are t.level) (subst (λ (l : List (Place (Known C))). FirstGaveBack cache k l news) t.are gave)
         where
-          go : (waiting : List (Place (Known C))) → AreWaiting cache acts noted (length t.gone) (k ∷ ks) waiting → AllByRecursion (IsLevel cache.config t.lines) (waiting ++ t.feeder ∷ t.done) → FirstGaveBack cache k (waiting ++ t.feeder ∷ t.done) news → Turning all ks news
-          go [] waits level gave = absurd waits
-          go (p ∷ waiting) waits level gave = next-then t.gone p waiting t.feeder t.done news t.first t.lines t.parts waits.0 waits.1 t.fed t.gave level.0 level.1 t.drops gave
+          go : (waiting : List (Place (Known C))) → AreWaiting cache acts noted (length t.gone) (k ∷ ks) waiting → Keeping cache.config olds old waiting t.feeder t.done → AllByRecursion (IsLevel cache.config t.lines) (waiting ++ t.feeder ∷ t.done)
+              → FirstGaveBack cache k (waiting ++ t.feeder ∷ t.done) news → Turning all ks news
+          go [] waits keeps level gave = absurd waits
+          go (p ∷ waiting) waits keeps level gave = next-then t.gone p waiting t.feeder t.done news t.first t.lines t.parts waits.0 waits.1 t.fed t.gave level.0 level.1 t.drops keeps gave
 
   -- the feeder's party goes behind the callers'
-  pub turned-all : (all : List (List KeptBlock)) (ps rest news : List (Place (Known C))) (feeder : Place (Known C)) → Turning all [] ps → feeder ≡ get_or ps 0 feeder → rest ≡ remove ps 0 → news ≡ rest ++ feeder ∷ [] → HaveGivenBack cache acts noted openings feeds since inserted synced all news
-  turned-all all ps rest news feeder t first_is rest_are are = go t.waiting t.waits t.are
+  pub turned-all : (all : List (List KeptBlock)) (ps rest news : List (Place (Known C))) (feeder : Place (Known C)) → Turning all [] ps → feeder ≡ get_or ps 0 feeder → rest ≡ remove ps 0 → news ≡ rest ++ feeder ∷ []
+      → HaveGivenBack cache acts noted openings feeds since inserted synced olds old all news
+  turned-all all ps rest news feeder t first_is rest_are are = go t.waiting t.waits t.keeps t.are
     where
       whole : t.gone ≡ all
       whole = sym (append-nil t.gone) ∙ sym t.parts
 
-      go : (waiting : List (Place (Known C))) → AreWaiting cache acts noted (length t.gone) [] waiting → ps ≡ waiting ++ t.feeder ∷ t.done → HaveGivenBack cache acts noted openings feeds since inserted synced all news
-      go (p ∷ waiting) waits is = absurd waits
-      go [] waits is =
+      go : (waiting : List (Place (Known C))) → AreWaiting cache acts noted (length t.gone) [] waiting → Keeping cache.config olds old waiting t.feeder t.done → ps ≡ waiting ++ t.feeder ∷ t.done
+          → HaveGivenBack cache acts noted openings feeds since inserted synced olds old all news
+      go (p ∷ waiting) waits keeps is = absurd waits
+      go [] waits keeps is =
+          let all_went : olds ≡ keeps.went = keeps.were ∙ (ap (λ (l : List (Place (Known C))). keeps.went ++ l) (none-keeps cache.config keeps.behind keeps.behind_cells) ∙ append-nil keeps.went) in
           let f : feeder ≡ t.feeder = first_is ∙ ap (λ (l : List (Place (Known C))). get_or l 0 feeder) is in
           let r : rest ≡ t.done = rest_are ∙ ap (λ (l : List (Place (Known C))). remove l 0) is in
           let level = subst (AllByRecursion (IsLevel cache.config t.lines)) is t.level in
@@ -315,6 +376,8 @@ module _ {C : Type 0} (cache : Cache) (acts : ℕ → List Act) (noted : ℕ →
             are = n;
             gave = subst (λ (l : List (List KeptBlock)). AllGave cache acts noted 0 l t.done) whole t.gave;
             fed = t.fed;
+            cells = subst (λ (l : List (Place (Known C))). AllKeepCells cache.config l t.done) (sym all_went) keeps.gone_cells;
+            fed_cells = keeps.fed_cells;
             first = t.first;
             lines = t.lines;
             level = subst (AllByRecursion (IsLevel cache.config t.lines)) (sym n) (all-append (IsLevel cache.config t.lines) t.done (t.feeder ∷ []) level.1 (level.0, tt));

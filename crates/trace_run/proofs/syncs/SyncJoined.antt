@@ -1,19 +1,22 @@
--- The feeder syncs while all other parties have joined it: what it and they are then. No line makes a block dirty yet, so nothing is written.
-use Rattle.std.proofs.Common.{◌≡◌, ◌≢◌, ◌⊎◌, ℕ, zero, suc, ◌+◌, ◌<◌, ◌≤◌, true, List, [], ◌∷◌, ◌++◌, length, map, Option, Some, None, Result, Ok, Err, refl, sym, ap, ◌∙◌, subst, inl, inr, arith, append-nil}
+-- The feeder syncs while all other parties have joined it: what it and they are then. And where no line made a block dirty, nothing is written.
+use Rattle.std.proofs.Common.{◌≡◌, ◌≢◌, ◌⊎◌, ℕ, zero, suc, ◌+◌, ◌<◌, ◌≤◌, true, false, List, [], ◌∷◌, ◌++◌, length, map, Option, Some, None, Result, Ok, Err, refl, sym, ap, ◌∙◌, subst, inl, inr, arith}
 use Rattle.std.specs.Prelude.{slice_get, slice_index_or}
 use Rattle.std.specs.List.{AllByRecursion}
+use Rattle.std.proofs.lemmas.Bool.{false≢true}
+use Rattle.std.proofs.lemmas.List.Elements.{All-from_recursion, recursion_from_All}
+use Rattle.std.proofs.lemmas.List.Sorted.{All-permutation}
 use Rattle.std.proofs.lemmas.Option.{slice_get_within}
-use mathlib.Core.Option.{some}
-use lib.ListN.{get_elem?}
+use Rattle.blk_ptr.specs.Hash.{shard_of}
 use Rattle.arc_core.specs.declared.config.Config.{Config}
-use Rattle.turn_table.specs.declared.standing.Kept.{Kept}
-use Rattle.turn_table.specs.Places.{Apart, SomeHas}
-use Rattle.arc_table.specs.declared.view.Known.{Known}
+use Rattle.arc_core.specs.Operations.{Act, Tell, acts_in, moments, own_moments}
+use Rattle.turn_table.specs.Places.{SomeHas}
+use Rattle.arc_table.specs.declared.view.Ledger.{Ledger}
 use Rattle.arc_table.specs.declared.view.Mine.{Mine}
 use Rattle.arc_table.specs.Cache.{Cache, IsPartyOf}
 use Rattle.arc_table.specs.Fronts.{list_at, front_of}
 use Rattle.arc_table.specs.Geometry.{IsCell, parties_of}
-use Rattle.arc_table.specs.Seen.{AreSeen, HasAll, seen_of}
+use Rattle.arc_table.specs.Seen.{AreSeen, HasAll, events_in, seen_of, turn_of, AreEntriesSeen}
+use Rattle.arc_table.specs.Telling.{opening_of}
 use Rattle.dbuf_cells.specs.Turns.{KeepsClaims, OnHeap, PartyPlace, dbuf_meanings}
 use Rattle.dbuf_cells.specs.declared.kept.Kept.{Kept as Block}
 use Rattle.dbuf_state.specs.Dbufs.{dirty_oids, is_clean, plain_block, plain_dbuf}
@@ -25,27 +28,35 @@ use Rattle.dbuf_state.specs.declared.dbuf.Content.{Content}
 use Rattle.dbuf_state.specs.declared.dbuf.Content.TheVariants.{Clean, Dirty}
 use Rattle.dbuf_state.specs.declared.dbuf.Dbuf.{Dbuf}
 use Rattle.dbuf_state.specs.declared.event.CellEvent.{CellEvent}
+use Rattle.dbuf_state.specs.declared.oid.Oid.{Oid}
 use Rattle.dbuf_state.specs.declared.state.DbState.{DbState}
 use Rattle.dbuf_state.specs.declared.state.Mapping.{Mapping}
-use Rattle.txg_sync.specs.Items.{SyncItem, due_in, dues_from, items_from, need_of, tells_written}
-use Rattle.txg_sync.specs.Syncing.{AnswersSync, AreAllDirty, IsUnharmed, RefusedAt, RefusedFirst, Same, StopsAt, WritesAll}
+use Rattle.txg_sync.specs.Items.{SyncItem, bytes_of_due, due_in, dues_from, items_from, need_of, tells_written}
+use Rattle.txg_sync.specs.Syncing.{AnswersSync, AnswersWith, AreAllDirty, IsFull, IsUnharmed, RefusedAt, RefusedFirst, Same, StopsAt}
 use Rattle.txg_sync.specs.declared.syncing.SyncFault.{SyncFault}
 use Rattle.txg_sync.specs.declared.syncing.SyncFault.TheVariants as fault
 use Rattle.txg_sync.specs.declared.syncing.Synced.{Synced}
 use Rattle.vdev_io.specs.declared.pool.Pool.{Ghosts}
-use Rattle.trace_run.specs.callers.Group.{LeavesPool}
-use Rattle.txg_sync.specs.Turns.{GivesFrom, SyncsCells}
+use Rattle.txg_sync.specs.Turns.{SyncsCells, synced_in}
 use Rattle.txg_sync.specs.declared.due.Due.{Due}
-use Rattle.trace_run.specs.KeptBlocks.{AllQuiet, Stands, times}
+use Rattle.trace_run.specs.callers.Group.{LeavesPool}
+use Rattle.trace_run.specs.Deeds.{HasToldOthers, Noted, events_of_cell, lines_of_cell}
+use Rattle.trace_run.specs.KeptBlocks.{Stands}
 use Rattle.trace_run.specs.Making.{AreNoEntries}
-use Rattle.trace_run.specs.Meeting.{AreLast, IsApart, JoinAll, MadeJoined, PartAll}
-use Rattle.trace_run.specs.Syncing.{SyncedJoined, SyncsJoined, inserts_in, lines_of}
-use Rattle.trace_run.proofs.CellEnds.{IsUntouched, nothing-from}
-use Rattle.trace_run.proofs.CellsLeft.{LeavesCells}
-use Rattle.trace_run.proofs.EndSteps.{have, q-stands, untouched as untouched-by}
-use Rattle.trace_run.proofs.ResizeLemmas.{HasMade, last-of, made-joined, parted, q-all}
-use Rattle.trace_run.proofs.syncs.SyncSteps.{AreFound, AreInHand, HasGivenCells, HasTaken, HaveSameHistories, IsFound, IsQuiet, all-given, all-taken, quiet-then}
-use Rattle.trace_run.proofs.callers.MeetLemmas.{own-seen-more}
+use Rattle.trace_run.specs.Meeting.{AreLast, HasLearned, IsApart, JoinAll, PartAll}
+use Rattle.trace_run.specs.Syncing.{SyncedJoined, SyncsJoined, inserts_in, lines_of, wants_memory, HasDoneTo}
+use Rattle.trace_run.proofs.CellEnds.{HasEndedSome, nothing-from}
+use Rattle.trace_run.proofs.deeds.DeedLemmas.{all-both, others-still}
+use Rattle.trace_run.proofs.deeds.MakesLemmas.{grown-same}
+use Rattle.trace_run.proofs.EndSteps.{all-parted-then, have, last-from, last-stands, lines, one-front, parted, q-all, q-stands, untouched as untouched-by}
+use Rattle.trace_run.proofs.syncs.SyncInserts.{HasInserted}
+use Rattle.trace_run.proofs.syncs.SyncSteps.{AreFound, HasTaken, IsFound, all-taken}
+use Rattle.trace_run.proofs.syncs.SyncWrites.{all-synced, cell-front, inserts, synced-cells, synced-front, synced-made, synced-mine, synced-picks, synced-shards, taken}
+use Rattle.trace_run.proofs.syncs.SyncTold.{others-synced}
+use Rattle.trace_run.proofs.callers.MeetLemmas.{HaveJoined, left_alone, own-seen-more, parted_from, starts-events, joined_of, starts-then}
+use Rattle.trace_run.proofs.syncs.SyncOwned.{AreDoneFrom, DidSo, IsDone}
+use Rattle.trace_run.specs.MadeLines.{made_from, made_of}
+use Rattle.trace_run.specs.CellEnds.{done_by}
 
 -- ---- cells to which nothing was done have no dirty block
 
@@ -76,10 +87,38 @@ none-among cells dues none dirty = nothing-from (dues_from 0 cells) dues none di
 
 -- ---- the sync
 
+-- each dirty block is of one of these cells
+below-from : (i : ℕ) (cs : List OnHeap) → AllByRecursion (λ due. due.cell < i + length cs) (dues_from i cs)
+below-from i [] = tt
+below-from i (c ∷ cs) =
+    let z : suc i + length cs ≡ i + suc (length cs) = omega arith in
+    all-both (λ due. due.cell < i + length (c ∷ cs)) (map (due_in i) (dirty_oids c.value.dbufs)) (dues_from (suc i) cs) (here (dirty_oids c.value.dbufs))
+    (subst (λ (n : ℕ). AllByRecursion (λ due. due.cell < n) (dues_from (suc i) cs)) z (below-from (suc i) cs))
+  where
+    here : (oids : List Oid) → AllByRecursion (λ due. due.cell < i + suc (length cs)) (map (due_in i) oids)
+    here [] = tt
+    here (at ∷ oids) = (omega arith, here oids)
+
+-- each of these blocks is of one of the cells
+module _ (g : Config) (cells : List OnHeap) (all : length cells ≡ g.cells) where
+  dues-inside : (dues : List Due) → AreAllDirty cells dues → AllByRecursion (λ due. IsCell g due.cell) dues
+  dues-inside dues dirty =
+      let z : 0 + length cells ≡ length cells = omega arith in
+      let below = subst (λ (n : ℕ). AllByRecursion (λ due. due.cell < n) (dues_from 0 cells)) z (below-from 0 cells) in
+      subst (λ (n : ℕ). AllByRecursion (λ due. due.cell < n) dues) all
+      (recursion_from_All (λ due. due.cell < length cells) dues (All-permutation (λ due. due.cell < length cells) (dues_from 0 cells) dues dirty.all (All-from_recursion (λ due. due.cell < length cells) (dues_from 0 cells) below)))
+
+  front-inside : (done rest : List Due) → AllByRecursion (λ due. IsCell g due.cell) (done ++ rest) → AllByRecursion (λ due. IsCell g due.cell) done
+  front-inside [] rest each = tt
+  front-inside (due ∷ done) rest each = (each.0, front-inside done rest each.1)
+
+  items-inside : (group place : ℕ) (dues : List Due) → AllByRecursion (λ due. IsCell g due.cell) dues → AllByRecursion (λ x. IsCell g x.due.cell) (items_from group place cells dues)
+  items-inside group place [] each = tt
+  items-inside group place (due ∷ dues) each = (each.0, items-inside group (place + length (bytes_of_due cells due)) dues each.1)
+
 module _ (cache : Cache) (p : PartyPlace) (others : List PartyPlace) (stands : Stands cache p []) (alone : p.joined ≡ [])
     (apart : AllByRecursion (IsApart cache) others) (everyone : (n : ℕ) → n < parties_of cache.config → SomeHas n (p ∷ others)) (count : p.parties ≡ parties_of cache.config)
-    (differ : AllByRecursion (λ o. o.number ≢ p.number) others) (q : PartyPlace) (joins : JoinAll dbuf_meanings others p q)
-    (unwritten : AllByRecursion (λ o. AreNoEntries cache.config o.own.mine) (p ∷ others)) where
+    (differ : AllByRecursion (λ o. o.number ≢ p.number) others) (q : PartyPlace) (joins : JoinAll dbuf_meanings others p q) where
   abbrev g : Config
   g = cache.config
 
@@ -87,28 +126,16 @@ module _ (cache : Cache) (p : PartyPlace) (others : List PartyPlace) (stands : S
   stood = q-stands cache p others stands alone apart everyone count differ q joins
 
   has-all : HasAll q
-  has-all = q-all dbuf_meanings cache p others stands alone apart everyone count differ q joins
+  has-all = q-all cache p others stands alone apart everyone count differ q joins
 
-  -- nothing was done to a cell before
-  unused : IsUntouched g 0 q
-  unused = untouched-by cache p others stands alone apart everyone count differ q joins unwritten.0 unwritten.1
+  abbrev met : HaveJoined dbuf_meanings cache p others q
+  met = have cache p others stands alone apart everyone count differ q joins
 
-  module _ (tick : ℕ) (cells : List OnHeap) (xs : List SyncItem) (Besides : PartyPlace → PartyPlace → Type 0) (r : PartyPlace) (s : SyncsCells g tick cells xs Besides q r) where
-    taken : HasTaken g stands.valid 0 cells q s.taken
-    taken = all-taken g stands.valid 0 cells q s.taken (let e = s.all in omega arith) stood.of.config stood.seen has-all stood.cells s.takes
+  -- ---- whatever is dirty
 
-    no-history : AllByRecursion (λ c. c.value.history ≡ []) cells
-    no-history = taken.fresh unused
-
-    -- no block is dirty
-    pub nothing-due : dues_from 0 cells ≡ []
-    nothing-due = no-dues 0 cells q taken.found no-history
-
-    pub nothing-written : (dues : List Due) → AreAllDirty cells dues → dues ≡ []
-    nothing-written dues dirty = none-among cells dues nothing-due dirty
-
-    pub cells-count : length cells ≡ g.cells
-    cells-count = s.all
+  module _ (feeder : p.number ≡ g.callers) (r : PartyPlace) (of : IsPartyOf cache r) (free : r.held ≡ []) (claims : KeepsClaims q r) (numbers : List ℕ) (numbers_are : numbers ≡ map (λ o. o.number) others) (tick : ℕ) where
+    low : q.number < parties_of g
+    low = let n = met.number in omega (arith, n, feeder)
 
     found-at : (i k : ℕ) (cs : List OnHeap) (c : OnHeap) → AreFound i q cs → slice_get cs k ≡ Some c → IsFound (i + k) q c
     found-at i k [] c found at = cc
@@ -120,140 +147,207 @@ module _ (cache : Cache) (p : PartyPlace) (others : List PartyPlace) (stands : S
         let z : suc i + k ≡ i + suc k = omega arith in
         subst (λ (n : ℕ). IsFound n q c) z (found-at (suc i) k cs c found.1 at)
 
+    done-at : (i k : ℕ) (cs : List OnHeap) (c : OnHeap) → AreDoneFrom g i q cs → slice_get cs k ≡ Some c → IsDone g (i + k) q c
+    done-at i k [] c done at = cc
+    done-at i zero (x ∷ cs) c done at =
+        let is : x ≡ c = cc in
+        let z : i ≡ i + zero = omega arith in
+        subst (λ (y : ℕ × OnHeap). IsDone g y.0 q y.1) (λ w. (z w, is w)) done.0
+    done-at i (suc k) (x ∷ cs) c done at =
+        let z : suc i + k ≡ i + suc k = omega arith in
+        subst (λ (n : ℕ). IsDone g n q c) z (done-at (suc i) k cs c done.1 at)
+
+    -- what those had done that joined
+    all-done : (cells : List OnHeap) (os : List PartyPlace) → AllByRecursion (IsApart cache) os
+        → ((i : ℕ) (c : OnHeap) → slice_get cells i ≡ Some c → IsCell g i × AllByRecursion (λ k. AreEntriesSeen g k.number k.view.mine k.view.seen → DidSo k.number (made_from i 0 k.view.mine (front_of i k.view.seen)) c) (joined_of os))
+        → AllByRecursion (HasDoneTo g cells) os
+    all-done cells [] apart each = tt
+    all-done cells (o ∷ os) apart each = (
+      (λ noted made i c at. let h = each i c at in h.1.0 apart.0.1.cells.own (events_of_cell i noted) (made i h.0)),
+      all-done cells os apart.1 (λ i c at. let h = each i c at in (h.0, h.1.1)),
+    )
+
     none-at : (k : ℕ) (cs : List OnHeap) (c : OnHeap) → AllByRecursion (λ x. x.value.history ≡ []) cs → slice_get cs k ≡ Some c → c.value.history ≡ []
     none-at k [] c none at = cc
     none-at zero (x ∷ cs) c none at = let is : x ≡ c = cc in subst (λ (y : OnHeap). y.value.history ≡ []) is none.0
     none-at (suc k) (x ∷ cs) c none at = none-at k cs c none.1 at
 
-  -- where nothing was written
-  module _ (tick : ℕ) (cells : List OnHeap) (r : PartyPlace) (s : SyncsCells g tick cells [] Same q r) (of : IsPartyOf cache r) (free : r.held ≡ []) (claims : KeepsClaims q r) where
-    abbrev t : HasTaken g stands.valid 0 cells q s.taken
-    t = taken tick cells [] Same r s
+    index-at : (k : ℕ) (cs : List OnHeap) (c : OnHeap) → slice_get cs k ≡ Some c → slice_index_or cs k c ≡ c
+    index-at k [] c at = cc
+    index-at zero (x ∷ cs) c at = cc
+    index-at (suc k) (x ∷ cs) c at = index-at k cs c at
 
-    worked-is : s.worked ≡ s.taken
-    worked-is = s.besides ∙ s.inserts
+    all-own : (shard : ℕ) (os : List PartyPlace) → AllByRecursion (λ o. HasLearned g o q) os
+        → AllByRecursion (λ o. own_moments o.number (moments (opening_of g) (seen_of g shard q)) ≡ own_moments o.number (moments (opening_of g) (seen_of g shard o))) os
+    all-own shard [] learned = tt
+    all-own shard (o ∷ os) learned = (learned.0.own shard, all-own shard os learned.1)
 
-    many : length cells ≡ length s.afters
-    many = sym s.count
+    -- to have joined is nothing that is told
+    met-told : (did : List Act) (had : List Noted) → HasToldOthers g did had p → HasToldOthers g did had q
+    met-told did had before = others-still g did had p q (grown-same g p q met.number met.about met.mine met.self.starts met.self.cells stands.seen stands.cells) before
 
-    inside : 0 + length s.afters ≤ g.cells
-    inside = let e = s.all in let f = s.count in omega arith
+    module _ (cells : List OnHeap) (xs : List SyncItem) (s : SyncsCells g tick cells xs Same q r) (inside : AllByRecursion (λ x. IsCell g x.due.cell) xs) where
+      abbrev t : HasTaken g stands.valid 0 cells q s.taken
+      t = taken g stands.valid tick cells xs q r stood.of.config low stood.seen has-all stood.cells s inside
 
-    given : HasGivenCells g stands.valid 0 cells s.afters s.taken r
-    given = all-given g stands.valid 0 cells s.afters s.taken r many inside t.quiet.sees t.quiet.all t.made t.hand (subst (λ (x : PartyPlace). GivesFrom 0 s.afters x r) worked-is s.gives)
+      abbrev wrote : HasInserted g stands.valid tick xs s.taken s.reached
+      wrote = inserts g stands.valid tick cells xs q r stood.of.config low stood.seen has-all stood.cells s inside
 
-    quiet : IsQuiet g q r
-    quiet = quiet-then g q s.taken r t.quiet given.quiet
+      then : HasEndedSome g wrote.events q r
+      then = all-synced g stands.valid tick cells xs q r stood.of.config low stood.seen has-all stood.cells s inside
 
-    some-cell : (cs : List OnHeap) (i : ℕ) → i < length cs → OnHeap
-    some-cell [] i below = absurd (omega (arith, below))
-    some-cell (c ∷ cs) i below = c
+      pub synced-last : AreLast numbers r.joined
+      synced-last = last-from cache p others stands alone apart everyone count differ q joins wrote.events r then of free claims numbers numbers_are
 
-    same-history : (i : ℕ) (d : OnHeap) → i < length cells → (slice_index_or s.afters i d).value.history ≡ (slice_index_or cells i d).value.history
-    same-history i d below = (s.synced i d below).history ∙ append-nil (slice_index_or cells i d).value.history
+      still-mine : xs ≡ [] → r.own.mine ≡ p.own.mine
+      still-mine nothing = synced-mine g stands.valid tick cells xs q r stood.of.config low stood.seen has-all stood.cells s inside nothing ∙ met.mine
 
-    same-from : (bs afters : List OnHeap) → length bs ≡ length afters → ((i : ℕ) (d : OnHeap) → i < length bs → (slice_index_or afters i d).value.history ≡ (slice_index_or bs i d).value.history)
-        → HaveSameHistories g stands.valid bs afters
-    same-from [] [] long each = tt
-    same-from [] (a ∷ afters) long each = absurd (omega (arith, long))
-    same-from (b ∷ bs) [] long each = absurd (omega (arith, long))
-    same-from (b ∷ bs) (a ∷ afters) long each = (each 0 b (omega arith), same-from bs afters (omega (arith, long)) (λ i d below. each (suc i) d (omega (arith, below))))
+      done-here : (i : ℕ) (c : OnHeap) → slice_get cells i ≡ Some c → IsCell g i × IsDone g i q c
+      done-here i c at =
+          let within = slice_get_within cells i c at in
+          let w : 0 + i ≡ i = omega arith in
+          let inside : IsCell g i = let e = s.all in omega (arith, within, e) in
+          (inside, subst (λ (k : ℕ). IsDone g k q c) w (done-at 0 i cells c t.done at))
 
-    -- the party made nothing
-    mine : r.own.mine ≡ q.own.mine
-    mine = given.mine (same-from cells s.afters many same-history) ∙ t.mine
+      all-did : AllByRecursion (HasDoneTo g cells) (p ∷ others)
+      all-did = (
+        (λ noted made i c at.
+            let h = done-here i c at in
+            let same = (grown-same g p q met.number met.about met.mine met.self.starts met.self.cells stands.seen stands.cells).entries i h.0 in
+            subst (λ (n : ℕ). done_by n c.value.history ≡ events_of_cell i noted) met.number (h.1.own (events_of_cell i noted) (same ∙ made i h.0))),
+        all-done cells others apart (λ i c at. let h = done-here i c at in (h.0, subst (AllByRecursion (λ k. AreEntriesSeen g k.number k.view.mine k.view.seen → DidSo k.number (made_from i 0 k.view.mine (front_of i k.view.seen)) c)) met.joined h.1.joined)),
+      )
 
-    hand-at : (i k : ℕ) (cs : List OnHeap) (d : OnHeap) (x : PartyPlace) → AreInHand i cs x → k < length cs → front_of (i + k) x.own.seen ≡ lines_of (slice_index_or cs k d).value.history
-    hand-at i k [] d x hand below = absurd (omega (arith, below))
-    hand-at i zero (c ∷ cs) d x hand below = let z : i + zero ≡ i = omega arith in ap (λ (n : ℕ). front_of n x.own.seen) z ∙ hand.0.seen
-    hand-at i (suc k) (c ∷ cs) d x hand below = let z : i + suc k ≡ suc i + k = omega arith in ap (λ (n : ℕ). front_of n x.own.seen) z ∙ hand-at (suc i) k cs d x hand.1 (omega (arith, below))
-
-    taken-front : (i : ℕ) (d : OnHeap) → i < length cells → front_of i s.taken.own.seen ≡ lines_of (slice_index_or cells i d).value.history
-    taken-front i d below =
-        let z : 0 + i ≡ i = omega arith in
-        subst (λ (n : ℕ). front_of n s.taken.own.seen ≡ lines_of (slice_index_or cells i d).value.history) z (hand-at 0 i cells d s.taken t.hand below)
-
-    after-front : (i : ℕ) (d : OnHeap) → i < length cells → front_of i r.own.seen ≡ lines_of (slice_index_or cells i d).value.history
-    after-front i d below =
-        let z : 0 + i ≡ i = omega arith in
-        subst (λ (n : ℕ). front_of n r.own.seen ≡ lines_of (slice_index_or s.afters i d).value.history) z (given.each i d (let f = s.count in omega (arith, below))) ∙ ap lines_of (same-history i d below)
-
-    same-fronts : (i : ℕ) → IsCell g i → front_of i r.own.seen ≡ front_of i q.own.seen
-    same-fronts i in_range =
-        let below : i < length cells = let e = s.all in omega (arith, in_range) in
-        let d : OnHeap = some-cell cells i below in
-        after-front i d below ∙ (sym (taken-front i d below) ∙ t.fronts i)
-
-    r-stands : Stands cache r []
-    r-stands = record {
-      valid = stands.valid;
-      of = of;
-      free = free;
-      cells = given.made;
-      idle = given.quiet.readings ∙ (t.quiet.readings ∙ stood.idle);
-      unclaimed = λ i. claims i ∙ stood.unclaimed i;
-      seen = given.quiet.sees;
-      apart = subst (λ (x : ℕ × List (Kept (Known OnHeap))). Apart x.0 x.1) (λ i. (sym (quiet.number) i, sym (quiet.joined) i)) stood.apart;
-      joined = subst AllQuiet (sym quiet.joined) stood.joined;
-      owned = tt;
-      listed = λ x. ap (times x) quiet.holds ∙ stood.listed x;
-    }
-
-    r-left : LeavesCells g q r
-    r-left = record {
-      stays = record { table = quiet.table; parties = quiet.parties; number = quiet.number; joined = quiet.joined; held = free ∙ sym stood.free; about = quiet.about };
-      fronts = same-fronts;
-      mine = λ j a in_range at. subst (λ (l : List Mine). get_elem? l j ≡ some a) mine at;
-    }
-
-    made : HasMade cache (inserts_in g tick []) q r
-    made = record {
-      stays = r-left.stays;
-      stands = r-stands;
-      all = quiet.all;
-      seen = λ shard. quiet.shards shard ∙ sym (append-nil (seen_of g shard q));
-      starts = quiet.starts;
-      left = r-left;
-      picks = λ feeder i. ap (list_at i) quiet.picked;
-      only = λ only. record {
-        events = subst (λ (x : ℕ × List Mine). AreSeen g x.0 x.1 r.own.seen) (λ i. (sym quiet.number i, sym mine i)) (own-seen-more g q.number q.own.mine q.own.seen r.own.seen quiet.starts only.events);
-        entries = subst (AreNoEntries g) (sym mine) only.entries;
-      };
-    }
-
-    pub synced-last : (numbers : List ℕ) → numbers ≡ map (λ o. o.number) others → AreLast numbers r.joined
-    synced-last = last-of dbuf_meanings cache p others stands alone apart everyone count differ q joins (inserts_in g tick []) r made (λ shard. tt)
-
-    module _ (numbers : List ℕ) (numbers_are : numbers ≡ map (λ o. o.number) others) (news : List PartyPlace) (z : PartyPlace) (parts : PartAll numbers r news z) where
-      abbrev whole : MadeJoined cache (inserts_in g tick []) p others z news
-      whole = made-joined dbuf_meanings cache p others stands alone apart everyone count differ q joins (inserts_in g tick []) r made (λ shard. tt) numbers numbers_are news z parts
-
-      about-is : q.own.about ≡ p.own.about
-      about-is = (have cache p others stands alone apart everyone count differ q joins).about
-
-      pub syncs-joined : SyncsJoined cache tick p others z news cells []
-      syncs-joined = record {
-        made = whole;
+      joined-alone : SyncsJoined cache tick p others (left_alone r) (map (parted_from r) others) cells xs
+      joined-alone = record {
+        lines = lines cache p others stands alone apart everyone count differ q joins wrote.events r then of free claims;
+        parted = all-parted-then cache p others stands alone apart everyone count differ q joins wrote.events r then of free claims;
+        level = λ shard. refl;
+        number = then.number ∙ met.number;
+        about = then.about ∙ met.about;
+        alone = refl;
+        stands = last-stands cache p others stands alone apart everyone count differ q joins wrote.events r then of free claims;
+        front = λ shard. seen_of g shard q;
+        seen = synced-shards g stands.valid tick cells xs q r stood.of.config low stood.seen has-all stood.cells s inside;
+        own = met.self.own;
+        others = λ shard. all-own shard others met.all;
+        since = λ shard. starts-events (front_of (turn_of g shard) q.own.seen) (front_of (turn_of g shard) p.own.seen) (met.self.starts shard);
+        settled = λ last settled i. synced-picks g stands.valid tick cells xs q r stood.of.config low stood.seen has-all stood.cells s inside (met.number ∙ last) i ∙ (ap (λ (l : Ledger). list_at i l.picked) met.ledger ∙ settled i);
+        one = one-front cache p others stands alone apart everyone count differ q joins;
+        same = λ before own rest shard. ap events_in (met.level before own rest shard);
         count = s.all;
-        sound = λ i c at. (found-at tick cells [] Same r s 0 i cells c t.found at).sound;
+        sound = λ i c at. (found-at 0 i cells c t.found at).sound;
         began = λ i c at.
-            let f = found-at tick cells [] Same r s 0 i cells c t.found at in
+            let f = found-at 0 i cells c t.found at in
             let w : 0 + i ≡ i = omega arith in
-            f.began ∙ (λ k. slice_index_or (about-is k).openings (w k) []);
+            f.began ∙ (λ k. slice_index_or (met.about k).openings (w k) []);
         noted = λ i c at.
-            ap (λ (x : PartyPlace). front_of i x.own.seen) (parted dbuf_meanings cache p others stands alone apart everyone count differ q joins (inserts_in g tick []) r made (λ shard. tt) numbers numbers_are news z parts).1
-            ∙ (after-front i c (slice_get_within cells i c at) ∙ (ap (λ (x : OnHeap). lines_of x.value.history) (index-at i cells c at) ∙ sym (append-nil (lines_of c.value.history))));
-        fresh = λ own rest i c at. none-at tick cells [] Same r s i cells c (no-history tick cells [] Same r s) at;
+            let within = slice_get_within cells i c at in
+            let in_range : IsCell g i = let e = s.all in omega (arith, within, e) in
+            synced-front g stands.valid tick cells xs q r stood.of.config low stood.seen has-all stood.cells s inside i in_range
+            ∙ ((λ k. cell-front g stands.valid tick cells xs q r stood.of.config low stood.seen has-all stood.cells s inside i c within k ++ lines_of (synced_in (met.number k) i xs))
+            ∙ ap (λ (x : OnHeap). lines_of x.value.history ++ lines_of (synced_in p.number i xs)) (index-at i cells c at));
+        grown = λ i range. starts-then (front_of i r.own.seen) (front_of i q.own.seen) (front_of i p.own.seen) (then.cells i range) (met.self.cells i range);
+        did = all-did;
+        fresh = λ own rest i c at. none-at i cells c (t.fresh (untouched-by cache p others stands alone apart everyone count differ q joins own rest)) at;
+        inserts = wrote.events;
+        are = λ shard. wrote.are shard ∙ ap (inserts_in g tick xs shard) (t.quiet.shards shard);
+        inside = inside;
+        kinds = wrote.kinds;
+        told = λ did had before.
+            let h = others-synced g did had wrote.events xs p.number q r (sym met.number) then.number wrote.kinds
+            (synced-made g stands.valid tick cells xs q r stood.of.config low stood.seen has-all stood.cells s inside) (synced-cells g stands.valid tick cells xs q r stood.of.config low stood.seen has-all stood.cells s inside) (met-told did had before) in
+            record { cells = h.cells; kinds = h.kinds; entries = h.entries };
+        entries = λ nothing none. subst (AreNoEntries g) (sym (still-mine nothing)) none;
       }
-        where
-          index-at : (k : ℕ) (cs : List OnHeap) (c : OnHeap) → slice_get cs k ≡ Some c → slice_index_or cs k c ≡ c
-          index-at k [] c at = refl
-          index-at zero (x ∷ cs) c at = cc
-          index-at (suc k) (x ∷ cs) c at = index-at k cs c at
 
-  -- ---- the answers
+      pub syncs-joined : (news : List PartyPlace) (z : PartyPlace) → PartAll numbers r news z → SyncsJoined cache tick p others z news cells xs
+      syncs-joined news z parts =
+          let is = parted cache p others stands alone apart everyone count differ q joins wrote.events r then of free claims numbers numbers_are news z parts in
+          subst (λ (x : PartyPlace × List PartyPlace). SyncsJoined cache tick p others x.0 x.1 cells xs) (λ i. (sym is.1 i, sym is.0 i)) joined-alone
 
-  module _ {P : Type 0} (pools : Ghosts P) (group tick next : ℕ) (before now : P) (r : PartyPlace) where
+    -- ---- the answers
+
+    module _ {P : Type 0} (pools : Ghosts P) (group next : ℕ) (before now : P) where
+      abbrev Cells : List OnHeap → List SyncItem → (PartyPlace → PartyPlace → Type 0) → Type 0
+      Cells cells xs Besides = SyncsCells g tick cells xs Besides q r
+
+      -- memory was not refused
+      some-answer : (came : Result Synced SyncFault) → wants_memory came ≡ false → AnswersSync pools g group tick next before now q r came → AnswersWith pools group next before now g Cells came
+      some-answer came other (inl answer) = answer
+      some-answer came other (inr none) = absurd (false≢true (sym other ∙ ap wants_memory none.0))
+
+      done-inside : (cells : List OnHeap) (dues : List Due) → length cells ≡ g.cells → AreAllDirty cells dues → AllByRecursion (λ x. IsCell g x.due.cell) (items_from group next cells dues)
+      done-inside cells dues all dirty = items-inside g cells all group next dues (dues-inside g cells all dues dirty)
+
+      part-inside : (cells : List OnHeap) (done rest : List Due) → length cells ≡ g.cells → AreAllDirty cells (done ++ rest) → AllByRecursion (λ x. IsCell g x.due.cell) (items_from group next cells done)
+      part-inside cells done rest all dirty = items-inside g cells all group next done (front-inside g cells all done rest (dues-inside g cells all (done ++ rest) dirty))
+
+      came-last : (came : Result Synced SyncFault) → wants_memory came ≡ false → AnswersWith pools group next before now g Cells came → AreLast numbers r.joined
+      came-last (Ok done) other w = synced-last w.cells _ w.turns (done-inside w.cells w.dues w.turns.all w.dirty)
+      came-last (Err fault.PoolFault) other f = synced-last f.stops.cells _ f.stops.turns (part-inside f.stops.cells f.stops.done (f.stops.due ∷ f.stops.rest) f.stops.turns.all f.stops.dirty)
+      came-last (Err (fault.PoolFull need left)) other f = synced-last f.cells [] f.turns tt
+      came-last (Err fault.NoMemory) other f = absurd (false≢true (sym other))
+
+      pub sync-last : (came : Result Synced SyncFault) → wants_memory came ≡ false → AnswersSync pools g group tick next before now q r came → AreLast numbers r.joined
+      sync-last came other answer = came-last came other (some-answer came other answer)
+
+      module _ (news : List PartyPlace) (z : PartyPlace) (parts : PartAll numbers r news z) where
+        came-joined : (came : Result Synced SyncFault) → wants_memory came ≡ false → AnswersWith pools group next before now g Cells came → SyncedJoined pools cache group tick next before now p others z news came
+        came-joined (Ok done) other w = record {
+          cells = w.cells;
+          dues = w.dues;
+          dirty = w.dirty;
+          fits = w.fits;
+          turns = syncs-joined w.cells _ w.turns (done-inside w.cells w.dues w.turns.all w.dirty) news z parts;
+          told = w.told;
+          outside = w.outside;
+          blocks = w.blocks;
+          bytes = w.bytes;
+          next_is = w.next_is;
+        }
+        came-joined (Err fault.PoolFault) other f = record {
+          stops = record {
+            cells = f.stops.cells;
+            done = f.stops.done;
+            due = f.stops.due;
+            rest = f.stops.rest;
+            dirty = f.stops.dirty;
+            fits = f.stops.fits;
+            turns = syncs-joined f.stops.cells _ f.stops.turns (part-inside f.stops.cells f.stops.done (f.stops.due ∷ f.stops.rest) f.stops.turns.all f.stops.dirty) news z parts;
+            told = f.stops.told;
+          };
+          outside = f.outside;
+        }
+        came-joined (Err (fault.PoolFull need left)) other f = record {
+          cells = f.cells;
+          dues = f.dues;
+          dirty = f.dirty;
+          need_is = f.need_is;
+          left_is = f.left_is;
+          full = f.full;
+          turns = syncs-joined f.cells [] f.turns tt news z parts;
+          told = f.told;
+          outside = f.outside;
+        }
+        came-joined (Err fault.NoMemory) other f = absurd (false≢true (sym other))
+
+        pub sync-joined : (came : Result Synced SyncFault) → wants_memory came ≡ false → AnswersSync pools g group tick next before now q r came → SyncedJoined pools cache group tick next before now p others z news came
+        sync-joined came other answer = came-joined came other (some-answer came other answer)
+
+  -- ---- where no party had done anything to a cell
+
+  module _ (unwritten : AllByRecursion (λ o. AreNoEntries g o.own.mine) (p ∷ others)) (tick : ℕ) (cells : List OnHeap) (xs : List SyncItem) (Besides : PartyPlace → PartyPlace → Type 0) (r : PartyPlace) (s : SyncsCells g tick cells xs Besides q r) where
+    no-history : AllByRecursion (λ c. c.value.history ≡ []) cells
+    no-history = (all-taken g stands.valid 0 cells q s.taken (let e = s.all in omega arith) stood.of.config stood.seen has-all stood.cells s.takes).fresh
+        (untouched-by cache p others stands alone apart everyone count differ q joins unwritten.0 unwritten.1)
+
+    -- no block is dirty
+    nothing-written : (dues : List Due) → AreAllDirty cells dues → dues ≡ []
+    nothing-written dues dirty = none-among cells dues (no-dues 0 cells q (all-taken g stands.valid 0 cells q s.taken (let e = s.all in omega arith) stood.of.config stood.seen has-all stood.cells s.takes).found no-history) dirty
+
+  -- so the pool is as it was
+  module _ {P : Type 0} (pools : Ghosts P) (group tick next : ℕ) (before now : P) (r : PartyPlace) (unwritten : AllByRecursion (λ o. AreNoEntries g o.own.mine) (p ∷ others)) where
     abbrev Answer : Result Synced SyncFault → Type 0
     Answer = AnswersSync pools g group tick next before now q r
 
@@ -268,84 +362,28 @@ module _ (cache : Cache) (p : PartyPlace) (others : List PartyPlace) (stands : S
     unharmed : IsUnharmed pools before now → pools.told now ≡ pools.told before → LeavesPool pools before now
     unharmed u told = record { size = u.size; told = told; faults = let f = u.faults in omega arith }
 
-    untouched : now ≡ before → LeavesPool pools before now
-    untouched is = subst (LeavesPool pools before) (sym is) (record { size = refl; told = refl; faults = omega arith })
-
     never-stops : (T : SyncItem → Option (List ℕ) → Type 0) (B : SyncItem → PartyPlace → PartyPlace → Type 0) → StopsAt pools group next before now g (λ cells xs Besides. SyncsCells g tick cells xs Besides q r) T B → ⊥
-    never-stops T B s = some-due s.done s.due s.rest (nothing-written tick s.cells _ _ r s.turns (s.done ++ s.due ∷ s.rest) s.dirty)
+    never-stops T B s = some-due s.done s.due s.rest (nothing-written unwritten tick s.cells _ _ r s.turns (s.done ++ s.due ∷ s.rest) s.dirty)
 
-    pub never-faults : Answer (Err fault.PoolFault) → ⊥
-    never-faults (inl f) = never-stops _ _ f.stops
-    never-faults (inr u) = other u.0
-      where
-        other : ◌≡◌ {A = Result Synced SyncFault} (Err fault.PoolFault) (Err fault.NoMemory) → ⊥
-        other is = cc
-
-    pub never-full : (need left : ℕ) → Answer (Err (fault.PoolFull need left)) → ⊥
-    never-full need left (inl f) =
-        let none = nothing-written tick f.cells [] Same r f.turns f.dues f.dirty in
+    never-full : (need left : ℕ) → IsFull pools group next before now g (λ cells xs Besides. SyncsCells g tick cells xs Besides q r) need left → ⊥
+    never-full need left f =
+        let none = nothing-written unwritten tick f.cells [] Same r f.turns f.dues f.dirty in
         let zero_is : need ≡ 0 = f.need_is ∙ ap (need_of f.cells) none in
         omega (arith, zero_is, f.full)
-    never-full need left (inr u) = other u.0
-      where
-        other : ◌≡◌ {A = Result Synced SyncFault} (Err (fault.PoolFull need left)) (Err fault.NoMemory) → ⊥
-        other is = cc
 
-    refused : Answer (Err fault.NoMemory) → LeavesPool pools before now
-    refused (inl f) = unharmed f.outside (told f.stops)
+    leaves-with : (came : Result Synced SyncFault) → AnswersWith pools group next before now g (λ cells xs Besides. SyncsCells g tick cells xs Besides q r) came → LeavesPool pools before now
+    leaves-with (Ok done) w =
+        let nothing = ap (items_from group next w.cells) (nothing-written unwritten tick w.cells _ Same r w.turns w.dues w.dirty) in
+        unharmed w.outside (w.told ∙ (ap (λ (l : List SyncItem). tells_written l (pools.told before)) nothing ∙ written-none (pools.told before)))
+    leaves-with (Err fault.PoolFault) f = absurd (never-stops _ _ f.stops)
+    leaves-with (Err (fault.PoolFull need left)) f = absurd (never-full need left f)
+    leaves-with (Err fault.NoMemory) f = unharmed f.outside (told f.stops)
       where
         told : RefusedFirst pools group next before now g (λ cells xs Besides. SyncsCells g tick cells xs Besides q r) ⊎ RefusedAt pools group next before now g (λ cells xs Besides. SyncsCells g tick cells xs Besides q r) → pools.told now ≡ pools.told before
         told (inl first) = first.told
         told (inr (inl stop)) = absurd (never-stops _ _ stop)
         told (inr (inr stop)) = absurd (never-stops _ _ stop)
-    refused (inr u) = untouched u.1.pool
 
-    pub refused-leaves : (why : SyncFault) → why ≡ fault.NoMemory → Answer (Err why) → LeavesPool pools before now
-    refused-leaves why is answer = refused (subst (λ (e : SyncFault). Answer (Err e)) is answer)
-
-    -- a sync that is refused was refused memory
-    pub only-memory : (why : SyncFault) → Answer (Err why) → why ≡ fault.NoMemory
-    only-memory fault.PoolFault answer = absurd (never-faults answer)
-    only-memory (fault.PoolFull need left) answer = absurd (never-full need left answer)
-    only-memory fault.NoMemory answer = refl
-
-    module _ (done : Synced) (answer : Answer (Ok done)) where
-      wrote : WritesAll pools group next before now g (λ cells xs Besides. SyncsCells g tick cells xs Besides q r) done
-      wrote = go answer
-        where
-          go : Answer (Ok done) → WritesAll pools group next before now g (λ cells xs Besides. SyncsCells g tick cells xs Besides q r) done
-          go (inl w) = w
-          go (inr u) = absurd (other u.0)
-            where
-              other : ◌≡◌ {A = Result Synced SyncFault} (Ok done) (Err fault.NoMemory) → ⊥
-              other is = cc
-
-      abbrev xs : List SyncItem
-      xs = items_from group next wrote.cells wrote.dues
-
-      nothing : xs ≡ []
-      nothing = ap (items_from group next wrote.cells) (nothing-written tick wrote.cells xs Same r wrote.turns wrote.dues wrote.dirty)
-
-      turns-none : SyncsCells g tick wrote.cells [] Same q r
-      turns-none = subst (λ (l : List SyncItem). SyncsCells g tick wrote.cells l Same q r) nothing wrote.turns
-
-      pub done-leaves : LeavesPool pools before now
-      done-leaves = unharmed wrote.outside (wrote.told ∙ (ap (λ (l : List SyncItem). tells_written l (pools.told before)) nothing ∙ written-none (pools.told before)))
-
-      module _ (of : IsPartyOf cache r) (free : r.held ≡ []) (claims : KeepsClaims q r) (numbers : List ℕ) (numbers_are : numbers ≡ map (λ o. o.number) others) where
-        pub done-last : AreLast numbers r.joined
-        done-last = synced-last tick wrote.cells r turns-none of free claims numbers numbers_are
-
-        pub done-joined : (news : List PartyPlace) (z : PartyPlace) → PartAll numbers r news z → SyncedJoined pools cache group tick next before now p others z news done
-        done-joined news z parts = record {
-          cells = wrote.cells;
-          dues = wrote.dues;
-          dirty = wrote.dirty;
-          fits = wrote.fits;
-          turns = subst (λ (l : List SyncItem). SyncsJoined cache tick p others z news wrote.cells l) (sym nothing) (syncs-joined tick wrote.cells r turns-none of free claims numbers numbers_are news z parts);
-          told = wrote.told;
-          outside = wrote.outside;
-          blocks = wrote.blocks;
-          bytes = wrote.bytes;
-          next_is = wrote.next_is;
-        }
+    pub sync-leaves : (came : Result Synced SyncFault) → Answer came → LeavesPool pools before now
+    sync-leaves came (inl answer) = leaves-with came answer
+    sync-leaves came (inr none) = subst (LeavesPool pools before) (sym none.1.pool) (record { size = refl; told = refl; faults = omega arith })

@@ -1,6 +1,7 @@
 -- A party that has every number takes all cells and gives them back: what it has seen then, and what it found and made.
 use Rattle.std.proofs.Common.{◌≡◌, ◌≢◌, ◌⊎◌, ℕ, zero, suc, ◌+◌, ◌<◌, ◌≤◌, List, [], ◌∷◌, ◌++◌, length, map, Option, Some, refl, sym, ap, ◌∙◌, subst, inl, inr, arith, append-nil}
 use Rattle.std.specs.Prelude.{◌-◌, slice_index_or}
+use Rattle.std.proofs.lemmas.List.{append_cancel_left, map-append}
 use Rattle.std.specs.List.{AllByRecursion}
 use Rattle.std.specs.Option.{option_map_or}
 use mathlib.Core.Logic.{dite}
@@ -23,7 +24,7 @@ use Rattle.arc_table.specs.Fronts.{StartsWith, front_of, item_at}
 use Rattle.arc_table.specs.Geometry.{IsCell}
 use Rattle.arc_table.specs.Giving.{IsGivenCell}
 use Rattle.arc_table.specs.Items.{lines_in}
-use Rattle.arc_table.specs.Seen.{FindsEntries, HasAll, HasSeenItsEntries, events_in, seen_of, turn_of}
+use Rattle.arc_table.specs.Seen.{FindsEntries, HasAll, HasSeenItsEntries, events_in, seen_of, turn_of, AllEntriesSeen, AreEntriesSeen}
 use Rattle.arc_table.specs.TableLaws.{item_else, starts_whole}
 use Rattle.arc_table.proofs.TableLaws.{front_else, front_here, without_else}
 use Rattle.arc_table.specs.Views.{after_cell, mines_from, recorded}
@@ -33,11 +34,16 @@ use Rattle.arc_table.proofs.Reached.{Took, loses_same, took_is}
 use Rattle.dbuf_cells.specs.Turns.{OnHeap, PartyPlace, dbuf_meanings}
 use Rattle.dbuf_state.specs.Numbers.{event_numbers}
 use Rattle.dbuf_state.specs.Soundness.{IsSound}
+use Rattle.dbuf_state.specs.declared.event.CellEvent.{CellEvent}
 use Rattle.txg_sync.specs.Turns.{GivesFrom, TakesFrom}
+use Rattle.trace_run.specs.MadeLines.{made_of, made_from}
 use Rattle.trace_run.specs.Making.{HasSeenItsEvents}
 use Rattle.trace_run.specs.Syncing.{lines_of}
 use Rattle.trace_run.proofs.CellEnds.{IsUntouched, NoneFrom, all-later, none-later, untouched-history}
 use Rattle.trace_run.proofs.callers.MeetLemmas.{starts-then}
+use Rattle.trace_run.proofs.deeds.MadeCells.{given-made, given-made-else, took-made, took-made-else}
+use Rattle.trace_run.proofs.syncs.SyncOwned.{AreDoneFrom, IsDone, done-as, found-done}
+use Rattle.arc_table.specs.declared.view.Mine.{Mine}
 
 -- ---- what a party with every number has seen, while it makes no event of a shard
 
@@ -185,6 +191,23 @@ module _ (g : Config) (valid : IsConfig g) where
       joined = all-later g i r.joined (subst (AllByRecursion (λ k. NoneFrom g i k.view.mine)) (sym took.joined) none.joined);
     }
 
+    -- it made nothing
+    pub take-mades : (j : ℕ) → made_of j r ≡ made_of j p
+    take-mades j = dite (ℕ_discrete j i)
+        (λ is. subst (λ (x : ℕ). made_of x r ≡ made_of x p) (sym is)
+        (took-made dbuf_meanings g i c p r in_range took (subst (λ (l : List Line). StartsWith l (front_of i p.own.seen)) (sym whole) (starts_whole (front_of i p.own.seen))) made))
+        (λ differs. took-made-else dbuf_meanings g i c p r in_range took j differs)
+
+    -- what each party had done to it
+    pub take-done : IsDone g i p c
+    take-done =
+        let knew = loses_same dbuf_meanings i t.owners p (saw p t.knew) t.lost in
+        let seen : HasSeenItsEntries g (saw p t.knew) = record {
+          own = subst (λ (x : List Mine × List (List Line)). AreEntriesSeen g p.number x.0 x.1) (λ z. (sym knew.mine z, sym knew.seen z)) made.own;
+          joined = subst (AllEntriesSeen g p.joined) (sym knew.seen) made.joined;
+        } in
+        (done-as g i (c ∷ []) p (saw p t.knew) refl refl (λ j z. made_from j 0 (knew.mine z) (front_of j (knew.seen z))) (found-done g i in_range c (saw p t.knew) all seen t.free, tt)).0
+
     pub take-else : (j : ℕ) → j ≢ i → item_at j r.own.records ≡ item_at j p.own.records
     take-else j differs = ap (item_at j) took.records ∙ item_else i j (item.Cell c) p.own.records differs
 
@@ -193,11 +216,13 @@ module _ (g : Config) (valid : IsConfig g) where
     pub quiet : IsQuiet g p q
     pub made : HasSeenItsEntries g q
     pub mine : q.own.mine ≡ p.own.mine
+    pub mades : (j : ℕ) → made_of j q ≡ made_of j p
     pub held : (j : ℕ) → (i ≤ j) × (j < i + length cs) ⊎ IsAmong j p.held → IsAmong j q.held
     pub fronts : (j : ℕ) → front_of j q.own.seen ≡ front_of j p.own.seen
     pub below : (j : ℕ) → j < i → item_at j q.own.records ≡ item_at j p.own.records
     pub hand : AreInHand i cs q
     pub found : AreFound i p cs
+    pub done : AreDoneFrom g i p cs
     pub fresh : IsUntouched g i p → AllByRecursion (λ c. c.value.history ≡ []) cs
 
   found-as : (i : ℕ) (cs : List OnHeap) (p r : PartyPlace) → r.own.about ≡ p.own.about → AreFound i r cs → AreFound i p cs
@@ -209,6 +234,7 @@ module _ (g : Config) (valid : IsConfig g) where
     quiet = quiet-same g p p sees all refl;
     made = made;
     mine = refl;
+    mades = λ j. refl;
     held = λ j which. elim which [
       | inl new ↦ absurd (omega (arith, new.0, new.1))
       | inr old ↦ old
@@ -217,6 +243,7 @@ module _ (g : Config) (valid : IsConfig g) where
     below = λ j lt. refl;
     hand = tt;
     found = tt;
+    done = tt;
     fresh = λ none. tt;
   }
   all-taken i (c ∷ cs) p q inside config sees all made t =
@@ -229,6 +256,7 @@ module _ (g : Config) (valid : IsConfig g) where
         quiet = quiet-then g p r q quiet rest.quiet;
         made = rest.made;
         mine = rest.mine ∙ take-mine i in_range c p r config sees all made t.1;
+        mades = λ j. rest.mades j ∙ take-mades i in_range c p r config sees all made t.1 j;
         held = λ j which. rest.held j (elim which [
           | inl new ↦ dite (ℕ_discrete j i)
               (λ is. inr (subst (IsAmong j) (sym (take-held i in_range c p r config sees all made t.1)) (inl (sym is))))
@@ -239,6 +267,7 @@ module _ (g : Config) (valid : IsConfig g) where
         below = λ j lt. rest.below j (omega (arith, lt)) ∙ take-else i in_range c p r config sees all made t.1 j (λ is. omega (arith, lt, is));
         hand = (record { recorded = rest.below i (omega arith) ∙ first.recorded; seen = rest.fronts i ∙ first.seen }, rest.hand);
         found = (take-found i in_range c p r config sees all made t.1, found-as (suc i) cs p r quiet.about rest.found);
+        done = (take-done i in_range c p r config sees all made t.1, done-as g (suc i) cs p r quiet.number quiet.joined (take-mades i in_range c p r config sees all made t.1) rest.done);
         fresh = λ none. (take-fresh i in_range c p r config sees all made t.1 none, rest.fresh (take-untouched i in_range c p r config sees all made t.1 none));
       }
 
@@ -299,6 +328,17 @@ module _ (g : Config) (valid : IsConfig g) where
     pub give-made : HasSeenItsEntries g q
     give-made = subst (HasSeenItsEntries g) (sym gave) (given-entries dbuf_meanings g i a w in_range given front made)
 
+    -- of the cell it made what it did with it in hand
+    pub give-made-here : (news : List CellEvent) → a.value.history ≡ b.value.history ++ news → made_of i q ≡ made_of i w ++ lines_of news
+    give-made-here news more = ap (made_of i) gave ∙ (given-made dbuf_meanings g i a w in_range given front made ∙ ap (λ (l : List (List ℕ)). made_of i w ++ map line.Entry l) more-is)
+      where
+        more-is : given.more ≡ map event_numbers news
+        more-is = append_cancel_left (map event_numbers b.value.history) given.more (map event_numbers news)
+            (ap (λ (c : OnHeap). map event_numbers c.value.history ++ given.more) (sym same-taken) ∙ (sym given.entries ∙ (ap (map event_numbers) more ∙ map-append event_numbers b.value.history news)))
+
+    pub give-made-else : (j : ℕ) → j ≢ i → made_of j q ≡ made_of j w
+    give-made-else j differs = ap (made_of j) gave ∙ given-made-else dbuf_meanings g i a w in_range given front j differs
+
     pub give-here : front_of i q.own.seen ≡ lines_of a.value.history
     give-here = ap (λ (x : PartyPlace). front_of i x.own.seen) gave ∙ front_here i (lines_of a.value.history) w.own.seen
 
@@ -314,6 +354,12 @@ module _ (g : Config) (valid : IsConfig g) where
   HaveSameHistories (b ∷ bs) (a ∷ afters) = (a.value.history ≡ b.value.history) × HaveSameHistories bs afters
   HaveSameHistories _ _ = ⊥
 
+  -- these cells have the histories of those, and then this of each
+  abbrev pub HaveNews : (news : ℕ → List CellEvent) (i : ℕ) → (bs afters : List OnHeap) → Type 0
+  HaveNews news i [] [] = Unit {0}
+  HaveNews news i (b ∷ bs) (a ∷ afters) = (a.value.history ≡ b.value.history ++ news i) × HaveNews news (suc i) bs afters
+  HaveNews news i _ _ = ⊥
+
   -- all cells of the numbers from this one on were given back, which had been so, and are so now
   pub record HasGivenCells (i : ℕ) (bs afters : List OnHeap) (p q : PartyPlace) : Type 0 where
     pub quiet : IsQuiet g p q
@@ -321,6 +367,9 @@ module _ (g : Config) (valid : IsConfig g) where
     pub mine : HaveSameHistories bs afters → q.own.mine ≡ p.own.mine
     pub below : (j : ℕ) → j < i → (item_at j q.own.records ≡ item_at j p.own.records) × (front_of j q.own.seen ≡ front_of j p.own.seen)
     pub each : (k : ℕ) (d : OnHeap) → k < length afters → front_of (i + k) q.own.seen ≡ lines_of (slice_index_or afters k d).value.history
+    -- it made of each cell what was done to it
+    pub mades : (j : ℕ) → (j < i) ⊎ (g.cells ≤ j) → made_of j q ≡ made_of j p
+    pub news_made : (news : ℕ → List CellEvent) → HaveNews news i bs afters → (k : ℕ) → k < length afters → made_of (i + k) q ≡ made_of (i + k) p ++ lines_of (news (i + k))
 
   -- one more of them was, and is so now
   more-given : (i : ℕ) (in_range : IsCell g i) (b a : OnHeap) (bs afters : List OnHeap) (p r q : PartyPlace) (rest : HasGivenCells (suc i) bs afters p r) (hand : IsInHand i b r) (given : IsGivenCell dbuf_meanings r.number i a r.own)
@@ -334,8 +383,28 @@ module _ (g : Config) (valid : IsConfig g) where
       give-else i in_range b a r q rest.quiet.sees rest.quiet.all rest.made hand given gave j (λ is. omega (arith, lt, is)) ∙ (rest.below j (omega (arith, lt))).1,
     );
     each = go;
+    mades = λ j out. give-made-else i in_range b a r q rest.quiet.sees rest.quiet.all rest.made hand given gave j (elsewhere j out) ∙ rest.mades j (further j out);
+    news_made = λ news have k lt. made-at news have k lt;
   }
     where
+      elsewhere : (j : ℕ) → (j < i) ⊎ (g.cells ≤ j) → j ≢ i
+      elsewhere j (inl low) is = omega (arith, low, is)
+      elsewhere j (inr high) is = let b = in_range in omega (arith, high, is, b)
+
+      further : (j : ℕ) → (j < i) ⊎ (g.cells ≤ j) → (j < suc i) ⊎ (g.cells ≤ j)
+      further j (inl low) = inl (omega (arith, low))
+      further j (inr high) = inr high
+
+      made-at : (news : ℕ → List CellEvent) → HaveNews news i (b ∷ bs) (a ∷ afters) → (k : ℕ) → k < length (a ∷ afters) → made_of (i + k) q ≡ made_of (i + k) p ++ lines_of (news (i + k))
+      made-at news have zero lt =
+          let z : i ≡ i + zero = omega arith in
+          subst (λ (n : ℕ). made_of n q ≡ made_of n p ++ lines_of (news n)) z
+          (give-made-here i in_range b a r q rest.quiet.sees rest.quiet.all rest.made hand given gave (news i) have.0 ∙ ap (λ (l : List Line). l ++ lines_of (news i)) (rest.mades i (inl (omega arith))))
+      made-at news have (suc k) lt =
+          let z : suc i + k ≡ i + suc k = omega arith in
+          subst (λ (n : ℕ). made_of n q ≡ made_of n p ++ lines_of (news n)) z
+          (give-made-else i in_range b a r q rest.quiet.sees rest.quiet.all rest.made hand given gave (suc i + k) (λ is. omega (arith, is)) ∙ rest.news_made news have.1 k (omega (arith, lt)))
+
       go : (k : ℕ) (d : OnHeap) → k < length (a ∷ afters) → front_of (i + k) q.own.seen ≡ lines_of (slice_index_or (a ∷ afters) k d).value.history
       go zero d lt =
           let z : i + zero ≡ i = omega arith in
@@ -353,6 +422,8 @@ module _ (g : Config) (valid : IsConfig g) where
     mine = λ same. refl;
     below = λ j lt. (refl, refl);
     each = λ k d lt. absurd (omega (arith, lt));
+    mades = λ j out. refl;
+    news_made = λ news have k lt. absurd (omega (arith, lt));
   }
   all-given i [] (a ∷ afters) p q same inside sees all made hand gives = absurd (omega (arith, same))
   all-given i (b ∷ bs) [] p q same inside sees all made hand gives = absurd (omega (arith, same))

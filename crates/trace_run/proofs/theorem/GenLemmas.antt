@@ -26,6 +26,7 @@ use Rattle.vdev_io.specs.declared.pool.Pool.{Ghosts}
 use Rattle.dbuf_state.specs.Dbufs.{window_of}
 use Rattle.trace_run.specs.Answers.{Answers, AnswersAll, AnswersRead, is_pool_fault, is_refusal}
 use Rattle.arc_table.specs.Telling.{opening_of}
+use Rattle.trace_run.specs.Lines.{has_undone, is_undone}
 use Rattle.trace_run.specs.Outcome.{generated}
 use Rattle.trace_run.specs.one_caller.PlainReport.{ArePlainReplies, IsPlainReply, IsPlainReport, ShowsCollision}
 use Rattle.trace_run.specs.one_caller.PlainRun.{Images, no_contents, report_of, report_with}
@@ -192,6 +193,14 @@ made-trace seed blocks ops trace made =
     ∙ ap (λ (bs : List Ptr). record first { blocks = bs }) made.blocks
     ∙ ap (λ (ms : List Mapping). record (generated seed blocks ops) { objects = ms; ops = trace.ops }) made.objects
     ∙ ap (λ (os : List Op). record (generated seed blocks ops) { ops = os }) made.ops
+
+-- all its lines are reads, which the program does
+pub made-done : (seed blocks ops : ℕ) (trace : Trace) → IsGenerated seed blocks ops trace → has_undone trace ≡ false
+made-done seed blocks ops trace drawn = ap has_undone (made-trace seed blocks ops trace drawn) ∙ none-undone (range_with_len 0 ops)
+  where
+    none-undone : (ns : List ℕ) → list_any (is_undone (generated seed blocks ops).config.callers) (map (generated_read seed blocks) ns) ≡ false
+    none-undone [] = refl
+    none-undone (n ∷ ns) = none-undone ns
 
 pub made-report : (seed blocks ops : ℕ) (trace : Trace) (from : Images) (calls : List Call) → trace ≡ generated seed blocks ops → AllGive calls
     → report_of trace None from calls [] ≡ report_of (generated seed blocks ops) None from [] []

@@ -1,8 +1,7 @@
 -- The acts of a caller's lines with its own number: of which kinds they are, and how many reads of the pool they stand for.
-use Rattle.std.proofs.Common.{◌≡◌, ◌≢◌, ◌⊎◌, ℕ, zero, suc, ◌+◌, ◌<◌, ◌≤◌, ◌==◌, nat_le, nat_lt, Bool, true, false, IsTrue, List, [], ◌∷◌, ◌++◌, length, length-append, Option, Some, None, refl, sym, ap, ◌∙◌, subst, inl, inr, arith, eq-eqb, ne_eqb}
+use Rattle.std.proofs.Common.{◌≡◌, ℕ, ◌+◌, ◌<◌, ◌==◌, nat_le, nat_lt, true, false, List, [], ◌∷◌, ◌++◌, length, length-append, Option, Some, refl, sym, ap, ◌∙◌, subst, inl, inr, arith, eq-eqb, ne_eqb}
 use Rattle.std.specs.Prelude.{filter, sum_by}
 use Rattle.std.specs.List.{AllByRecursion}
-use Rattle.std.proofs.lemmas.Bool.{eqb-true}
 use Rattle.std.proofs.lemmas.Bool.Decides.{nat_tests}
 use Rattle.std.proofs.lemmas.List.Elements.{filter-append}
 use Rattle.std.proofs.lemmas.List.Sums.{sum_by-append}
@@ -28,20 +27,20 @@ use Rattle.trace_text.specs.declared.reply.Reply.{Reply}
 use Rattle.trace_text.specs.declared.reply.Reply.TheVariants as replies
 use Rattle.trace_run.specs.Acts.{acts_of, acts_of_drops}
 use Rattle.trace_run.specs.Deeds.{Noted}
-use Rattle.trace_run.specs.Effects.{calls_from, calls_of, effect_of}
+use Rattle.trace_run.specs.Effects.{calls_of, effect_of}
 use Rattle.trace_run.specs.KeptReads.{KeptRead}
 use Rattle.trace_run.specs.Lines.{caller_of, is_of_caller}
-use Rattle.trace_run.specs.ObjectLines.{OnObject, on_object}
+use Rattle.trace_run.specs.ObjectLines.{on_object}
 use Rattle.trace_run.specs.ObjectReplies.{AnswersObject}
-use Rattle.trace_run.specs.Objects.{Brought, GoesTogether, IsDoneWith, IsGotWith, IsRefusedWith, Line, Loaded, Nothing, OwnEvent, Refused, Work, acts_of_bringing, no_work}
-use Rattle.trace_run.specs.RunWork.{AllFit, FitsBy, RunWork, acts_by, acts_of_caller_lines, kept_after_lines, lines_of_caller}
-use Rattle.trace_run.specs.callers.WorkLines.{AnswersLine, AnswersLines, IsWorkOf, NotesFor, NotesLine, acts_of_work, acts_on, acts_with, acts_with_op, calls_of_lines, effect_with}
+use Rattle.trace_run.specs.Objects.{Brought, IsDoneWith, IsGotWith, IsRefusedWith, Line, Loaded, Nothing, OwnEvent, Refused, Work, acts_of_bringing, no_work}
+use Rattle.trace_run.specs.RunWork.{AllFit, FitsBy, acts_of_caller_lines, kept_after_lines, lines_of_caller}
+use Rattle.trace_run.specs.callers.WorkLines.{AnswersLine, AnswersLines, IsWorkOf, NotesLine, acts_of_work, acts_on, acts_with, acts_with_op, calls_of_lines, effect_with}
 use Rattle.trace_run.specs.one_caller.OneCaller.{kept_after}
 use Rattle.trace_run.specs.Tally.{AnswersNow}
 use Rattle.trace_run.proofs.callers.CallerActLemmas.{caller-is}
-use Rattle.trace_run.proofs.callers.GroupCounts.{IsLineAct, Stand, reads_of_act, stand-drops, stand-line, stand-two}
-use Rattle.trace_run.proofs.one_caller.TellLemmas.{IsActOf, IsReadAct, act-drops, act-of, all-append, all-map, filter-all}
-use Rattle.trace_run.proofs.theorem.WorkEnds.{IsCallersAct, all-filter}
+use Rattle.trace_run.proofs.callers.GroupCounts.{Stand, reads_of_act, stand-drops, stand-line}
+use Rattle.trace_run.proofs.one_caller.TellLemmas.{IsActOf, act-drops, act-of, all-append, all-map, filter-all}
+use Rattle.trace_run.proofs.theorem.WorkEnds.{IsCallersAct}
 
 -- ---- a caller's own lines
 

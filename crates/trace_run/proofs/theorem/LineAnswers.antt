@@ -1,5 +1,5 @@
 -- All lines of a run have their answers, where those of each caller have them, and where each other line ends as it should.
-use Rattle.std.proofs.Common.{◌≡◌, ℕ, suc, ◌+◌, ◌<◌, ◌==◌, true, false, IfSome, map, List, [], ◌∷◌, ◌++◌, length, take, Option, Some, None, refl, sym, ap, ◌∙◌, subst, arith, append-nil, append_assoc, length-append, inl, inr}
+use Rattle.std.proofs.Common.{◌≡◌, ℕ, suc, ◌+◌, ◌<◌, ◌==◌, true, false, IfSome, List, [], ◌∷◌, ◌++◌, length, take, Option, Some, None, refl, sym, ap, ◌∙◌, subst, arith, append-nil, append_assoc, length-append, inl, inr}
 use Rattle.std.specs.Prelude.{slice_get}
 use Rattle.std.specs.List.{AllByRecursion}
 use Rattle.std.proofs.lemmas.List.{length-map, length-take-le}
@@ -19,7 +19,7 @@ use Rattle.trace_run.specs.Lines.{caller_of, is_of_caller}
 use Rattle.trace_run.specs.ObjectLines.{on_object}
 use Rattle.trace_run.specs.Objects.{Line, Work, ops_of, replies_of}
 use Rattle.trace_run.specs.RunWork.{lines_of_caller}
-use Rattle.trace_run.specs.Tally.{AnswersNow, IsTally}
+use Rattle.trace_run.specs.Tally.{IsTally}
 use Rattle.trace_run.specs.callers.Groups.{AreEndLines, IsEndLine}
 use Rattle.trace_run.specs.callers.WorkLines.{AnswersLine, AnswersLines, AreLinesOf}
 use Rattle.trace_run.specs.one_caller.OneCaller.{kept_after}

@@ -1,6 +1,6 @@
 -- What a run over the shared cache came to is what its report has to say.
 use Rattle.std.proofs.lemmas.Option.{slice_get_within}
-use Rattle.std.proofs.Common.{◌≡◌, ℕ, ◌+◌, ◌<◌, ◌≤◌, ◌^◌, List, [], ◌∷◌, length, Option, Some, None, IfSome, refl, sym, ap, subst, ◌∙◌, arith}
+use Rattle.std.proofs.Common.{◌≡◌, ℕ, ◌+◌, ◌<◌, ◌≤◌, ◌^◌, false, List, [], ◌∷◌, length, take, Option, Some, None, IfSome, refl, sym, ap, subst, ◌∙◌, arith}
 use Rattle.arc_core.specs.declared.event.Event.{Event}
 use Rattle.arc_table.specs.Ended.{Ended}
 use Rattle.trace_text.specs.Grammar.{IsFormed}
@@ -20,13 +20,23 @@ use Rattle.trace_run.specs.Effects.{calls_of_all}
 use Rattle.trace_run.specs.Ends.{ends_of}
 use Rattle.dbuf_cells.specs.Turns.{OnHeap}
 use Rattle.trace_run.specs.callers.GroupRun.{RanTogether}
-use Rattle.trace_run.specs.RunWork.{plain_work}
-use Rattle.trace_run.proofs.theorem.WorkLemmas.{explain-plain}
-use Rattle.trace_run.specs.Outcome.{IsRun}
+use Rattle.trace_run.specs.CellEnds.{AreCellsOf}
+use Rattle.trace_run.specs.Devices.{IsHandedBack}
+use Rattle.trace_run.specs.Lines.{has_undone}
+use Rattle.trace_run.specs.ObjectAnswers.{IsAnsweredBy}
+use Rattle.trace_run.specs.ObjectLines.{OnObject}
+use Rattle.trace_run.specs.Objects.{Line}
+use Rattle.trace_run.specs.RunWork.{RunWork, only_ended, plain_lines, plain_work}
+use Rattle.trace_run.specs.callers.WorkLines.{AreLinesOf}
+use Rattle.trace_run.proofs.theorem.DeviceUsed.{groups-back}
+use Rattle.trace_run.proofs.theorem.FirstPlace.{first-place}
+use Rattle.trace_run.proofs.theorem.KeptEnds.{plain-kept}
+use Rattle.trace_run.proofs.theorem.WorkLemmas.{cells-plain, explain-plain, plain-is, plain-off}
+use Rattle.trace_run.specs.Outcome.{HasRun, IsRun}
 use Rattle.trace_run.specs.one_caller.Lent.{ReadsAlone, told_lent}
 use Rattle.trace_run.specs.one_caller.PlainRun.{images, no_contents, replies_to, report_with}
 use Rattle.trace_run.specs.Restores.{found_keys, restored_shard}
-use Rattle.trace_run.specs.callers.Together.{BetweenGroups, EndsRun, RunsTogether, StoodThen, StopsAtSync, StopsSo, WorkInGroups, groups_of, report_of_closed, between_groups}
+use Rattle.trace_run.specs.callers.Together.{BetweenGroups, EndsRun, RunsTogether, StoodThen, StopsAtSync, StopsSo, WorkInGroups, answered_ops, between_groups, groups_done, report_of_closed}
 use Rattle.trace_run.proofs.one_caller.PlainReportLemmas.{plain-but}
 use Rattle.trace_run.proofs.theorem.ReportLemmas.{report-is}
 use Rattle.trace_run.proofs.RunLemmas.{calls-faults, calls-few, calls-reads, failed-all}
@@ -43,14 +53,15 @@ both-told (Some x) None each is = tt
 both-told (Some x) (Some y) each is = each x y is
 
 module _ {P D : Type 0} (pools : Ghosts P) (devices : DeviceGhosts D) (before after : P) (lent back : Option D) (trace : Trace) (rebuilt : Option Rebuilt) (replies : List Reply) (closed : Ended OnHeap) where
-  -- one caller's run
-  pub alone-run : IsFormed trace → trace.config.callers ≡ 1 → RanAlone pools before after trace (found_keys rebuilt) replies closed
+  -- One caller's run, none of whose lines did anything beside its reply.
+  alone-run : (done : has_undone trace ≡ false) → IsFormed trace → trace.config.callers ≡ 1 → RanAlone pools before after trace (found_keys rebuilt) replies closed
       → ReadsAlone pools devices before trace (found_keys rebuilt) replies lent back → IsRun pools devices before after lent back trace Whole (plain_work trace.ops replies) closed (report_of_closed Whole rebuilt replies closed)
-  alone-run formed one ran read =
+  alone-run done formed one ran read =
       let report : Report = report_of_closed Whole rebuilt replies closed in
       let few : length (calls_of_all replies) < 2 ^ 32 = omega (arith, calls-few replies, ran.answers.all, formed.few_ops) in
       let ends : ends_in closed ≡ ends_of trace.config _ = ran.explained.ends ∙ ap (λ (hs : List (List Event)). ends_of trace.config hs) ran.histories in
       let plain : report ≡ report_with trace rebuilt replies = report-is trace report ran.histories ends refl refl refl in
+      let place = first-place (pools.size before) trace.blocks in
       record {
         answers = ran.answers;
         explained = explain-plain trace (found_keys rebuilt) replies (ends_in closed) (histories_of closed) ran.explained;
@@ -74,41 +85,62 @@ module _ {P D : Type 0} (pools : Ghosts P) (devices : DeviceGhosts D) (before af
                 plain-but trace (replies_to (images image bytes) trace.config.shards trace.blocks (restored_shard trace.config (found_keys rebuilt)) [] no_contents trace.ops (calls_of_all replies) read.calls) report plain are) read.plain;
           },
         );
+        place = place.0;
+        first = place.1;
+        objects = λ k n l at his. subst (λ (o : Option OnObject). IsAnsweredBy trace.config (pools.size before) (pools.told before) place.0 closed.cells n (take k (plain_lines trace.ops replies)) o l)
+            (sym (plain-off trace.config trace.ops replies done k l at)) tt;
         together = λ two. absurd (omega (arith, two, one));
         idle = λ none. (refl, subst (λ (cs : List Call). MakesCalls pools cs before after) (no-calls replies (ran.answers.all ∙ ap length none)) ran.made);
         stopped = tt;
       }
 
-  pub alone-told : (ending : Ending) → ending ≡ Whole → IsFormed trace → trace.config.callers ≡ 1 → RanAlone pools before after trace (found_keys rebuilt) replies closed
-      → ReadsAlone pools devices before trace (found_keys rebuilt) replies lent back → IsRun pools devices before after lent back trace ending (plain_work trace.ops replies) closed (report_of_closed ending rebuilt replies closed)
-  alone-told ending whole formed one ran read =
-      subst (λ (e : Ending). IsRun pools devices before after lent back trace e (plain_work trace.ops replies) closed (report_of_closed e rebuilt replies closed)) (sym whole) (alone-run formed one ran read)
+  pub alone-has-run : has_undone trace ≡ false → (ending : Ending) → ending ≡ Whole → IsFormed trace → trace.config.callers ≡ 1 → RanAlone pools before after trace (found_keys rebuilt) replies closed
+      → ReadsAlone pools devices before trace (found_keys rebuilt) replies lent back → AreCellsOf trace (only_ended trace.config) closed → IsHandedBack devices lent back → HasRun pools devices before after lent back trace ending closed (report_of_closed ending rebuilt replies closed)
+  alone-has-run done ending whole formed one ran read cells unfed =
+      subst (λ (e : Ending). HasRun pools devices before after lent back trace e closed (report_of_closed e rebuilt replies closed)) (sym whole) record {
+        work = plain_work trace.ops replies;
+        did = plain-is trace.config trace.ops replies ran.answers.all done;
+        run = alone-run done formed one ran read;
+        cells = cells-plain trace trace.config refl refl trace.ops replies closed cells;
+        kept = plain-kept trace closed cells;
+        used = λ two. absurd (omega (arith, two, one));
+        unfed = λ _. unfed;
+        plain = λ _. refl;
+        status = refl;
+      }
 
   -- several callers' run
-  pub together-run : (ending : Ending) → 2 ≤ trace.config.callers → RanTogether pools before after trace ending (found_keys rebuilt) replies closed
-      → IsRun pools devices before after lent back trace ending (plain_work trace.ops replies) closed (report_of_closed ending rebuilt replies closed)
-  together-run ending two ran = record {
-    answers = ran.answers;
-    explained = explain-plain trace (found_keys rebuilt) replies (ends_in closed) (histories_of closed) ran.explained;
-    tells = record { histories = refl; ends = refl };
-    config = ran.config;
-    no_workers = refl;
-    reads = ran.reads;
-    faults = ran.faults;
-    alone = λ one. absurd (omega (arith, two, one));
-    together = λ _. told;
-    idle = λ none. let whole = all-done none ending refl ran.stopped in (
-      whole,
-      ended ending whole told.ended ∙ ap (λ (s : BetweenGroups P). s.pool) (subst (λ (os : List Op). WorkInGroups pools trace.config (StoodThen trace closed.cells) (groups_of os replies) (between_groups before 1 told.place) told.reached) none told.groups),
-    );
-    stopped = ran.stopped;
+  pub together-has-run : (ending : Ending) (work : RunWork) → 2 ≤ trace.config.callers → RanTogether pools devices before after lent back trace ending (found_keys rebuilt) replies work closed
+      → HasRun pools devices before after lent back trace ending closed (report_of_closed ending rebuilt replies closed)
+  together-has-run ending work two ran = record {
+    work = work;
+    did = ran.did;
+    run = record {
+      answers = ran.answers;
+      explained = ran.explained;
+      tells = record { histories = refl; ends = refl };
+      config = ran.config;
+      no_workers = refl;
+      reads = ran.reads;
+      faults = ran.faults;
+      alone = λ one. absurd (omega (arith, two, one));
+      place = ran.place;
+      first = ran.first;
+      objects = ran.objects;
+      together = λ _. told;
+      idle = λ none. let whole = all-done none ending refl ran.stopped in (whole, unworked none whole);
+      stopped = ran.stopped;
+    };
+    cells = ran.cells;
+    kept = ran.kept;
+    used = λ _. ran.used;
+    unfed = λ none. groups-back devices trace.blocks trace.config.callers (groups_done ending work.lines) work.feeds lent back none ran.used;
+    plain = λ one. absurd (omega (arith, two, one));
+    status = refl;
   }
     where
-      told : RunsTogether pools before after trace ending closed.cells (report_of_closed ending rebuilt replies closed)
+      told : RunsTogether pools before after ran.place trace ending work closed.cells (report_of_closed ending rebuilt replies closed)
       told = ran.together rebuilt refl
-
-      ended : (e : Ending) → e ≡ Whole → EndsRun pools trace.config (StoodThen trace closed.cells) trace replies e told.reached after → after ≡ told.reached.pool
-      ended e whole is = subst (λ (x : Ending). EndsRun pools trace.config (StoodThen trace closed.cells) trace replies x told.reached after) whole is
 
       -- without a line nothing stops
       no-sync : trace.ops ≡ [] → StopsAtSync trace replies → ⊥
@@ -119,3 +151,20 @@ module _ {P D : Type 0} (pools : Ghosts P) (devices : DeviceGhosts D) (before af
       all-done none Fork is stops = let some_of = stops.1.some in absurd (omega (arith, some_of, ap length none))
       all-done none Sync is stops = absurd (no-sync none stops.1)
       all-done none (Full need left) is stops = absurd (no-sync none stops)
+
+      no-lines : (os : List Op) (rs : List Reply) (ls : List Line) → os ≡ [] → AreLinesOf os rs ls → ls ≡ []
+      no-lines [] [] [] none are = refl
+      no-lines [] [] (l ∷ ls) none are = absurd are
+      no-lines [] (r ∷ rs) ls none are = absurd are
+      no-lines (o ∷ os) rs ls none are = cc
+
+      -- and nothing is done with the pool
+      unworked : trace.ops ≡ [] → ending ≡ Whole → after ≡ before
+      unworked none whole =
+          let no_ops : answered_ops trace ending replies ≡ [] = ap (λ (e : Ending). answered_ops trace e replies) whole ∙ none in
+          let empty : work.lines ≡ [] = no-lines (answered_ops trace ending replies) replies work.lines no_ops ran.did.lines in
+          let groups : WorkInGroups pools trace.config (StoodThen trace closed.cells) [] [] (between_groups before 1 ran.place) told.reached =
+          subst (λ (x : Ending × List Line). WorkInGroups pools trace.config (StoodThen trace closed.cells) [] (groups_done x.0 x.1) (between_groups before 1 ran.place) told.reached) (λ i. (whole i, empty i)) told.groups in
+          let ended : EndsRun pools trace.config (StoodThen trace closed.cells) trace replies work.lines work.stopped Whole told.reached after =
+          subst (λ (e : Ending). EndsRun pools trace.config (StoodThen trace closed.cells) trace replies work.lines work.stopped e told.reached after) whole told.ended in
+          ended.1 ∙ ap (λ (s : BetweenGroups P). s.pool) groups

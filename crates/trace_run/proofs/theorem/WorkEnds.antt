@@ -216,7 +216,7 @@ module _ (g : Config) where
 -- ---- acts with the callers' own numbers
 
 module _ (f : Key → ℕ) (shard : ℕ) where
-  acts-same : (n : ℕ) (acts : List Act) → acts_in f shard n (filter (λ act. actor_of act == n) acts) ≡ acts_in f shard n acts
+  pub acts-same : (n : ℕ) (acts : List Act) → acts_in f shard n (filter (λ act. actor_of act == n) acts) ≡ acts_in f shard n acts
   acts-same n [] = refl
   acts-same n (act ∷ acts) = elim (cases_true (actor_of act == n)) [
     | inl own ↦ elim (cases_true (f (act_key act) == shard)) [

@@ -1,5 +1,5 @@
 -- Where no line did anything to a cell, the histories of a run explain its replies with lines that did nothing beside them.
-use Rattle.std.proofs.Common.{◌≡◌, ◌≢◌, ◌⊎◌, ℕ, zero, suc, ◌+◌, ◌<◌, ◌≤◌, ◌==◌, nat_le, Bool, true, false, if◌then◌else◌, IsTrue, List, [], ◌∷◌, ◌++◌, length, take, Option, refl, sym, ap, ◌∙◌, subst, inl, inr, arith, append-nil, eq-eqb, ne_eqb}
+use Rattle.std.proofs.Common.{◌≡◌, ◌≢◌, ◌⊎◌, ℕ, zero, suc, ◌+◌, ◌<◌, ◌≤◌, ◌==◌, nat_le, Bool, true, false, if◌then◌else◌, IsTrue, List, [], ◌∷◌, ◌++◌, length, take, None, Option, Some, refl, sym, ap, ◌∙◌, subst, inl, inr, arith, append-nil, eq-eqb, ne_eqb}
 use Rattle.std.specs.Prelude.{filter, slice_get, slice_index_or}
 use Rattle.std.specs.List.{AllByRecursion, list_any}
 use Rattle.std.specs.Option.{option_map_or}
@@ -34,9 +34,12 @@ use Rattle.trace_run.specs.Explaining.{EndsWith, Explain, ExplainReads, drops_at
 use Rattle.trace_run.specs.KeptReads.{KeptRead}
 use Rattle.trace_run.specs.Lines.{caller_of, has_undone, is_of_caller, is_undone, replies_where}
 use Rattle.trace_run.specs.MadeLines.{owned_from}
+use Rattle.trace_run.specs.ObjectLines.{on_object}
 use Rattle.trace_run.specs.Objects.{Line, no_work}
 use Rattle.trace_run.specs.Restores.{events_by_feeder}
-use Rattle.trace_run.specs.RunWork.{AreMadeBy, FitsBy, IsRunWork, acts_by, acts_of_caller_lines, acts_of_cells, kept_after_lines, lines_of_caller, noted_by, only_ended, own_acts, plain_lines, plain_work}
+use Rattle.trace_run.specs.FeedEvents.{is_fed}
+use Rattle.trace_run.specs.Feeds.{is_feed}
+use Rattle.trace_run.specs.RunWork.{AreMadeBy, FitsBy, IsRunWork, IsSyncWork, acts_by, acts_of_caller_lines, acts_of_cells, kept_after_lines, lines_of_caller, lines_of_feeder, noted_by, only_ended, own_acts, plain_lines, plain_work}
 use Rattle.trace_run.specs.callers.Together.{answered_ops}
 use Rattle.trace_run.specs.callers.WorkLines.{AreLinesOf, acts_of_work, acts_with_op, noted_of_work}
 use Rattle.trace_run.specs.one_caller.OneCaller.{kept_after, kept_after_all}
@@ -82,6 +85,22 @@ module _ (g : Config) (blocks : List Ptr) where
   kept-plain kept [] rs = refl
   kept-plain kept (o ∷ os) [] = refl
   kept-plain kept (o ∷ os) (r ∷ rs) = kept-plain (kept_after blocks o r kept) os rs
+
+  -- the feeder's lines did nothing
+  feeder-plain : (kept : List KeptRead) (os : List Op) (rs : List Reply) → acts_of_work g blocks kept (lines_of_feeder (plain_lines os rs)) ≡ []
+  feeder-plain kept [] rs = refl
+  feeder-plain kept (o ∷ os) [] = refl
+  feeder-plain kept (ops.Read n t x window ∷ os) (r ∷ rs) = feeder-plain kept os rs
+  feeder-plain kept (ops.Hold n t x ∷ os) (r ∷ rs) = feeder-plain kept os rs
+  feeder-plain kept (ops.Drop n x ∷ os) (r ∷ rs) = feeder-plain kept os rs
+  feeder-plain kept (ops.Get n t at window ∷ os) (r ∷ rs) = feeder-plain kept os rs
+  feeder-plain kept (ops.Put n t at size fill ∷ os) (r ∷ rs) = feeder-plain kept os rs
+  feeder-plain kept (ops.Patch n t at from bytes ∷ os) (r ∷ rs) = feeder-plain kept os rs
+  feeder-plain kept (ops.Pin n t at ∷ os) (r ∷ rs) = feeder-plain kept os rs
+  feeder-plain kept (ops.Unpin n at ∷ os) (r ∷ rs) = feeder-plain kept os rs
+  feeder-plain kept (ops.Feed ∷ os) (r ∷ rs) = feeder-plain kept os rs
+  feeder-plain kept (ops.Txg t ∷ os) (r ∷ rs) = feeder-plain kept os rs
+  feeder-plain kept (ops.Cap c ∷ os) (r ∷ rs) = feeder-plain kept os rs
 
   module _ (os : List Op) (rs : List Reply) where
     abbrev his-acts : ℕ → List Act
@@ -131,7 +150,7 @@ all-at P [] x a all at = absurd (some-ne-none a (sym at))
 all-at P (y ∷ ys) zero a all at = subst P (some-injective y a at) all.0
 all-at P (y ∷ ys) (suc x) a all at = all-at P ys x a all.1 at
 
-all-index : {A : Type 0} (P : List A → Type 0) (xs : List (List A)) (k : ℕ) → AllByRecursion P xs → k < length xs → P (slice_index_or xs k [])
+pub all-index : {A : Type 0} (P : List A → Type 0) (xs : List (List A)) (k : ℕ) → AllByRecursion P xs → k < length xs → P (slice_index_or xs k [])
 all-index P [] k all inside = absurd (omega (arith, inside))
 all-index P (x ∷ xs) zero all inside = all.0
 all-index P (x ∷ xs) (suc k) all inside = all-index P xs k all.1 (omega (arith, inside))
@@ -198,7 +217,7 @@ module _ (g : Config) where
           ∙ none-in (cell_number g i) (his-acts g blocks os rs n) n (act-caller blocks n (filter (is_of_caller n) os) (replies_where (is_of_caller n) os rs) (own-lines n os)) (λ is. omega (arith, is, caller))
       no-acts n i (inr feeder) =
           let here : (n == g.callers) ≡ true = eq-eqb n g.callers feeder in
-          rw here refl
+          rw here (ap (λ (l : List Act). acts_in (shard_of g.shards) shard (cell_number g i) ((l ++ []) ++ [])) (feeder-plain g blocks [] os rs))
 
 -- ---- all of it
 
@@ -241,7 +260,7 @@ module _ (trace : Trace) (restored : List Restored) (replies : List Reply) (ends
     ends = e.ends;
     at_rest = e.at_rest;
     begins = e.begins;
-    every_call = subst (λ (acts : List Act). HoldEveryCallOnce g (shard_of g.shards) (opening_of g) acts (events_by_feeder g restored trace.ops replies) histories) acts-same e.every_call;
+    every_call = subst (λ (acts : List Act). HoldEveryCallOnce g (shard_of g.shards) (opening_of g) acts (events_by_feeder g restored trace.ops replies []) histories) acts-same e.every_call;
     made = λ shard inside. plain-made g trace.blocks trace.ops replies shard (slice_index_or histories shard []) (of-parties shard inside);
     ending = λ shard inside. subst (EndsWith (slice_index_or histories shard [])) (sym (append-nil (drops_at_end g trace.blocks shard g.callers trace.ops replies))) (e.ending shard inside);
   }
@@ -261,6 +280,29 @@ module _ (g : Config) where
   plain-are (o ∷ os) [] same = absurd (omega (arith, same))
   plain-are (o ∷ os) (r ∷ rs) same = (refl, refl, plain-are os rs (omega (arith, same)))
 
+  -- a sync that wrote nothing
+  no-sync : IsSyncWork g no_work
+  no-sync = record { brought = refl; synced = tt; inserted = tt }
+
+  -- no line asks for a feed
+  no-feed : (op : Op) → is_undone g.callers op ≡ false → is_feed op ≡ false
+  no-feed (ops.Read n t x window) done = refl
+  no-feed (ops.Hold n t x) done = refl
+  no-feed (ops.Drop n x) done = refl
+  no-feed (ops.Get n t at window) done = refl
+  no-feed (ops.Put n t at size fill) done = refl
+  no-feed (ops.Patch n t at from bytes) done = refl
+  no-feed (ops.Pin n t at) done = refl
+  no-feed (ops.Unpin n at) done = refl
+  no-feed ops.Feed done = absurd (false≢true (sym done))
+  no-feed (ops.Txg t) done = refl
+  no-feed (ops.Cap c) done = refl
+
+  unfed : (os : List Op) (rs : List Reply) → list_any (is_undone g.callers) os ≡ false → replies_where is_feed os rs ≡ []
+  unfed [] rs done = refl
+  unfed (o ∷ os) [] done = refl
+  unfed (o ∷ os) (r ∷ rs) done = let h = first-done (is_undone g.callers) o os done in rw (no-feed o h.0) (unfed os rs h.1)
+
   one-fits : (op : Op) (reply : Reply) → is_undone g.callers op ≡ false → FitsBy g (caller_of op) (record { op = op; reply = reply; work = no_work })
   one-fits (ops.Read n t x window) reply done = record { together = refl; notes = refl }
   one-fits (ops.Hold n t x) reply done = record { together = refl; notes = refl }
@@ -270,8 +312,8 @@ module _ (g : Config) where
   one-fits (ops.Patch n t at from bytes) reply done = absurd (false≢true (sym done))
   one-fits (ops.Pin n t at) reply done = absurd (false≢true (sym done))
   one-fits (ops.Unpin n at) reply done = absurd (false≢true (sym done))
-  one-fits ops.Feed reply done = refl
-  one-fits (ops.Txg t) reply done = refl
+  one-fits ops.Feed reply done = absurd (false≢true (sym done))
+  one-fits (ops.Txg t) reply done = no-sync
   one-fits (ops.Cap c) reply done = refl
 
   all-fit : (os : List Op) (rs : List Reply) → list_any (is_undone g.callers) os ≡ false → AllByRecursion (λ l. FitsBy g (caller_of l.op) l) (plain_lines os rs)
@@ -281,16 +323,46 @@ module _ (g : Config) where
 
   -- The work of a run that did nothing to cells, of these lines that were answered among all.
   pub plain-is : (os : List Op) (rs : List Reply) → length rs ≡ length os → list_any (is_undone g.callers) os ≡ false → IsRunWork g os rs (plain_work os rs)
-  plain-is os rs same done = record { lines = plain-are os rs same; fits = all-fit os rs done; synced = tt; inserted = tt; ended = tt }
+  plain-is os rs same done = record { lines = plain-are os rs same; fits = all-fit os rs done; stopped = no-sync; fed = record { told = ap (filter is_fed) (unfed os rs done); shapes = tt }; ended = tt }
 
   noted-none : (n : ℕ) (os : List Op) (rs : List Reply) → noted_of_work (plain_lines os rs) ≡ []
   noted-none n [] rs = refl
   noted-none n (o ∷ os) [] = refl
   noted-none n (o ∷ os) (r ∷ rs) = noted-none n os rs
 
-  plain-noted : (os : List Op) (rs : List Reply) (n : ℕ) → only_ended g n ≡ noted_by g (plain_work os rs) n
+  feeder-noted : (os : List Op) (rs : List Reply) → noted_of_work (lines_of_feeder (plain_lines os rs)) ≡ []
+  feeder-noted [] rs = refl
+  feeder-noted (o ∷ os) [] = refl
+  feeder-noted (o ∷ os) (r ∷ rs) = elim (cases_true (option_map_or (λ (n : ℕ). false) (caller_of o) true)) [
+    | inl feeder ↦ rw feeder (feeder-noted os rs)
+    | inr other ↦ rw other (feeder-noted os rs)
+  ]
+
+  -- none is on an object
+  off : (op : Op) → is_undone g.callers op ≡ false → on_object op ≡ None
+  off (ops.Read n t x window) done = refl
+  off (ops.Hold n t x) done = refl
+  off (ops.Drop n x) done = refl
+  off (ops.Get n t at window) done = absurd (false≢true (sym done))
+  off (ops.Put n t at size fill) done = absurd (false≢true (sym done))
+  off (ops.Patch n t at from bytes) done = absurd (false≢true (sym done))
+  off (ops.Pin n t at) done = absurd (false≢true (sym done))
+  off (ops.Unpin n at) done = absurd (false≢true (sym done))
+  off ops.Feed done = refl
+  off (ops.Txg t) done = refl
+  off (ops.Cap c) done = refl
+
+  pub plain-off : (os : List Op) (rs : List Reply) → list_any (is_undone g.callers) os ≡ false → (k : ℕ) (l : Line) → slice_get (plain_lines os rs) k ≡ Some l → on_object l.op ≡ None
+  plain-off [] rs done k l at = cc
+  plain-off (o ∷ os) [] done k l at = cc
+  plain-off (o ∷ os) (r ∷ rs) done zero l at =
+      let same : record { op = o; reply = r; work = no_work } ≡ l = cc in
+      ap (λ (y : Line). on_object y.op) (sym same) ∙ off o (first-done (is_undone g.callers) o os done).0
+  plain-off (o ∷ os) (r ∷ rs) done (suc k) l at = plain-off os rs (first-done (is_undone g.callers) o os done).1 k l at
+
+  pub plain-noted : (os : List Op) (rs : List Reply) (n : ℕ) → only_ended g n ≡ noted_by g (plain_work os rs) n
   plain-noted os rs n = elim (cases_true (n == g.callers)) [
-    | inl feeder ↦ rw feeder refl
+    | inl feeder ↦ rw feeder (sym (ap (λ (l : List Noted). (l ++ []) ++ ends_from n 0 g.cells) (feeder-noted os rs)))
     | inr other ↦ rw other (sym (ap noted_of_work (lines-plain n os rs) ∙ noted-none n (filter (is_of_caller n) os) (replies_where (is_of_caller n) os rs)))
   ]
 
@@ -309,7 +381,7 @@ front-done test (suc k) (o ∷ os) none = let h = first-done test o os none in r
 
 front-work : (trace : Trace) (rs : List Reply) → has_undone trace ≡ false → length rs ≡ length (take (length rs) trace.ops) → IsRunWork trace.config (take (length rs) trace.ops) rs (plain_work trace.ops rs)
 front-work trace rs done same =
-    subst (λ (ls : List Line). IsRunWork trace.config (take (length rs) trace.ops) rs (record { lines = ls; synced = []; inserted = []; ended = [] })) (sym (plain-front trace.ops rs))
+    subst (λ (ls : List Line). IsRunWork trace.config (take (length rs) trace.ops) rs (record { lines = ls; stopped = no_work; feeds = []; ended = [] })) (sym (plain-front trace.ops rs))
     (plain-is trace.config (take (length rs) trace.ops) rs same (front-done (is_undone trace.config.callers) (length rs) trace.ops done))
 
 pub plain-work : (trace t : Trace) (ending : Ending) (rs : List Reply) → t.ops ≡ trace.ops → has_undone trace ≡ false → length rs ≡ length (answered_ops t ending rs)

@@ -1,5 +1,5 @@
 -- The work of several callers at once, each by its own lines, with its own party and its own fork of the pool.
-use Rattle.std.specs.Prelude.{◌≡◌, ◌<◌, ◌≤◌, ℕ, List, filter, length, map, min, take, ◌++◌}
+use Rattle.std.specs.Prelude.{◌≡◌, ◌<◌, ◌≤◌, ◌⊎◌, ℕ, List, filter, length, map, min, take, ◌++◌}
 use Rattle.std.specs.Option.{option_map}
 use mathlib.Core.Option.{some}
 use lib.ListN.{get_elem?}
@@ -27,7 +27,7 @@ use Rattle.trace_run.specs.RunWork.{kept_after_lines}
 use Rattle.trace_run.specs.declared.kept_blocks.KeptBlock.{KeptBlock}
 use Rattle.trace_run.specs.callers.Beside.{WorksBeside}
 use Rattle.trace_run.specs.callers.WorkLines.{AnswersLines, AreLinesOf, IsWorkOf, acts_of_work, calls_of_lines, noted_of_work}
-use Rattle.trace_run.specs.callers.Together.{over_callers}
+use Rattle.trace_run.specs.callers.Together.{IsFirstPlace, over_callers}
 
 -- A caller has done its work, where it kept these reads at first: its lines were answered, one after another, each with its work, its fork of the pool was read as they
 -- say and in no other way, what it did is told, and it stands by itself with what they say that it keeps.
@@ -60,10 +60,21 @@ pub record LeavesPool {P : Type 0} (pools : Ghosts P) (old new : P) : Type 0 whe
   pub told : pools.told new ≡ pools.told old
   pub faults : min (pools.faults old) last_count ≤ pools.faults new
 
--- The same, where what it tells is the same up to this place.
+-- It has its length, and its count of faults has not fallen so.
+pub record StaysPool {P : Type 0} (pools : Ghosts P) (old new : P) : Type 0 where
+  pub size : pools.size new ≡ pools.size old
+  pub faults : min (pools.faults old) last_count ≤ pools.faults new
+
+-- Its length and its faults are so, and what it tells is the same up to this place.
 pub record LeavesFront {P : Type 0} (pools : Ghosts P) (place : ℕ) (old new : P) : Type 0 where
   pub size : pools.size new ≡ pools.size old
   pub told : option_map (take place) (pools.told new) ≡ option_map (take place) (pools.told old)
+  pub faults : min (pools.faults old) last_count ≤ pools.faults new
+
+-- They are so, and what it tells is the same, or at least up to the end of these declared blocks, behind which syncs write.
+pub record LeavesDeclared {P : Type 0} (pools : Ghosts P) (blocks : List Ptr) (old new : P) : Type 0 where
+  pub size : pools.size new ≡ pools.size old
+  pub told : (pools.told new ≡ pools.told old) ⊎ ((place : ℕ) × IsFirstPlace (pools.size old) blocks place × (option_map (take place) (pools.told new) ≡ option_map (take place) (pools.told old)))
   pub faults : min (pools.faults old) last_count ≤ pools.faults new
 
 -- the work of the caller of a number, by its places in these lists

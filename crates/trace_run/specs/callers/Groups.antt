@@ -1,5 +1,5 @@
 -- Several callers between two groups of a trace: what all lines so far came to.
-use Rattle.std.specs.Prelude.{◌≡◌, ◌⊎◌, ◌<◌, ◌≤◌, ◌+◌, ◌%◌, ◌^◌, ℕ, suc, Bool, true, false, List, [], Result, Ok, Err, Option, Some, None, count_by, filter, length, map, slice_get, slice_index_or, take}
+use Rattle.std.specs.Prelude.{◌≡◌, ◌⊎◌, ◌<◌, ◌≤◌, ◌+◌, ◌%◌, ◌^◌, ℕ, suc, Bool, true, false, List, [], Result, Ok, Err, Option, Some, None, count_by, filter, length, map, slice_get, slice_index_or, take, ◌++◌}
 use Rattle.std.specs.List.{AllByRecursion}
 use Rattle.blk_ptr.specs.Size.{sector}
 use Rattle.blk_ptr.specs.declared.ptr.Ptr.{Ptr}
@@ -7,13 +7,15 @@ use Rattle.turn_table.specs.Places.{Place}
 use Rattle.arc_table.specs.declared.view.Known.{Known}
 use Rattle.arc_core.specs.declared.served.Restored.{Restored}
 use Rattle.arc_table.specs.Cache.{Cache}
-use Rattle.arc_table.specs.Fronts.{StartsWith}
+use Rattle.arc_core.specs.declared.config.Config.{Config}
+use Rattle.arc_table.specs.Fronts.{StartsWith, front_of}
 use Rattle.arc_table.specs.Items.{Meanings}
 use Rattle.arc_table.specs.Seen.{seen_of}
-use Rattle.dbuf_cells.specs.Turns.{OnHeap}
+use Rattle.dbuf_cells.specs.Turns.{OnHeap, PartyPlace, dbuf_meanings}
 use Rattle.dbuf_state.specs.Numbers.{opening_numbers}
 use Rattle.dbuf_state.specs.Soundness.{IsSound}
 use Rattle.txg_sync.specs.Items.{SyncItem}
+use Rattle.txg_sync.specs.Turns.{synced_in}
 use Rattle.txg_sync.specs.declared.syncing.SyncFault.{SyncFault}
 use Rattle.txg_sync.specs.declared.syncing.SyncFault.TheVariants as sync_fault
 use Rattle.txg_sync.specs.declared.syncing.Synced.{Synced as SyncAnswer}
@@ -31,7 +33,11 @@ use Rattle.trace_run.specs.declared.ran.Ending.{Ending}
 use Rattle.trace_run.specs.declared.ran.Ending.TheVariants.{Whole, Fork, Sync, Full}
 use Rattle.trace_run.specs.declared.kept_blocks.KeptBlock.{KeptBlock}
 use Rattle.trace_run.specs.Answers.{AnswersFeed, is_pool_fault}
+use Rattle.trace_run.specs.CellEnds.{done_by}
+use Rattle.trace_run.specs.Deeds.{events_of_cell}
 use Rattle.trace_run.specs.callers.Group.{HaveWorked, IsAt, LeavesFront, LeavesPool}
+use Rattle.trace_run.specs.Devices.{lent_in}
+use Rattle.trace_run.specs.FeedSeries.{AreMadeSoFar}
 use Rattle.trace_run.specs.Feeds.{is_feed}
 use Rattle.trace_run.specs.KeptBlocks.{read_of}
 use Rattle.trace_run.specs.Lines.{caller_of, replies_where}
@@ -40,12 +46,12 @@ use Rattle.trace_run.specs.Objects.{Line, Work, no_work, replies_of}
 use Rattle.trace_run.specs.Openings.{Knows, openings_of}
 use Rattle.trace_run.specs.one_caller.OverShards.{AreNamed}
 use Rattle.trace_run.specs.Restores.{events_by_feeder, restores_in}
-use Rattle.trace_run.specs.Syncing.{SyncedJoined}
-use Rattle.trace_run.specs.RunWork.{AllFit, IsRunWork, RunWork, acts_of_syncs, kept_after_lines, lines_of_caller, noted_of_syncs}
+use Rattle.trace_run.specs.Syncing.{SyncedJoined, lines_of, noted_of}
+use Rattle.trace_run.specs.RunWork.{AllFit, IsRunWork, RunWork, acts_of_syncs, kept_after_lines, lines_of_caller, lines_of_feeder, noted_of_syncs}
 use Rattle.trace_run.specs.callers.Beside.{WorksBeside}
 use Rattle.trace_run.specs.callers.DeviceForks.{UsedInGroups}
 use Rattle.trace_run.specs.callers.WorkLines.{AnswersLines, AreLinesOf, acts_of_work, calls_of_lines, noted_of_work}
-use Rattle.trace_run.specs.callers.Together.{AreCut, BeginsGroup, BetweenGroups, IsFirstPlace, StopsSync, WorkInGroups, between_groups, groups_done, over_callers}
+use Rattle.trace_run.specs.callers.Together.{AreCut, BeginsGroup, BetweenGroups, IsCutLast, IsFirstPlace, StoppedAt, StopsSync, WorkInGroups, between_groups, groups_done, over_callers}
 
 -- the line gave a capacity, and is answered so; or it is a sync that is answered; or it asked for a feed, and is answered by its report, or by none
 abbrev pub IsEndLine : Op → Reply → Type 0
@@ -98,15 +104,16 @@ pub record HaveCounted {P : Type 0} (pools : Ghosts P) (place callers : ℕ) (li
   pub reads : pools.reads before < 2 ^ 63 → pools.reads now ≡ pools.reads before + over_callers callers (λ n. length (calls_of_lines (lines_of_caller n lines)))
   pub faults : pools.faults before < 2 ^ 63 → pools.faults now ≡ pools.faults before + over_callers callers (λ n. count_by is_pool_fault (replies_of (lines_of_caller n lines)))
 
--- Nothing was done to the cells before a sync took them, and it wrote nothing: no line of a trace makes a block dirty yet. Each began as the trace's lines
--- say.
-pub record StoodFresh (openings : List (List ℕ)) (count tick : ℕ) (work : Work) (cells : List OnHeap) (xs : List SyncItem) : Type 0 where
-  pub many : length cells ≡ count
+-- A sync took these cells behind these lines. Each began as the trace's lines say, and each caller, and the feeder, had done to it just what these lines did. What this party has seen of it
+-- begins with that; behind it stand the sync's blocks, and what it noted of them is its work.
+pub record StoodSo (openings : List (List ℕ)) (config : Config) (p : PartyPlace) (before : List Line) (tick : ℕ) (work : Work) (cells : List OnHeap) (xs : List SyncItem) : Type 0 where
+  pub many : length cells ≡ config.cells
   pub sound : (i : ℕ) (c : OnHeap) → slice_get cells i ≡ Some c → IsSound c.value
   pub began : (i : ℕ) (c : OnHeap) → slice_get cells i ≡ Some c → opening_numbers c.value.limit c.value.opening ≡ slice_index_or openings i []
-  pub fresh : (i : ℕ) (c : OnHeap) → slice_get cells i ≡ Some c → c.value.history ≡ []
-  pub nothing : xs ≡ []
-  pub none : work ≡ no_work
+  pub seen : (i : ℕ) (c : OnHeap) → slice_get cells i ≡ Some c → StartsWith (front_of i p.own.seen) (lines_of c.value.history ++ lines_of (synced_in config.callers i xs))
+  pub did : (i : ℕ) (c : OnHeap) → slice_get cells i ≡ Some c → (n : ℕ) → n < config.callers → done_by n c.value.history ≡ events_of_cell i (noted_of_work (lines_of_caller n before))
+  pub fed : (i : ℕ) (c : OnHeap) → slice_get cells i ≡ Some c → done_by config.callers c.value.history ≡ events_of_cell i (noted_of_work (lines_of_feeder before))
+  pub noted : work.noted ≡ noted_of config.callers xs
 
 -- The next group has a number, and its sync a place: they are such that it may be done.
 pub record MaySync {P : Type 0} (pools : Ghosts P) (lines : ℕ) (now : BetweenGroups P) : Type 0 where
@@ -117,7 +124,7 @@ pub record MaySync {P : Type 0} (pools : Ghosts P) (lines : ℕ) (now : BetweenG
 
 -- What the callers, the pool and the cache device have come to by the groups of a trace that were done, of which so many lines are answered. Before them these were so; the first sync
 -- writes from the place `before.next` on; and so the lines ended, or they go on.
-pub record HaveReached {P D : Type 0} (cache : Cache) (restored : List Restored) (pools : Ghosts P) (devices : Devices D) (trace : Trace) (before now : BetweenGroups P) (was is : Option D) (ending : Ending) (replies : List Reply) (work : RunWork) (crew : Crew OnHeap) : Type 0 where
+pub record HaveReached {P D : Type 0} (cache : Cache) (restored : List Restored) (pools : Ghosts P) (devices : Devices D) (trace : Trace) (before now : BetweenGroups P) (was is : Device D) (ending : Ending) (replies : List Reply) (work : RunWork) (crew : Crew OnHeap) : Type 0 where
   pub few : length replies ≤ length trace.ops
   pub come : HaveCome cache restored (pools.size before.pool) (pools.told before.pool) before.next trace.blocks (take (length replies) trace.ops) replies work crew
   -- the feeder knows how the cells began
@@ -126,11 +133,13 @@ pub record HaveReached {P D : Type 0} (cache : Cache) (restored : List Restored)
   pub first : IsFirstPlace (pools.size before.pool) trace.blocks before.next
   pub behind : before.next ≤ now.next
   pub counted : HaveCounted pools before.next cache.config.callers work.lines before.pool now.pool
-  pub groups : WorkInGroups pools cache.config (StoodFresh (openings_of trace) cache.config.cells) (groups_done ending work.lines) before now
-  pub used : UsedInGroups devices trace.blocks cache.config.callers (groups_done ending work.lines) work.feeds was is
+  pub groups : WorkInGroups pools cache.config (StoodSo (openings_of trace) cache.config crew.feeder) [] (groups_done ending work.lines) before now
+  pub used : UsedInGroups devices trace.blocks cache.config.callers (groups_done ending work.lines) work.feeds (lent_in was) (lent_in is)
+  -- each feed went on where the one before it left the ring
+  pub fed : AreMadeSoFar dbuf_meanings devices cache restored work.feeds was is crew.feeder
 
 -- The callers stand between two groups of a trace.
-pub record AreBetween {P D : Type 0} (cache : Cache) (restored : List Restored) (pools : Ghosts P) (devices : Devices D) (trace : Trace) (before now : BetweenGroups P) (was is : Option D) (replies : List Reply) (work : RunWork) (crew : Crew OnHeap) : Type 0 where
+pub record AreBetween {P D : Type 0} (cache : Cache) (restored : List Restored) (pools : Ghosts P) (devices : Devices D) (trace : Trace) (before now : BetweenGroups P) (was is : Device D) (replies : List Reply) (work : RunWork) (crew : Crew OnHeap) : Type 0 where
   pub reached : HaveReached cache restored pools devices trace before now was is Whole replies work crew
   pub begins : length replies < length trace.ops → BeginsGroup trace.ops (length replies)
   pub goes_on : work.stopped ≡ no_work
@@ -152,7 +161,7 @@ pub record DidCap {C P : Type 0} (cache : Cache) (c : ℕ) (from to : BetweenGro
 
 -- What a sync came to is told so: the next group stands behind it; or the lines end there.
 abbrev pub TellsSync : {P : Type 0} → (from to : BetweenGroups P) → Result SyncAnswer SyncFault → Result Reply Ending → Type 0
-TellsSync from to (Ok done) came = (came ≡ Ok (Synced from.group done.blocks done.bytes)) × (to.group ≡ suc from.group) × (to.next ≡ done.next)
+TellsSync from to (Ok done) came = (came ≡ Ok (Synced from.group done.blocks done.bytes)) × (to.group ≡ suc from.group) × (to.next ≡ done.next) × (done.next % sector ≡ 0)
 TellsSync from to (Err sync_fault.PoolFault) came = came ≡ Err Sync
 TellsSync from to (Err (sync_fault.PoolFull need left)) came = came ≡ Err (Full need left)
 TellsSync from to (Err sync_fault.NoMemory) came = ⊥
@@ -161,6 +170,8 @@ TellsSync from to (Err sync_fault.NoMemory) came = ⊥
 pub record DidSync {P : Type 0} (cache : Cache) (pools : Ghosts P) (t : ℕ) (from to : BetweenGroups P) (old new : Crew OnHeap) (came : Result Reply Ending) : Type 0 where
   pub sync : Result SyncAnswer SyncFault
   pub synced : SyncedJoined pools cache from.group t from.next from.pool to.pool old.feeder old.parties.items new.feeder new.parties.items sync
+  -- what it left of the pool's bytes
+  pub leaves : LeavesFront pools from.next from.pool to.pool
   pub told : TellsSync from to sync came
 
 -- a line that ends a group was done, and this is the reply, or how the lines end
@@ -175,18 +186,22 @@ pub record ForkFailed {P : Type 0} (pools : Ghosts P) (before after : P) : Type 
   pub faults : pools.faults before < last_count → pools.faults after ≡ pools.faults before + 1
   pub rose : Rose (pools.faults before) (pools.faults after)
 
--- How the lines ended, behind the groups that were done: all are answered; or a fork of the pool failed; or a sync stopped, which did this.
-abbrev pub EndsLines : {P : Type 0} → Ghosts P → Cache → Trace → List Reply → Work → Ending → (reached : BetweenGroups P) → (after : P) → Type 0
-EndsLines pools cache trace replies stopped Whole reached after = (stopped ≡ no_work) × (length replies ≡ length trace.ops) × (after ≡ reached.pool)
-EndsLines pools cache trace replies stopped Fork reached after = (stopped ≡ no_work) × (length replies < length trace.ops) × BeginsGroup trace.ops (length replies) × ForkFailed pools reached.pool after
-EndsLines pools cache trace replies stopped Sync reached after = StopsSync pools cache.config (StoodFresh (openings_of trace) cache.config.cells) trace replies stopped sync_fault.PoolFault reached after
-EndsLines pools cache trace replies stopped (Full need left) reached after = StopsSync pools cache.config (StoodFresh (openings_of trace) cache.config.cells) trace replies stopped (sync_fault.PoolFull need left) reached after
+-- How the lines ended, behind the groups that were done, with this party of the feeder: all are answered; or a fork of the pool failed; or a sync stopped, which did this.
+abbrev pub EndsLines : {P : Type 0} → Ghosts P → Cache → Trace → List Reply → PartyPlace → RunWork → Ending → (reached : BetweenGroups P) → (after : P) → Type 0
+EndsLines pools cache trace replies p work Whole reached after = (work.stopped ≡ no_work) × (length replies ≡ length trace.ops) × (after ≡ reached.pool)
+EndsLines pools cache trace replies p work Fork reached after = (work.stopped ≡ no_work) × (length replies < length trace.ops) × BeginsGroup trace.ops (length replies) × ForkFailed pools reached.pool after
+EndsLines pools cache trace replies p work Sync reached after =
+    StopsSync pools cache.config (StoodSo (openings_of trace) cache.config p) trace replies work.lines work.stopped sync_fault.PoolFault reached after
+EndsLines pools cache trace replies p work (Full need left) reached after =
+    StopsSync pools cache.config (StoodSo (openings_of trace) cache.config p) trace replies work.lines work.stopped (sync_fault.PoolFull need left) reached after
 
 -- All lines of the trace were done; or a fork of the pool failed before the group of the first line that isn't answered; or a sync stopped at that line.
-pub record AreDone {P D : Type 0} (cache : Cache) (restored : List Restored) (pools : Ghosts P) (devices : Devices D) (trace : Trace) (before : BetweenGroups P) (after : P) (was is : Option D) (ending : Ending) (replies : List Reply) (work : RunWork) (crew : Crew OnHeap) : Type 0 where
+pub record AreDone {P D : Type 0} (cache : Cache) (restored : List Restored) (pools : Ghosts P) (devices : Devices D) (trace : Trace) (before : BetweenGroups P) (after : P) (was is : Device D) (ending : Ending) (replies : List Reply) (work : RunWork) (crew : Crew OnHeap) : Type 0 where
   pub now : BetweenGroups P
   pub reached : HaveReached cache restored pools devices trace before now was is ending replies work crew
-  pub ended : EndsLines pools cache trace replies work.stopped ending now after
+  pub ended : EndsLines pools cache trace replies crew.feeder work ending now after
+  -- a sync that stopped has its place behind all lines
+  pub last : (t : ℕ) → StoppedAt trace replies ending t → (shard : ℕ) → shard < cache.config.shards → IsCutLast cache.config restored trace.blocks shard t work (seen_of cache.config shard crew.feeder)
 
 -- the lines go on behind a group that came to this
 abbrev pub goes_on : Ending → Bool
@@ -196,7 +211,7 @@ goes_on Sync = false
 goes_on (Full need left) = false
 
 -- The next group was done, and the lines go on; or none of it was begun, since a fork of the pool failed; or its lines were done, and its sync stopped.
-abbrev pub StepsOn : {P D : Type 0} → Cache → List Restored → Ghosts P → Devices D → Trace → (start after : BetweenGroups P) → (was is : Option D) → (replied replies : List Reply) → Ending → Crew OnHeap → Type 0
+abbrev pub StepsOn : {P D : Type 0} → Cache → List Restored → Ghosts P → Devices D → Trace → (start after : BetweenGroups P) → (was is : Device D) → (replied replies : List Reply) → Ending → Crew OnHeap → Type 0
 StepsOn cache restored pools devices trace start after was is replied replies Whole new =
     (work : RunWork) × AreBetween cache restored pools devices trace start after was is replies work new × (length replied < length replies)
 StepsOn cache restored pools devices trace start after was is replied replies Fork new = (work : RunWork) × AreDone cache restored pools devices trace start after.pool was is Fork replies work new

@@ -6,8 +6,10 @@ use Rattle.blk_ptr.specs.Hash.{shard_of}
 use Rattle.blk_ptr.specs.Key.{IsValid, key_end}
 use Rattle.arc_core.specs.declared.config.Config.{Config}
 use Rattle.arc_core.specs.declared.event.Event.{Event}
+use Rattle.arc_core.specs.declared.event.Event.TheVariants.{Resize}
 use Rattle.arc_core.specs.declared.served.Restored.{Restored}
-use Rattle.arc_core.specs.Operations.{Tell, acts_in, is_pool_read, moments, number_of, own_events, own_moments}
+use Rattle.arc_core.specs.Operations.{Act, Tell, acts_in, is_pool_read, moments, number_of, own_events, own_moments}
+use Rattle.arc_table.specs.Geometry.{IsCell, cell_number}
 use Rattle.arc_table.specs.Telling.{opening_of}
 use Rattle.arc_table.specs.Ended.{Ended}
 use Rattle.dbuf_cells.specs.Turns.{OnHeap}
@@ -31,15 +33,17 @@ use Rattle.vdev_io.specs.Faults.{Rose, sum_of_counts}
 use Rattle.arc_check.specs.Judging.{end_of}
 use Rattle.trace_run.specs.declared.ran.Ending.{Ending}
 use Rattle.trace_run.specs.declared.ran.Ending.TheVariants.{Whole, Fork, Sync, Full}
-use Rattle.trace_run.specs.Acts.{events_of_feeder}
 use Rattle.trace_run.specs.Answers.{is_pool_fault}
+use Rattle.trace_run.specs.CellEnds.{done_by}
+use Rattle.trace_run.specs.Deeds.{Noted, acts_of_events, events_of_cell, with_number}
 use Rattle.trace_run.specs.Feeds.{FeedDone}
 use Rattle.trace_run.specs.Lines.{is_of_caller, replies_where}
 use Rattle.trace_run.specs.Objects.{Line, Work, no_work, ops_of, replies_of}
 use Rattle.trace_run.specs.one_caller.PlainRun.{status_of}
 use Rattle.trace_run.specs.Restores.{events_by_feeder, found_keys}
-use Rattle.trace_run.specs.RunWork.{RunWork, lines_of_caller}
-use Rattle.trace_run.specs.callers.WorkLines.{acts_of_work, calls_of_lines}
+use Rattle.trace_run.specs.RunWork.{RunWork, lines_of_caller, lines_of_feeder}
+use Rattle.trace_run.specs.Syncing.{inserts_noted, noted_of}
+use Rattle.trace_run.specs.callers.WorkLines.{acts_of_work, calls_of_lines, noted_of_work}
 use Rattle.vdev_io.specs.Calls.{MakesCalls}
 
 -- The report tells what the closed cache had: the history of each shard, and what the shard ends with.
@@ -129,6 +133,13 @@ pub record StopsAtSync (trace : Trace) (replies : List Reply) : Type 0 where
   pub tick : ℕ
   pub at : slice_get trace.ops (length replies) ≡ Some (Txg tick)
 
+-- the lines ended by a sync of this tick, which stopped
+abbrev pub StoppedAt : Trace → List Reply → Ending → (tick : ℕ) → Type 0
+StoppedAt trace replies Whole tick = ⊥
+StoppedAt trace replies Fork tick = ⊥
+StoppedAt trace replies Sync tick = slice_get trace.ops (length replies) ≡ Some (Txg tick)
+StoppedAt trace replies (Full need left) tick = slice_get trace.ops (length replies) ≡ Some (Txg tick)
+
 -- Where a run stopped: before a group for which a fork failed, or before a sync that failed or for which there was no room. The pool's faults rose where it
 -- failed.
 abbrev pub StopsSo : {P : Type 0} → Ghosts P → (before after : P) → Trace → List Reply → Ending → Type 0
@@ -194,95 +205,128 @@ pub record IsFirstPlace (pool_len : ℕ) (blocks : List Ptr) (place : ℕ) : Typ
   pub behind : (k : ℕ) (ptr : Ptr) → slice_get blocks k ≡ Some ptr → IsValid pool_len ptr.key → key_end ptr.key ≤ place
   pub least : (place ≡ 0) ⊎ ((k : ℕ) × (ptr : Ptr) × (slice_get blocks k ≡ Some ptr) × IsValid pool_len ptr.key × (place ≡ key_end ptr.key))
 
--- What a sync is to say of cells: `Cells tick work cells xs` that these are all cells as it took them, and that it noted and inserted these blocks at the tick, which is this work.
+-- What a sync is to say of cells: `Cells before tick work cells xs` that these are all cells as it took them behind these lines, and that it noted and inserted these blocks at the tick,
+-- which is this work.
 abbrev pub OfCells : Type 1
-OfCells = (tick : ℕ) → Work → List OnHeap → List SyncItem → Type 0
+OfCells = (before : List Line) → (tick : ℕ) → Work → List OnHeap → List SyncItem → Type 0
+
+-- lines, and the one that ends their group
+abbrev pub lines_with_end : List Line → Option Line → List Line
+lines_with_end ls None = ls
+lines_with_end ls (Some l) = ls ++ l ∷ []
 
 module _ {P : Type 0} (pool : Ghosts P) (config : Config) (Cells : OfCells) where
   -- All dirty blocks were written, from the place at which the sync before stopped, and the group's number is their birth; the reply tells how many.
-  pub record SyncsGroup (tick : ℕ) (reply : Reply) (work : Work) (from to : BetweenGroups P) : Type 0 where
+  pub record SyncsGroup (before : List Line) (tick : ℕ) (reply : Reply) (work : Work) (from to : BetweenGroups P) : Type 0 where
     pub done : SyncAnswer
-    pub answer : AnswersWith pool from.group from.next from.pool to.pool config (λ cells xs Besides. Cells tick work cells xs) (Ok done)
+    pub answer : AnswersWith pool from.group from.next from.pool to.pool config (λ cells xs Besides. Cells before tick work cells xs) (Ok done)
     pub replied : reply ≡ Synced from.group done.blocks done.bytes
     pub group : to.group ≡ suc from.group
     pub next : to.next ≡ done.next
 
-  -- a line that ends a group was done
-  abbrev pub EndsBy : Op → Reply → Work → (from to : BetweenGroups P) → Type 0
-  EndsBy (Txg t) reply work from to = SyncsGroup t reply work from to
-  EndsBy (Cap c) reply work from to = to ≡ between_groups from.pool (suc from.group) from.next
-  EndsBy Feed reply work from to = ⊥
-  EndsBy (Read n t x window) reply work from to = ⊥
-  EndsBy (Hold n t x) reply work from to = ⊥
-  EndsBy (Drop n x) reply work from to = ⊥
-  EndsBy (Get n t at window) reply work from to = ⊥
-  EndsBy (Put n t at size fill) reply work from to = ⊥
-  EndsBy (Patch n t at start bytes) reply work from to = ⊥
-  EndsBy (Pin n t at) reply work from to = ⊥
-  EndsBy (Unpin n at) reply work from to = ⊥
+  -- a line that ends a group was done, behind these lines
+  abbrev pub EndsBy : (before : List Line) → Op → Reply → Work → (from to : BetweenGroups P) → Type 0
+  EndsBy before (Txg t) reply work from to = SyncsGroup before t reply work from to
+  EndsBy before (Cap c) reply work from to = to ≡ between_groups from.pool (suc from.group) from.next
+  EndsBy before Feed reply work from to = ⊥
+  EndsBy before (Read n t x window) reply work from to = ⊥
+  EndsBy before (Hold n t x) reply work from to = ⊥
+  EndsBy before (Drop n x) reply work from to = ⊥
+  EndsBy before (Get n t at window) reply work from to = ⊥
+  EndsBy before (Put n t at size fill) reply work from to = ⊥
+  EndsBy before (Patch n t at start bytes) reply work from to = ⊥
+  EndsBy before (Pin n t at) reply work from to = ⊥
+  EndsBy before (Unpin n at) reply work from to = ⊥
 
-  abbrev pub EndsGroup : Option Line → (from to : BetweenGroups P) → Type 0
-  EndsGroup None from to = to ≡ from
-  EndsGroup (Some l) from to = EndsBy l.op l.reply l.work from to
+  abbrev pub EndsGroup : (before : List Line) → Option Line → (from to : BetweenGroups P) → Type 0
+  EndsGroup before None from to = to ≡ from
+  EndsGroup before (Some l) from to = EndsBy before l.op l.reply l.work from to
 
   -- A sync stopped at the line behind the last one that was answered, for this reason, and this is what it did. The blocks before the one in hand were written.
-  pub record StopsSync (trace : Trace) (replies : List Reply) (work : Work) (why : SyncFault) (from : BetweenGroups P) (after : P) : Type 0 where
+  pub record StopsSync (trace : Trace) (replies : List Reply) (before : List Line) (work : Work) (why : SyncFault) (from : BetweenGroups P) (after : P) : Type 0 where
     pub behind : StopsAtSync trace replies
-    pub answer : AnswersWith pool from.group from.next from.pool after config (λ cells xs Besides. Cells behind.tick work cells xs) (Err why)
+    pub answer : AnswersWith pool from.group from.next from.pool after config (λ cells xs Besides. Cells before behind.tick work cells xs) (Err why)
 
   -- What the end of the lines did with the pool, behind the groups that were answered: nothing; but a fork may have failed, or a sync stopped, which did this.
-  abbrev pub EndsRun : Trace → List Reply → Work → Ending → (from : BetweenGroups P) → (after : P) → Type 0
-  EndsRun trace replies work Whole from after = (work ≡ no_work) × (after ≡ from.pool)
-  EndsRun trace replies work Fork from after = (work ≡ no_work) × (pool.size after ≡ pool.size from.pool) × (pool.told after ≡ pool.told from.pool)
-  EndsRun trace replies work Sync from after = StopsSync trace replies work sync_fault.PoolFault from after
-  EndsRun trace replies work (Full need left) from after = StopsSync trace replies work (sync_fault.PoolFull need left) from after
+  abbrev pub EndsRun : Trace → List Reply → (before : List Line) → Work → Ending → (from : BetweenGroups P) → (after : P) → Type 0
+  EndsRun trace replies before work Whole from after = (work ≡ no_work) × (after ≡ from.pool)
+  EndsRun trace replies before work Fork from after = (work ≡ no_work) × (pool.size after ≡ pool.size from.pool) × (pool.told after ≡ pool.told from.pool)
+  EndsRun trace replies before work Sync from after = StopsSync trace replies before work sync_fault.PoolFault from after
+  EndsRun trace replies before work (Full need left) from after = StopsSync trace replies before work (sync_fault.PoolFull need left) from after
 
-  -- The callers did these groups, one after another: each at once, on forks of the pool as it was then, and then the line that ends it.
-  abbrev pub WorkInGroups : List GroupLines → (from to : BetweenGroups P) → Type 0
-  WorkInGroups [] from to = to ≡ from
-  WorkInGroups (group ∷ groups) from to =
-      (worked : P) × (next : BetweenGroups P) × WorkAtOnce pool config.callers group from.pool worked × EndsGroup group.end (between_groups worked from.group from.next) next × WorkInGroups groups next to
+  -- The callers did these groups, one after another, behind these lines: each at once, on forks of the pool as it was then, and then the line that ends it.
+  abbrev pub WorkInGroups : (before : List Line) → List GroupLines → (from to : BetweenGroups P) → Type 0
+  WorkInGroups before [] from to = to ≡ from
+  WorkInGroups before (group ∷ groups) from to =
+      (worked : P) × (next : BetweenGroups P) × WorkAtOnce pool config.callers group from.pool worked × EndsGroup (before ++ group.lines) group.end (between_groups worked from.group from.next) next
+      × WorkInGroups (lines_with_end (before ++ group.lines) group.end) groups next to
 
--- At one place in the history of a shard stand these events. Before it stands all that these lines did there, by these feeds, and nothing else that a caller
--- or the feeder did with its own number.
-pub record IsCut (config : Config) (restored : List Restored) (blocks : List Ptr) (shard : ℕ) (lines : List Line) (feeds : List FeedDone) (here : List Event) (history : List Event) : Type 0 where
+-- ---- what a line that ends a group puts into histories
+
+-- The events that such a line asks of the feeder in a shard with this history: the new capacity; of a sync the Inserts of the blocks that it noted.
+abbrev pub events_at_end : Config → (shard : ℕ) → Op → List Noted → (history : List Event) → List Event
+events_at_end config shard (Cap c) noted history = Resize config.callers c ∷ []
+events_at_end config shard (Txg t) noted history = inserts_noted config t noted shard history
+events_at_end config shard Feed noted history = []
+events_at_end config shard (Read n t x window) noted history = []
+events_at_end config shard (Hold n t x) noted history = []
+events_at_end config shard (Drop n x) noted history = []
+events_at_end config shard (Get n t at window) noted history = []
+events_at_end config shard (Put n t at size fill) noted history = []
+events_at_end config shard (Patch n t at from bytes) noted history = []
+events_at_end config shard (Pin n t at) noted history = []
+events_at_end config shard (Unpin n at) noted history = []
+
+-- At one place in the history of a shard stand these events, which go by what stands before. Before it stands all that these lines did there, by these feeds, and nothing else that a caller
+-- or the feeder did with its own number. These acts of the feeder with the numbers of cells stand there.
+pub record IsCut (config : Config) (restored : List Restored) (blocks : List Ptr) (shard : ℕ) (lines : List Line) (feeds : List FeedDone) (acts : List Act) (here : List Event → List Event) (history : List Event) : Type 0 where
   pub front : List Event
   pub rest : List Event
-  pub whole : history ≡ front ++ (here ++ rest)
+  pub whole : history ≡ front ++ (here front ++ rest)
   pub callers : (n : ℕ) → n < config.callers
       → Tell (acts_in (shard_of config.shards) shard n (acts_of_work config blocks [] (lines_of_caller n lines))) (own_moments n (moments (opening_of config) front))
   pub feeder : own_events config.callers front ≡ events_by_feeder config restored (ops_of lines) (replies_of lines) feeds shard
+  pub inserted : (i : ℕ) → IsCell config i → acts_in (shard_of config.shards) shard (cell_number config i) acts ≡ acts_of_events (with_number (cell_number config i) (here front))
 
--- Each line of these that ends a group cuts the history of a shard behind the lines before it. There stands what the line asks of the feeder: the new
--- capacity; of a sync the Inserts, which have cells' numbers, are told elsewhere.
+-- Each line of these that ends a group cuts the history of a shard behind the lines before it. There stands what the line asks of the feeder.
 abbrev pub AreCut : Config → List Restored → List Ptr → (shard : ℕ) → RunWork → (history : List Event) → Type 0
 AreCut config restored blocks shard work history =
     (k : ℕ) (l : Line) → slice_get work.lines k ≡ Some l → ends_group l.op ≡ true
-    → IsCut config restored blocks shard (take k work.lines) work.feeds (events_of_feeder config.callers l.op) history
+    → IsCut config restored blocks shard (take k work.lines) work.feeds l.work.acts (events_at_end config shard l.op l.work.noted) history
+
+-- So it is behind all lines, where a sync stopped there at this tick.
+abbrev pub IsCutLast : Config → List Restored → List Ptr → (shard tick : ℕ) → RunWork → (history : List Event) → Type 0
+IsCutLast config restored blocks shard tick work history =
+    IsCut config restored blocks shard work.lines work.feeds work.stopped.acts (inserts_noted config tick work.stopped.noted shard) history
 
 -- ---- the cells at a sync
 
 -- A cell of the closed cache stood so when a sync took it: it had begun in the same way, it was sound, and what had been done to it stands at the front of
--- what was done to it in all; just behind that stand these entries.
-pub record HadThen (news : List CellEvent) (cell closed : OnHeap) : Type 0 where
+-- what was done to it in all; just behind that stand these entries. Each caller, and the feeder, had done to it just what these lines did.
+pub record HadThen (config : Config) (i : ℕ) (before : List Line) (news : List CellEvent) (cell closed : OnHeap) : Type 0 where
   pub limit : cell.value.limit ≡ closed.value.limit
   pub opening : cell.value.opening ≡ closed.value.opening
   pub sound : IsSound cell.value
   pub rest : List CellEvent
   pub whole : closed.value.history ≡ cell.value.history ++ (news ++ rest)
+  pub did : (n : ℕ) → n < config.callers → done_by n cell.value.history ≡ events_of_cell i (noted_of_work (lines_of_caller n before))
+  pub fed : done_by config.callers cell.value.history ≡ events_of_cell i (noted_of_work (lines_of_feeder before))
 
--- All cells did, and the feeder noted of each its blocks among these.
-pub record StoodThen (trace : Trace) (closed : List OnHeap) (tick : ℕ) (work : Work) (cells : List OnHeap) (xs : List SyncItem) : Type 0 where
+-- All cells did, and the feeder noted of each its blocks among these: that is the work.
+pub record StoodThen (trace : Trace) (closed : List OnHeap) (before : List Line) (tick : ℕ) (work : Work) (cells : List OnHeap) (xs : List SyncItem) : Type 0 where
   pub count : length cells ≡ length closed
-  pub each : (i : ℕ) (cell end : OnHeap) → slice_get cells i ≡ Some cell → slice_get closed i ≡ Some end → HadThen (synced_in trace.config.callers i xs) cell end
+  pub each : (i : ℕ) (cell end : OnHeap) → slice_get cells i ≡ Some cell → slice_get closed i ≡ Some end → HadThen trace.config i before (synced_in trace.config.callers i xs) cell end
+  pub noted : work.noted ≡ noted_of trace.config.callers xs
 
 -- With two callers or more, each has a fork of the pool in each group, made as the group begins; the first sync writes from this place on. Where one fails, that group isn't begun, and the
 -- pool has only counted that. Where a sync stops, the lines of its group are done, and none behind it is begun.
 pub record RunsTogether {P : Type 0} (pool : Ghosts P) (before after : P) (place : ℕ) (trace : Trace) (ending : Ending) (work : RunWork) (closed : List OnHeap) (report : Report) : Type 0 where
   pub reached : BetweenGroups P
-  pub groups : WorkInGroups pool trace.config (StoodThen trace closed) (groups_done ending work.lines) (between_groups before 1 place) reached
-  pub ended : EndsRun pool trace.config (StoodThen trace closed) trace report.replies work.stopped ending reached after
+  pub groups : WorkInGroups pool trace.config (StoodThen trace closed) [] (groups_done ending work.lines) (between_groups before 1 place) reached
+  pub ended : EndsRun pool trace.config (StoodThen trace closed) trace report.replies work.lines work.stopped ending reached after
   -- each caller's reads of its forks are those that its events stand for
   pub counted : (n : ℕ) → n < trace.config.callers → length (calls_of_lines (lines_of_caller n work.lines)) ≡ reads_of_caller n report.histories
   -- a capacity is given to each shard, and a sync done, once all lines before it are done, and before any line behind it is begun
   pub cut : (shard : ℕ) → shard < length report.histories → AreCut trace.config (found_keys report.rebuilt) trace.blocks shard work (slice_index_or report.histories shard [])
+  -- and so is a sync that stopped
+  pub last : (t : ℕ) → StoppedAt trace report.replies ending t → (shard : ℕ) → shard < length report.histories → IsCutLast trace.config (found_keys report.rebuilt) trace.blocks shard t work (slice_index_or report.histories shard [])

@@ -27,29 +27,29 @@ use Rattle.trace_run.specs.callers.WorkLines.{AreLinesOf, AsksGiven, calls_of_li
 -- ---- the pool
 
 module _ {P : Type 0} (pool : Ghosts P) (config : Config) (Cells : OfCells) where
-  -- A line that is no caller's was done: a feed leaves the pool alone.
-  abbrev pub FeederSteps : Op → Reply → Work → (from to : BetweenGroups P) → Type 0
-  FeederSteps ops.Feed reply work from to = to ≡ from
-  FeederSteps (ops.Txg t) reply work from to = EndsBy pool config Cells (ops.Txg t) reply work from to
-  FeederSteps (ops.Cap c) reply work from to = EndsBy pool config Cells (ops.Cap c) reply work from to
-  FeederSteps (ops.Read n t x window) reply work from to = ⊥
-  FeederSteps (ops.Hold n t x) reply work from to = ⊥
-  FeederSteps (ops.Drop n x) reply work from to = ⊥
-  FeederSteps (ops.Get n t at window) reply work from to = ⊥
-  FeederSteps (ops.Put n t at size fill) reply work from to = ⊥
-  FeederSteps (ops.Patch n t at start bytes) reply work from to = ⊥
-  FeederSteps (ops.Pin n t at) reply work from to = ⊥
-  FeederSteps (ops.Unpin n at) reply work from to = ⊥
+  -- A line that is no caller's was done, behind these lines: a feed leaves the pool alone.
+  abbrev pub FeederSteps : (before : List Line) → Op → Reply → Work → (from to : BetweenGroups P) → Type 0
+  FeederSteps before ops.Feed reply work from to = to ≡ from
+  FeederSteps before (ops.Txg t) reply work from to = EndsBy pool config Cells before (ops.Txg t) reply work from to
+  FeederSteps before (ops.Cap c) reply work from to = EndsBy pool config Cells before (ops.Cap c) reply work from to
+  FeederSteps before (ops.Read n t x window) reply work from to = ⊥
+  FeederSteps before (ops.Hold n t x) reply work from to = ⊥
+  FeederSteps before (ops.Drop n x) reply work from to = ⊥
+  FeederSteps before (ops.Get n t at window) reply work from to = ⊥
+  FeederSteps before (ops.Put n t at size fill) reply work from to = ⊥
+  FeederSteps before (ops.Patch n t at start bytes) reply work from to = ⊥
+  FeederSteps before (ops.Pin n t at) reply work from to = ⊥
+  FeederSteps before (ops.Unpin n at) reply work from to = ⊥
 
   -- a caller's line read the pool as its reply says, and did nothing else with it
-  abbrev pub LineSteps : Option ℕ → Line → (from to : BetweenGroups P) → Type 0
-  LineSteps (Some n) l from to = MakesCalls pool (calls_of_lines (l ∷ [])) from.pool to.pool × (to.group ≡ from.group) × (to.next ≡ from.next)
-  LineSteps None l from to = FeederSteps l.op l.reply l.work from to
+  abbrev pub LineSteps : (before : List Line) → Option ℕ → Line → (from to : BetweenGroups P) → Type 0
+  LineSteps before (Some n) l from to = MakesCalls pool (calls_of_lines (l ∷ [])) from.pool to.pool × (to.group ≡ from.group) × (to.next ≡ from.next)
+  LineSteps before None l from to = FeederSteps before l.op l.reply l.work from to
 
-  -- so all lines did, in their order
-  abbrev pub WorkInTurn : List Line → (from to : BetweenGroups P) → Type 0
-  WorkInTurn [] from to = to ≡ from
-  WorkInTurn (l ∷ ls) from to = (next : BetweenGroups P) × LineSteps (caller_of l.op) l from next × WorkInTurn ls next to
+  -- so all lines did, in their order, behind these
+  abbrev pub WorkInTurn : (before : List Line) → List Line → (from to : BetweenGroups P) → Type 0
+  WorkInTurn before [] from to = to ≡ from
+  WorkInTurn before (l ∷ ls) from to = (next : BetweenGroups P) × LineSteps before (caller_of l.op) l from next × WorkInTurn (before ++ l ∷ []) ls next to
 
 -- ---- the cache device
 
@@ -103,8 +103,8 @@ pub record DidOwnLines {P D : Type 0} (cache : Cache) (pools : Ghosts P) (device
 -- With one caller the lines are done one after another. Where a sync stops, none behind it is done.
 pub record RunsInTurn {P D : Type 0} (pool : Ghosts P) (device : Devices D) (before after : P) (lent back : Option D) (place : ℕ) (trace : Trace) (ending : Ending) (work : RunWork) (closed : List OnHeap) (report : Report) : Type 0 where
   pub reached : BetweenGroups P
-  pub lines : WorkInTurn pool trace.config (StoodThen trace closed) work.lines (between_groups before 1 place) reached
-  pub ended : EndsRun pool trace.config (StoodThen trace closed) trace report.replies work.stopped ending reached after
+  pub lines : WorkInTurn pool trace.config (StoodThen trace closed) [] work.lines (between_groups before 1 place) reached
+  pub ended : EndsRun pool trace.config (StoodThen trace closed) trace report.replies work.lines work.stopped ending reached after
   pub used : UsedInTurn device trace.blocks work.lines work.feeds lent back
   -- the caller's reads of the pool are those that its events stand for
   pub counted : length (calls_of_lines (lines_of_caller 0 work.lines)) ≡ reads_of_caller 0 report.histories

@@ -1,29 +1,37 @@
-use Rattle.std.proofs.Common.{◌<◌, ◌≤◌, length, ap, arith}
+use Rattle.std.proofs.Common.{◌<◌, ◌≤◌, length, sym, ap, ◌∙◌, arith}
 use Rattle.trace_run.specs.callers.Together.{between_groups}
-use Rattle.trace_run.specs.Devices.{lent_in}
-use Rattle.trace_run.proofs.DeviceLemmas.{lent-then}
-use Rattle.trace_run.proofs.callers.BesideLemmas.{lent-fed}
-use Rattle.trace_run.proofs.callers.StepLemmas.{all-stepped, leaves-then, not-stepped, stepped}
+use Rattle.trace_run.proofs.callers.FrontLemmas.{front-before, front-same, front-then}
+use Rattle.trace_run.proofs.callers.InUse.{in-use-same, in-use-then}
+use Rattle.trace_run.proofs.callers.StepLemmas.{all-stepped, not-stepped, stepped}
 use Rattle.trace_run.proofs.groups.all_groups.Goals as goal
 
-pub next_group-requires-clause-between : goal.next_group-requires-clause-between
-next_group-requires-clause-between g c κs within = ((between_groups c.args.pool.now c.args.syncs.group c.args.syncs.next), c.requires.between.0, c.loop-alloc.invariant.between c.requires.between.0 c.requires.between.1)
+pub loop-alloc-init : goal.loop-alloc-init
+loop-alloc-init g c = record {
+  between = λ restored work between. (work, between);
+  later = omega arith;
+  leaves = front-same g.P.Pool c.args.syncs.next c.args.pool.now;
+  used = in-use-same g.D.CacheDev c.args.device.now;
+  device = c.requires.device;
+}
 
-pub returns-then-not-done-clause-stopped : goal.returns-then-not-done-clause-stopped
-returns-then-not-done-clause-stopped g c = λ restored between.
-    let before = c.loop-alloc.invariant.between restored between in
-    let more : length c.loop-alloc.replies.items < length c.args.trace.now.ops =
-    let test = c.loop-alloc-test.true in let is = c.len.ensures in let long = c.loop-alloc.replies.ok.0 in omega (arith, test, is, long, ap length c.as_slice.ensures) in
-    not-stepped c.args.arcs.now restored g.P.Pool c.args.trace.now (between_groups c.args.pool.now c.args.syncs.group c.args.syncs.next) (between_groups c.loop-alloc.pool c.loop-alloc.syncs.group c.loop-alloc.syncs.next) (between_groups c.next_group.new.pool c.in_ok-after.later.group c.in_ok-after.later.next) c.loop-alloc.replies.items c.next_group.new.replies.items c.in_ok-after.done c.loop-alloc.crew c.in_ok-after.after
-    c.if-not-done.true (c.in_ok-after.ensures.steps (between_groups c.args.pool.now c.args.syncs.group c.args.syncs.next) restored before) before more
+pub next_group-requires-clause-between : goal.next_group-requires-clause-between
+next_group-requires-clause-between g c κs within =
+    let before = c.loop-alloc.invariant.between c.requires.between.0 c.requires.between.1 c.requires.between.2 in
+    ((between_groups c.args.pool.now c.args.syncs.group c.args.syncs.next), c.requires.between.0, c.args.device.now, before.0, before.1)
+
+pub returns-then-not-goes_on-clause-done : goal.returns-then-not-goes_on-clause-done
+returns-then-not-goes_on-clause-done g c = λ restored work between.
+    let before = c.loop-alloc.invariant.between restored work between in
+    not-stepped c.args.arcs.now restored g.P.Pool g.D.CacheDev c.args.trace.now (between_groups c.args.pool.now c.args.syncs.group c.args.syncs.next) (between_groups c.next_group.new.pool c.in_ok-after.later.group c.in_ok-after.later.next) c.args.device.now c.next_group.new.device c.loop-alloc.replies.items c.next_group.new.replies.items c.in_ok-after.after c.in_ok-after.ending
+    (sym c.goes_on.ensures ∙ c.if-not-goes_on.true) (c.in_ok-after.ensures.did (between_groups c.args.pool.now c.args.syncs.group c.args.syncs.next) restored c.args.device.now before.0 before.1)
 
 pub loop-alloc-smaller : goal.loop-alloc-smaller
 loop-alloc-smaller g c =
-    let before = c.loop-alloc.invariant.between c.requires.between.0 c.requires.between.1 in
-    let step = stepped c.args.arcs.now c.requires.between.0 g.P.Pool c.args.trace.now (between_groups c.args.pool.now c.args.syncs.group c.args.syncs.next) (between_groups c.loop-alloc.pool c.loop-alloc.syncs.group c.loop-alloc.syncs.next) (between_groups c.next_group.new.pool c.in_ok-after.later.group c.in_ok-after.later.next) c.loop-alloc.replies.items c.next_group.new.replies.items c.in_ok-after.done c.loop-alloc.crew c.in_ok-after.after
-    c.if-not-done.false (c.in_ok-after.ensures.steps (between_groups c.args.pool.now c.args.syncs.group c.args.syncs.next) c.requires.between.0 before) in
-    let grown = step.1 in
-    let few = step.0.few in
+    let before = c.loop-alloc.invariant.between c.requires.between.0 c.requires.between.1 c.requires.between.2 in
+    let step = stepped c.args.arcs.now c.requires.between.0 g.P.Pool g.D.CacheDev c.args.trace.now (between_groups c.args.pool.now c.args.syncs.group c.args.syncs.next) (between_groups c.next_group.new.pool c.in_ok-after.later.group c.in_ok-after.later.next) c.args.device.now c.next_group.new.device c.loop-alloc.replies.items c.next_group.new.replies.items c.in_ok-after.after c.in_ok-after.ending
+    (sym c.goes_on.ensures ∙ c.if-not-goes_on.false) (c.in_ok-after.ensures.did (between_groups c.args.pool.now c.args.syncs.group c.args.syncs.next) c.requires.between.0 c.args.device.now before.0 before.1) in
+    let grown = step.2 in
+    let few = step.1.reached.few in
     let test = c.loop-alloc-test.true in
     let is = c.len.ensures in
     let long = c.loop-alloc.replies.ok.0 in
@@ -32,19 +40,21 @@ loop-alloc-smaller g c =
 
 pub loop-alloc-preserved : goal.loop-alloc-preserved
 loop-alloc-preserved g c = record {
-  between = λ restored between.
-      (stepped c.args.arcs.now restored g.P.Pool c.args.trace.now (between_groups c.args.pool.now c.args.syncs.group c.args.syncs.next) (between_groups c.loop-alloc.pool c.loop-alloc.syncs.group c.loop-alloc.syncs.next) (between_groups c.next_group.new.pool c.in_ok-after.later.group c.in_ok-after.later.next) c.loop-alloc.replies.items c.next_group.new.replies.items c.in_ok-after.done c.loop-alloc.crew c.in_ok-after.after
-      c.if-not-done.false (c.in_ok-after.ensures.steps (between_groups c.args.pool.now c.args.syncs.group c.args.syncs.next) restored (c.loop-alloc.invariant.between restored between))).0;
-  leaves = leaves-then g.P.Pool c.args.pool.now c.loop-alloc.pool c.next_group.new.pool c.loop-alloc.invariant.leaves c.in_ok-after.ensures.pool;
-  read = c.in_ok-after.ensures.read (lent_in c.args.device.now) c.loop-alloc.invariant.read;
-  lent = lent-then g.D.CacheDev c.args.device.now c.loop-alloc.device c.next_group.new.device c.loop-alloc.invariant.lent c.in_ok-after.ensures.device;
+  between = λ restored work between.
+      let before = c.loop-alloc.invariant.between restored work between in
+      let step = stepped c.args.arcs.now restored g.P.Pool g.D.CacheDev c.args.trace.now (between_groups c.args.pool.now c.args.syncs.group c.args.syncs.next) (between_groups c.next_group.new.pool c.in_ok-after.later.group c.in_ok-after.later.next) c.args.device.now c.next_group.new.device c.loop-alloc.replies.items c.next_group.new.replies.items c.in_ok-after.after c.in_ok-after.ending
+      (sym c.goes_on.ensures ∙ c.if-not-goes_on.false) (c.in_ok-after.ensures.did (between_groups c.args.pool.now c.args.syncs.group c.args.syncs.next) restored c.args.device.now before.0 before.1) in
+      (step.0, step.1);
+  later = let a = c.loop-alloc.invariant.later in let b = c.in_ok-after.ensures.later in omega (arith, a, b);
+  leaves = front-then g.P.Pool c.args.syncs.next c.args.pool.now c.loop-alloc.pool c.next_group.new.pool c.loop-alloc.invariant.leaves
+      (front-before g.P.Pool c.args.syncs.next c.loop-alloc.syncs.next c.loop-alloc.pool c.next_group.new.pool c.loop-alloc.invariant.later c.in_ok-after.ensures.pool);
+  used = in-use-then g.D.CacheDev c.args.device.now c.loop-alloc.device c.next_group.new.device c.loop-alloc.invariant.used c.in_ok-after.ensures.used;
+  device = c.in_ok-after.ensures.device;
 }
 
-pub returns-clause-stopped : goal.returns-clause-stopped
-returns-clause-stopped g c = λ restored between.
+pub returns-clause-done : goal.returns-clause-done
+returns-clause-done g c = λ restored work between.
     let all : length c.args.trace.now.ops ≤ length c.loop-alloc.replies.items =
     let test = c.loop-alloc-test.false in let is = c.len.ensures in let long = c.loop-alloc.replies.ok.0 in omega (arith, test, is, long, ap length c.as_slice.ensures) in
-    all-stepped c.args.arcs.now restored g.P.Pool c.args.trace.now (between_groups c.args.pool.now c.args.syncs.group c.args.syncs.next) (between_groups c.loop-alloc.pool c.loop-alloc.syncs.group c.loop-alloc.syncs.next) c.loop-alloc.replies.items c.loop-alloc.crew (c.loop-alloc.invariant.between restored between) all
-
-pub next_group-requires-clause-device : goal.next_group-requires-clause-device
-next_group-requires-clause-device g c κs within = lent-fed g.D.CacheDev c.args.arcs.now.config c.args.device.now c.loop-alloc.device c.loop-alloc.invariant.lent c.requires.device
+    let now = c.loop-alloc.invariant.between restored work between in
+    (now.0, all-stepped c.args.arcs.now restored g.P.Pool g.D.CacheDev c.args.trace.now (between_groups c.args.pool.now c.args.syncs.group c.args.syncs.next) (between_groups c.loop-alloc.pool c.loop-alloc.syncs.group c.loop-alloc.syncs.next) c.args.device.now c.loop-alloc.device c.loop-alloc.replies.items now.0 c.loop-alloc.crew now.1 all)

@@ -1,116 +1,148 @@
-use Rattle.std.proofs.Common.{◌≡◌, ◌<◌, ℕ, List, Some, length, vec_len, refl, sym, ap, ◌∙◌, subst, arith}
+use Rattle.std.proofs.Common.{◌≡◌, ◌<◌, ◌≤◌, ℕ, List, Some, length, vec_len, refl, sym, ap, ◌∙◌, subst, arith, rules}
 use Rattle.std.specs.Prelude.{slice_get, slice_range}
 use Rattle.std.proofs.lemmas.Option.{slice_get_read}
 use Rattle.blk_ptr.specs.declared.ptr.Ptr.{Ptr}
 use Rattle.arc_core.specs.declared.config.Config.{Config}
 use Rattle.trace_text.specs.declared.op.Op.{Op}
 use Rattle.trace_run.specs.callers.Callers.{AreAtStart}
-use Rattle.trace_run.specs.callers.Groups.{AreOfCallers}
-use Rattle.trace_run.specs.Tally.{AreDeclared}
-use Rattle.trace_run.proofs.callers.GroupRunLemmas.{come-named, may-start}
-use Rattle.trace_run.specs.callers.Together.{between_groups}
 use Rattle.trace_run.specs.Devices.{lent_in}
+use Rattle.trace_run.specs.callers.Groups.{ForkFailed}
+use Rattle.trace_run.specs.callers.InOrder.{AreInGroup}
+use Rattle.trace_run.specs.callers.Together.{between_groups}
+use Rattle.trace_run.specs.Tally.{AreDeclared}
 use Rattle.trace_run.proofs.callers.BesideLemmas.{fed-idle}
-use Rattle.trace_run.proofs.callers.DeviceSteps.{read-ended, read-last}
 use Rattle.trace_run.proofs.callers.EndLineLemmas.{IsUnused}
-use Rattle.trace_run.proofs.callers.StepLemmas.{next-ended, next-last, next-may, next-sync, next-unwritten, range-callers, range-declared}
+use Rattle.trace_run.proofs.callers.GroupRunLemmas.{come-named, may-start}
+use Rattle.trace_run.proofs.callers.InUse.{tried-in-use}
+use Rattle.trace_run.proofs.callers.StepLemmas.{next-ended, next-forked, next-halted, next-last, next-may, next-number, next-sync, range-declared, range-group}
 use Rattle.trace_run.proofs.groups.next_group.Goals as goal
 
-pub callers_at_once-requires-clause-start : goal.callers_at_once-requires-clause-start
-callers_at_once-requires-clause-start g c κs within =
-    let come = c.requires.between.2.come in
-    subst (λ (bs : List Ptr). AreAtStart c.args.arcs.now bs 0 c.args.crew.kept.items c.args.crew.parties.items) (sym c.as_slice-blocks.ensures)
-    (may-start c.args.arcs.now _ _ _ c.args.trace.now.blocks _ _ c.args.crew come (come-named c.args.arcs.now _ _ _ c.args.trace.now.blocks _ _ c.args.crew come))
+-- ---- the lines of the group
 
-pub callers_at_once-requires-clause-declared : goal.callers_at_once-requires-clause-declared
-callers_at_once-requires-clause-declared g c κs within =
+pub lines_at_once-requires-clause-start : goal.lines_at_once-requires-clause-start
+lines_at_once-requires-clause-start g c κs within =
+    let come = c.requires.between.4.reached.come in
+    subst (λ (bs : List Ptr). AreAtStart c.args.arcs.now bs 0 c.args.crew.kept.items c.args.crew.parties.items) (sym c.as_slice-blocks.ensures)
+    (may-start c.args.arcs.now _ _ _ _ c.args.trace.now.blocks _ _ _ c.args.crew come (come-named c.args.arcs.now _ _ _ _ c.args.trace.now.blocks _ _ _ c.args.crew come))
+
+pub lines_at_once-requires-clause-declared : goal.lines_at_once-requires-clause-declared
+lines_at_once-requires-clause-declared g c κs within =
     subst (λ (x : List Ptr × List Op). AreDeclared (length x.0) (slice_range x.1 c.len-first.result c.group_end-to.result)) (λ i. (sym c.as_slice-blocks.ensures i, sym c.as_slice-ops.ensures i))
     (range-declared c.args.trace.now c.requires.formed c.len-first.result c.group_end-to.result)
 
-pub callers_at_once-requires-clause-callers : goal.callers_at_once-requires-clause-callers
-callers_at_once-requires-clause-callers g c κs within =
+pub lines_at_once-requires-clause-group : goal.lines_at_once-requires-clause-group
+lines_at_once-requires-clause-group g c κs within =
     let many : c.args.trace.now.config.callers ≡ vec_len c.args.crew.parties =
-    let parties = c.requires.between.2.come.parties in let long = c.args.crew.parties.ok.0 in let same = ap (λ (x : Config). x.callers) c.requires.config in omega (arith, parties, long, same) in
-    subst (λ (x : ℕ × List Op). AreOfCallers x.0 (slice_range x.1 c.len-first.result c.group_end-to.result)) (λ i. (many i, sym c.as_slice-ops.ensures i))
-    (range-callers c.args.trace.now c.requires.formed c.len-first.result c.group_end-to.result
+    let parties = c.requires.between.4.reached.come.parties in let long = c.args.crew.parties.ok.0 in let same = ap (λ (x : Config). x.callers) c.requires.config in omega (arith, parties, long, same) in
+    subst (λ (x : ℕ × List Op). AreInGroup x.0 (slice_range x.1 c.len-first.result c.group_end-to.result)) (λ i. (many i, sym c.as_slice-ops.ensures i))
+    (range-group c.args.trace.now c.requires.formed c.len-first.result c.group_end-to.result
     (λ k op low high here. c.group_end-to.ensures.inside k op low high (ap (λ (l : List Op). slice_get l k) c.as_slice-ops.ensures ∙ here)))
 
-pub returns-in_default-clause-steps : goal.returns-in_default-clause-steps
-returns-in_default-clause-steps g c = λ start restored between.
+pub lines_at_once-requires-clause-feeder : goal.lines_at_once-requires-clause-feeder
+lines_at_once-requires-clause-feeder g c κs within = fed-idle c.args.arcs.now c.args.crew.feeder.own.about.openings _ _ _ _ c.args.crew.feeder c.requires.between.4.reached.come.feeder
+
+-- ---- the trace ends with them
+
+pub returns-in_default-clause-did : goal.returns-in_default-clause-did
+returns-in_default-clause-did g c = λ start restored was work between.
     let first : c.len-first.result ≡ length c.args.replies.now.items = let is = c.len-first.ensures in let long = c.args.replies.now.ok.0 in omega (arith, is, long) in
     let unused : IsUnused g.P.Pool c.args.pool.now c.forks.new.pool = record { size = c.in-Ok.ensures.keeps.size; told = c.in-Ok.ensures.keeps.told; reads = c.in-Ok.ensures.unread; faults = c.in-Ok.ensures.unfailed } in
-    next-last c.args.arcs.now restored g.P.Pool c.args.trace.now c.requires.formed c.requires.config start (between_groups c.args.pool.now c.args.syncs.group c.args.syncs.next) c.forks.new.pool c.callers_at_once.new.pool c.args.replies.now.items c.in_ok-crew.answered.items c.args.crew c.in_ok-crew.crew
-    c.len-first.result c.group_end-to.result c.as_slice-blocks.result.now c.as_slice-ops.result.now c.as_slice-blocks.ensures c.as_slice-ops.ensures first c.group_end-to.ensures.range.0 c.group_end-to.ensures.range.1 c.group_end-to.ensures.inside
-    between (let more = c.requires.more in let long = c.args.replies.now.ok.0 in omega (arith, more, long)) unused c.in_ok-crew.ensures.did c.in_ok-crew.ensures.feeder c.callers_at_once.ensures.pool c.in_default.ensures.lookup.3 c.append.new.replies.items c.in_ok-append.ensures
+    next-last c.args.arcs.now restored g.P.Pool g.D.CacheDev c.args.trace.now c.requires.formed c.requires.config start (between_groups c.args.pool.now c.args.syncs.group c.args.syncs.next) was c.forks.new.pool c.lines_at_once.new.pool c.args.device.now c.lines_at_once.new.device
+    c.args.replies.now.items c.in_ok-crew.answered.items work c.args.crew c.in_ok-crew.crew c.len-first.result c.group_end-to.result c.as_slice-blocks.result.now c.as_slice-ops.result.now c.as_slice-blocks.ensures c.as_slice-ops.ensures first
+    c.group_end-to.ensures.range.0 c.group_end-to.ensures.range.1 c.group_end-to.ensures.inside between (let more = c.requires.more in let long = c.args.replies.now.ok.0 in omega (arith, more, long)) unused c.in_ok-crew.ensures.did c.in_ok-crew.ensures.feeder c.lines_at_once.ensures.pool c.in_default.ensures.lookup.3 c.append.new.replies.items c.in_ok-append.ensures
+
+-- ---- the line that ends them
 
 pub end_line-requires-clause-may : goal.end_line-requires-clause-may
 end_line-requires-clause-may g c κs within =
     let first : c.len-first.result ≡ length c.args.replies.now.items = let is = c.len-first.ensures in let long = c.args.replies.now.ok.0 in omega (arith, is, long) in
     let unused : IsUnused g.P.Pool c.args.pool.now c.forks.new.pool = record { size = c.in-Ok.ensures.keeps.size; told = c.in-Ok.ensures.keeps.told; reads = c.in-Ok.ensures.unread; faults = c.in-Ok.ensures.unfailed } in
-    next-may c.args.arcs.now c.requires.between.1 g.P.Pool c.args.trace.now c.requires.formed c.requires.config c.requires.between.0 (between_groups c.args.pool.now c.args.syncs.group c.args.syncs.next) c.forks.new.pool c.callers_at_once.new.pool c.args.replies.now.items c.in_ok-crew.answered.items c.args.crew c.in_ok-crew.crew
-    c.len-first.result c.group_end-to.result c.as_slice-blocks.result.now c.as_slice-ops.result.now c.as_slice-blocks.ensures c.as_slice-ops.ensures first c.group_end-to.ensures.range.0 c.group_end-to.ensures.range.1 c.group_end-to.ensures.inside
-    c.requires.between.2 (let more = c.requires.more in let long = c.args.replies.now.ok.0 in omega (arith, more, long)) unused c.in_ok-crew.ensures.did c.in_ok-crew.ensures.feeder c.callers_at_once.ensures.pool c.requires.rows
+    next-may c.args.arcs.now c.requires.between.1 g.P.Pool g.D.CacheDev c.args.trace.now c.requires.formed c.requires.config c.requires.between.0 (between_groups c.args.pool.now c.args.syncs.group c.args.syncs.next) c.requires.between.2 c.forks.new.pool c.lines_at_once.new.pool c.args.device.now c.lines_at_once.new.device
+    c.args.replies.now.items c.in_ok-crew.answered.items c.requires.between.3 c.args.crew c.in_ok-crew.crew c.len-first.result c.group_end-to.result c.as_slice-blocks.result.now c.as_slice-ops.result.now c.as_slice-blocks.ensures c.as_slice-ops.ensures first
+    c.group_end-to.ensures.range.0 c.group_end-to.ensures.range.1 c.group_end-to.ensures.inside c.requires.between.4 (let more = c.requires.more in let long = c.args.replies.now.ok.0 in omega (arith, more, long)) unused c.in_ok-crew.ensures.did c.in_ok-crew.ensures.feeder c.lines_at_once.ensures.pool c.requires.rows
 
-pub end_line-requires-clause-unwritten : goal.end_line-requires-clause-unwritten
-end_line-requires-clause-unwritten g c κs within =
+pub end_line-requires-clause-feeder : goal.end_line-requires-clause-feeder
+end_line-requires-clause-feeder g c κs within =
     let first : c.len-first.result ≡ length c.args.replies.now.items = let is = c.len-first.ensures in let long = c.args.replies.now.ok.0 in omega (arith, is, long) in
     let unused : IsUnused g.P.Pool c.args.pool.now c.forks.new.pool = record { size = c.in-Ok.ensures.keeps.size; told = c.in-Ok.ensures.keeps.told; reads = c.in-Ok.ensures.unread; faults = c.in-Ok.ensures.unfailed } in
-    next-unwritten c.args.arcs.now c.requires.between.1 g.P.Pool c.args.trace.now c.requires.formed c.requires.config c.requires.between.0 (between_groups c.args.pool.now c.args.syncs.group c.args.syncs.next) c.forks.new.pool c.callers_at_once.new.pool c.args.replies.now.items c.in_ok-crew.answered.items c.args.crew c.in_ok-crew.crew
-    c.len-first.result c.group_end-to.result c.as_slice-blocks.result.now c.as_slice-ops.result.now c.as_slice-blocks.ensures c.as_slice-ops.ensures first c.group_end-to.ensures.range.0 c.group_end-to.ensures.range.1 c.group_end-to.ensures.inside
-    c.requires.between.2 (let more = c.requires.more in let long = c.args.replies.now.ok.0 in omega (arith, more, long)) unused c.in_ok-crew.ensures.did c.in_ok-crew.ensures.feeder c.callers_at_once.ensures.pool
+    next-number c.args.arcs.now c.requires.between.1 g.P.Pool g.D.CacheDev c.args.trace.now c.requires.formed c.requires.config c.requires.between.0 (between_groups c.args.pool.now c.args.syncs.group c.args.syncs.next) c.requires.between.2 c.forks.new.pool c.lines_at_once.new.pool c.args.device.now c.lines_at_once.new.device
+    c.args.replies.now.items c.in_ok-crew.answered.items c.requires.between.3 c.args.crew c.in_ok-crew.crew c.len-first.result c.group_end-to.result c.as_slice-blocks.result.now c.as_slice-ops.result.now c.as_slice-blocks.ensures c.as_slice-ops.ensures first
+    c.group_end-to.ensures.range.0 c.group_end-to.ensures.range.1 c.group_end-to.ensures.inside c.requires.between.4 (let more = c.requires.more in let long = c.args.replies.now.ok.0 in omega (arith, more, long)) unused c.in_ok-crew.ensures.did c.in_ok-crew.ensures.feeder c.lines_at_once.ensures.pool
+
+pub end_line-requires-clause-ends : goal.end_line-requires-clause-ends
+end_line-requires-clause-ends g c κs within =
+    let here : slice_get c.as_slice-ops.result.now c.group_end-to.result ≡ Some c.in-Some.op.now = slice_get_read c.as_slice-ops.result.now _ c.group_end-to.result c.in-Some.op.now refl c.in-Some.ensures.lookup.3.0 c.in-Some.ensures.lookup.1 in
+    c.group_end-to.ensures.end c.in-Some.op.now here
 
 pub end_line-requires-clause-sync : goal.end_line-requires-clause-sync
 end_line-requires-clause-sync g c κs within =
     let first : c.len-first.result ≡ length c.args.replies.now.items = let is = c.len-first.ensures in let long = c.args.replies.now.ok.0 in omega (arith, is, long) in
     let unused : IsUnused g.P.Pool c.args.pool.now c.forks.new.pool = record { size = c.in-Ok.ensures.keeps.size; told = c.in-Ok.ensures.keeps.told; reads = c.in-Ok.ensures.unread; faults = c.in-Ok.ensures.unfailed } in
-    next-sync c.args.arcs.now c.requires.between.1 g.P.Pool c.args.trace.now c.requires.formed c.requires.config c.requires.between.0 (between_groups c.args.pool.now c.args.syncs.group c.args.syncs.next) c.forks.new.pool c.callers_at_once.new.pool c.args.replies.now.items c.in_ok-crew.answered.items c.args.crew c.in_ok-crew.crew
-    c.len-first.result c.group_end-to.result c.as_slice-blocks.result.now c.as_slice-ops.result.now c.as_slice-blocks.ensures c.as_slice-ops.ensures first c.group_end-to.ensures.range.0 c.group_end-to.ensures.range.1 c.group_end-to.ensures.inside
-    c.requires.between.2 (let more = c.requires.more in let long = c.args.replies.now.ok.0 in omega (arith, more, long)) unused c.in_ok-crew.ensures.did c.in_ok-crew.ensures.feeder c.callers_at_once.ensures.pool
+    next-sync c.args.arcs.now c.requires.between.1 g.P.Pool g.D.CacheDev c.args.trace.now c.requires.formed c.requires.config c.requires.between.0 (between_groups c.args.pool.now c.args.syncs.group c.args.syncs.next) c.requires.between.2 c.forks.new.pool c.lines_at_once.new.pool c.args.device.now c.lines_at_once.new.device
+    c.args.replies.now.items c.in_ok-crew.answered.items c.requires.between.3 c.args.crew c.in_ok-crew.crew c.len-first.result c.group_end-to.result c.as_slice-blocks.result.now c.as_slice-ops.result.now c.as_slice-blocks.ensures c.as_slice-ops.ensures first
+    c.group_end-to.ensures.range.0 c.group_end-to.ensures.range.1 c.group_end-to.ensures.inside c.requires.between.4 (let more = c.requires.more in let long = c.args.replies.now.ok.0 in omega (arith, more, long)) unused c.in_ok-crew.ensures.did c.in_ok-crew.ensures.feeder c.lines_at_once.ensures.pool
 
-pub returns-clause-steps : goal.returns-clause-steps
-returns-clause-steps g c = λ start restored between.
+pub returns-in_ok-push-in-Ok-came-clause-did : goal.returns-in_ok-push-in-Ok-came-clause-did
+returns-in_ok-push-in-Ok-came-clause-did g c = λ start restored was work between.
     let first : c.len-first.result ≡ length c.args.replies.now.items = let is = c.len-first.ensures in let long = c.args.replies.now.ok.0 in omega (arith, is, long) in
     let unused : IsUnused g.P.Pool c.args.pool.now c.forks.new.pool = record { size = c.in-Ok.ensures.keeps.size; told = c.in-Ok.ensures.keeps.told; reads = c.in-Ok.ensures.unread; faults = c.in-Ok.ensures.unfailed } in
     let here : slice_get c.as_slice-ops.result.now c.group_end-to.result ≡ Some c.in-Some.op.now = slice_get_read c.as_slice-ops.result.now _ c.group_end-to.result c.in-Some.op.now refl c.in-Some.ensures.lookup.3.0 c.in-Some.ensures.lookup.1 in
-    next-ended c.args.arcs.now restored g.P.Pool c.args.trace.now c.requires.formed c.requires.config start (between_groups c.args.pool.now c.args.syncs.group c.args.syncs.next) c.forks.new.pool c.callers_at_once.new.pool c.args.replies.now.items c.in_ok-crew.answered.items c.args.crew c.in_ok-crew.crew
-    c.len-first.result c.group_end-to.result c.as_slice-blocks.result.now c.as_slice-ops.result.now c.as_slice-blocks.ensures c.as_slice-ops.ensures first c.group_end-to.ensures.range.0 c.group_end-to.ensures.range.1 c.group_end-to.ensures.inside
-    between (let more = c.requires.more in let long = c.args.replies.now.ok.0 in omega (arith, more, long)) unused c.in_ok-crew.ensures.did c.in_ok-crew.ensures.feeder c.callers_at_once.ensures.pool
-    c.in-Some.op.now here (c.group_end-to.ensures.end c.in-Some.op.now here) c.in_ok-crew-2.crew (between_groups c.end_line.new.pool c.in_ok-crew-2.syncs.group c.in_ok-crew-2.syncs.next) c.in_ok-crew-2.reply c.in_ok-crew-2.ensures.did c.append.new.replies.items c.push.new.self.items c.in_ok-append.ensures c.in_ok-push.ensures.items
+    next-ended c.args.arcs.now restored g.P.Pool g.D.CacheDev c.args.trace.now c.requires.formed c.requires.config start (between_groups c.args.pool.now c.args.syncs.group c.args.syncs.next) was c.forks.new.pool c.lines_at_once.new.pool c.args.device.now c.lines_at_once.new.device
+    c.args.replies.now.items c.in_ok-crew.answered.items work c.args.crew c.in_ok-crew.crew c.len-first.result c.group_end-to.result c.as_slice-blocks.result.now c.as_slice-ops.result.now c.as_slice-blocks.ensures c.as_slice-ops.ensures first
+    c.group_end-to.ensures.range.0 c.group_end-to.ensures.range.1 c.group_end-to.ensures.inside between (let more = c.requires.more in let long = c.args.replies.now.ok.0 in omega (arith, more, long)) unused c.in_ok-crew.ensures.did c.in_ok-crew.ensures.feeder c.lines_at_once.ensures.pool
+    c.in-Some.op.now here c.in_ok-crew-2.crew (between_groups c.end_line.new.pool c.in_ok-crew-2.syncs.group c.in_ok-crew-2.syncs.next) c.in_ok-crew-2.came c.in-Ok-came.reply c.in-Ok-came.is c.in_ok-crew-2.ensures.did c.append.new.replies.items c.push.new.self.items c.in_ok-append.ensures c.in_ok-push-in-Ok-came.ensures.items
 
--- ---- what was asked of the device
-
-pub returns-in_default-clause-read : goal.returns-in_default-clause-read
-returns-in_default-clause-read g c = λ start so_far.
+pub returns-in-Err-clause-did : goal.returns-in-Err-clause-did
+returns-in-Err-clause-did g c = λ start restored was work between.
     let first : c.len-first.result ≡ length c.args.replies.now.items = let is = c.len-first.ensures in let long = c.args.replies.now.ok.0 in omega (arith, is, long) in
-    let more : length c.args.replies.now.items < length c.args.trace.now.ops = let more = c.requires.more in let long = c.args.replies.now.ok.0 in omega (arith, more, long) in
-    let many : vec_len c.args.crew.parties ≡ c.args.trace.now.config.callers =
-    let parties = c.requires.between.2.come.parties in let long = c.args.crew.parties.ok.0 in let same = ap (λ (x : Config). x.callers) c.requires.config in omega (arith, parties, long, same) in
-    let own : AreOfCallers (vec_len c.args.crew.parties) (slice_range c.as_slice-ops.result.now c.len-first.result c.group_end-to.result) =
-    subst (λ (x : ℕ × List Op). AreOfCallers x.0 (slice_range x.1 c.len-first.result c.group_end-to.result)) (λ i. (sym many i, sym c.as_slice-ops.ensures i))
-    (range-callers c.args.trace.now c.requires.formed c.len-first.result c.group_end-to.result
-    (λ k op low high here. c.group_end-to.ensures.inside k op low high (ap (λ (l : List Op). slice_get l k) c.as_slice-ops.ensures ∙ here))) in
-    read-last g.D.CacheDev c.args.trace.now c.args.replies.now.items c.in_ok-crew.answered.items c.len-first.result c.group_end-to.result c.as_slice-blocks.result.now c.as_slice-ops.result.now (vec_len c.args.crew.parties)
-    c.as_slice-blocks.ensures c.as_slice-ops.ensures many first c.group_end-to.ensures.range.0 c.group_end-to.ensures.range.1 c.requires.between.2.few (c.requires.between.2.begins more) own c.in_ok-crew.ensures.did.ordered.all
-    start (lent_in c.args.device.now) (lent_in c.callers_at_once.new.device) so_far c.in_ok-crew.ensures.read
-    c.in_default.ensures.lookup.3 more c.append.new.replies.items c.in_ok-append.ensures
-
-pub returns-clause-read : goal.returns-clause-read
-returns-clause-read g c = λ start so_far.
-    let first : c.len-first.result ≡ length c.args.replies.now.items = let is = c.len-first.ensures in let long = c.args.replies.now.ok.0 in omega (arith, is, long) in
-    let more : length c.args.replies.now.items < length c.args.trace.now.ops = let more = c.requires.more in let long = c.args.replies.now.ok.0 in omega (arith, more, long) in
-    let many : vec_len c.args.crew.parties ≡ c.args.trace.now.config.callers =
-    let parties = c.requires.between.2.come.parties in let long = c.args.crew.parties.ok.0 in let same = ap (λ (x : Config). x.callers) c.requires.config in omega (arith, parties, long, same) in
-    let own : AreOfCallers (vec_len c.args.crew.parties) (slice_range c.as_slice-ops.result.now c.len-first.result c.group_end-to.result) =
-    subst (λ (x : ℕ × List Op). AreOfCallers x.0 (slice_range x.1 c.len-first.result c.group_end-to.result)) (λ i. (sym many i, sym c.as_slice-ops.ensures i))
-    (range-callers c.args.trace.now c.requires.formed c.len-first.result c.group_end-to.result
-    (λ k op low high here. c.group_end-to.ensures.inside k op low high (ap (λ (l : List Op). slice_get l k) c.as_slice-ops.ensures ∙ here))) in
+    let unused : IsUnused g.P.Pool c.args.pool.now c.forks.new.pool = record { size = c.in-Ok.ensures.keeps.size; told = c.in-Ok.ensures.keeps.told; reads = c.in-Ok.ensures.unread; faults = c.in-Ok.ensures.unfailed } in
     let here : slice_get c.as_slice-ops.result.now c.group_end-to.result ≡ Some c.in-Some.op.now = slice_get_read c.as_slice-ops.result.now _ c.group_end-to.result c.in-Some.op.now refl c.in-Some.ensures.lookup.3.0 c.in-Some.ensures.lookup.1 in
-    read-ended g.D.CacheDev c.args.trace.now c.args.replies.now.items c.in_ok-crew.answered.items c.len-first.result c.group_end-to.result c.as_slice-blocks.result.now c.as_slice-ops.result.now (vec_len c.args.crew.parties)
-    c.as_slice-blocks.ensures c.as_slice-ops.ensures many first c.group_end-to.ensures.range.0 c.group_end-to.ensures.range.1 c.requires.between.2.few (c.requires.between.2.begins more) own c.in_ok-crew.ensures.did.ordered.all
-    start (lent_in c.args.device.now) (lent_in c.callers_at_once.new.device) so_far c.in_ok-crew.ensures.read
-    c.in-Some.op.now here (c.group_end-to.ensures.end c.in-Some.op.now here) c.in_ok-crew-2.reply c.append.new.replies.items c.push.new.self.items c.in_ok-append.ensures c.in_ok-push.ensures.items
+    next-halted c.args.arcs.now restored g.P.Pool g.D.CacheDev c.args.trace.now c.requires.formed c.requires.config start (between_groups c.args.pool.now c.args.syncs.group c.args.syncs.next) was c.forks.new.pool c.lines_at_once.new.pool c.args.device.now c.lines_at_once.new.device
+    c.args.replies.now.items c.in_ok-crew.answered.items work c.args.crew c.in_ok-crew.crew c.len-first.result c.group_end-to.result c.as_slice-blocks.result.now c.as_slice-ops.result.now c.as_slice-blocks.ensures c.as_slice-ops.ensures first
+    c.group_end-to.ensures.range.0 c.group_end-to.ensures.range.1 c.group_end-to.ensures.inside between (let more = c.requires.more in let long = c.args.replies.now.ok.0 in omega (arith, more, long)) unused c.in_ok-crew.ensures.did c.in_ok-crew.ensures.feeder c.lines_at_once.ensures.pool
+    c.in-Some.op.now here c.in_ok-crew-2.crew (between_groups c.end_line.new.pool c.in_ok-crew-2.syncs.group c.in_ok-crew-2.syncs.next) c.in_ok-crew-2.came c.in-Err.ending c.in-Err.is c.in_ok-crew-2.ensures.did c.append.new.replies.items c.in_ok-append.ensures
 
-pub callers_at_once-requires-clause-feeder : goal.callers_at_once-requires-clause-feeder
-callers_at_once-requires-clause-feeder g c κs within =
-    let come = c.requires.between.2.come in
-    fed-idle c.args.arcs.now c.args.crew.feeder.own.about.openings _ _ c.args.crew.feeder come.settled come.feeder
+-- ---- a fork failed
+
+pub returns-in-Err-Failed-clause-did : goal.returns-in-Err-Failed-clause-did
+returns-in-Err-Failed-clause-did g c = λ start restored was work between.
+    let failed : ForkFailed g.P.Pool c.args.pool.now c.forks.new.pool = search rules in
+    next-forked c.args.arcs.now restored g.P.Pool g.D.CacheDev c.args.trace.now start (between_groups c.args.pool.now c.args.syncs.group c.args.syncs.next) was (lent_in c.args.device.now) c.forks.new.pool c.args.replies.now.items work c.args.crew between
+    (let more = c.requires.more in let long = c.args.replies.now.ok.0 in omega (arith, more, long)) failed
+
+-- ---- the device
+
+pub returns-in_err-crew-clause-used : goal.returns-in_err-crew-clause-used
+returns-in_err-crew-clause-used g c =
+    let tried = c.lines_at_once.ensures.tried in
+    tried-in-use dbuf_meanings g.D.CacheDev c.args.arcs.now _ c.args.device.now c.lines_at_once.new.device c.args.crew.feeder tried.0 tried.1
+
+pub returns-in_err-append-clause-used : goal.returns-in_err-append-clause-used
+returns-in_err-append-clause-used g c =
+    let tried = c.lines_at_once.ensures.tried in
+    tried-in-use dbuf_meanings g.D.CacheDev c.args.arcs.now _ c.args.device.now c.lines_at_once.new.device c.args.crew.feeder tried.0 tried.1
+
+pub returns-in_default-clause-used : goal.returns-in_default-clause-used
+returns-in_default-clause-used g c =
+    let tried = c.lines_at_once.ensures.tried in
+    tried-in-use dbuf_meanings g.D.CacheDev c.args.arcs.now _ c.args.device.now c.lines_at_once.new.device c.args.crew.feeder tried.0 tried.1
+
+pub returns-in_err-crew-2-clause-used : goal.returns-in_err-crew-2-clause-used
+returns-in_err-crew-2-clause-used g c =
+    let tried = c.lines_at_once.ensures.tried in
+    tried-in-use dbuf_meanings g.D.CacheDev c.args.arcs.now _ c.args.device.now c.lines_at_once.new.device c.args.crew.feeder tried.0 tried.1
+
+pub returns-in_err-push-in-Ok-came-clause-used : goal.returns-in_err-push-in-Ok-came-clause-used
+returns-in_err-push-in-Ok-came-clause-used g c =
+    let tried = c.lines_at_once.ensures.tried in
+    tried-in-use dbuf_meanings g.D.CacheDev c.args.arcs.now _ c.args.device.now c.lines_at_once.new.device c.args.crew.feeder tried.0 tried.1
+
+pub returns-in_ok-push-in-Ok-came-clause-used : goal.returns-in_ok-push-in-Ok-came-clause-used
+returns-in_ok-push-in-Ok-came-clause-used g c =
+    let tried = c.lines_at_once.ensures.tried in
+    tried-in-use dbuf_meanings g.D.CacheDev c.args.arcs.now _ c.args.device.now c.lines_at_once.new.device c.args.crew.feeder tried.0 tried.1
+
+pub returns-in-Err-clause-used : goal.returns-in-Err-clause-used
+returns-in-Err-clause-used g c =
+    let tried = c.lines_at_once.ensures.tried in
+    tried-in-use dbuf_meanings g.D.CacheDev c.args.arcs.now _ c.args.device.now c.lines_at_once.new.device c.args.crew.feeder tried.0 tried.1

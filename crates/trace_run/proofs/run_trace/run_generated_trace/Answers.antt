@@ -1,4 +1,4 @@
-use Rattle.std.proofs.Common.{◌≡◌, ◌*◌, true, List, [], Option, None, Some, refl, ap, subst, ◌∙◌, arith}
+use Rattle.std.proofs.Common.{◌≡◌, ◌*◌, ℕ, true, List, [], Option, None, Some, refl, sym, ap, subst, ◌∙◌, arith}
 use Rattle.std.specs.Prelude.{count_by}
 use Rattle.trace_text.specs.declared.rebuilt.Rebuilt.{Rebuilt}
 use Rattle.trace_text.specs.declared.report.Report.{Report}
@@ -11,14 +11,16 @@ use Rattle.trace_run.specs.Outcome.{generated, zeros_of}
 use Rattle.trace_run.specs.one_caller.PlainReport.{IsPlainReport}
 use Rattle.trace_run.specs.one_caller.PlainRun.{Images, images, report_of}
 use Rattle.trace_run.specs.Restores.{found_keys}
-use Rattle.trace_run.specs.RunWork.{only_ended, plain_work}
+use Rattle.trace_run.specs.Deeds.{Noted}
+use Rattle.trace_run.specs.RunWork.{RunWork, noted_by, only_ended, plain_work}
 use Rattle.vdev_io.specs.contracts.device.NoCacheCacheDev.TheImpl as no_cache
 use Rattle.trace_run.proofs.one_caller.LentLemmas.{unlent-calls}
-use Rattle.trace_run.proofs.theorem.GenLemmas.{made-plain, made-report, made-trace, never-failed, none-refused}
+use Rattle.trace_run.proofs.theorem.GenLemmas.{made-done, made-plain, made-report, made-trace, never-failed, none-refused}
+use Rattle.trace_run.proofs.theorem.WorkLemmas.{plain-noted}
 use Rattle.trace_run.proofs.run_trace.run_generated_trace.Goals as goal
 
 pub returns-clause-status : goal.returns-clause-status
-returns-clause-status g c = c.in_ok-reported.ensures.run.1
+returns-clause-status g c = c.in_ok-reported.ensures.run.status
 
 pub returns-clause-generated : goal.returns-clause-generated
 returns-clause-generated g c =
@@ -28,9 +30,10 @@ returns-clause-generated g c =
     let report = reported.report in
     let drawn = c.in_ok-trace.ensures.drawn in
     let ran = c.in_ok-reported.ensures.run in
-    let run = ran.0 in
+    let run = ran.run in
     let is : trace ≡ generated c.args.seed c.args.blocks c.args.ops = made-trace c.args.seed c.args.blocks c.args.ops trace drawn in
     let one = run.alone (ap (λ (t : Trace). t.config.callers) is) in
+    let plain_one : ran.work ≡ plain_work trace.ops report.replies = ran.plain (ap (λ (t : Trace). t.config.callers) is) in
     let alone = one.1 in
     let give = never-failed _ (λ p. refl) alone.calls _ _ alone.made in
     let answers : AnswersAll (c.args.blocks * 512) (Some (zeros_of c.args.blocks)) trace.blocks trace.ops report.replies = rw (len, one.0) at run.answers in
@@ -47,9 +50,14 @@ returns-clause-generated g c =
     record {
       plain = ap (λ (r : Report). record r { short = true }) whole;
       answers = subst (λ (t : Trace). AnswersAll (c.args.blocks * 512) (Some (zeros_of c.args.blocks)) t.blocks t.ops report.replies) is answers;
-      explained = subst (λ (x : Trace × Option Rebuilt). Explain x.0 (found_keys x.1) (plain_work x.0.ops report.replies) report.replies report.ends report.histories) (λ i. (is i, nothing i)) run.explained;
+      explained = subst (λ (x : Trace × Option Rebuilt). Explain x.0 (found_keys x.1) (plain_work x.0.ops report.replies) report.replies report.ends report.histories) (λ i. (is i, nothing i))
+          (subst (λ (w : RunWork). Explain trace (found_keys report.rebuilt) w report.replies report.ends report.histories) plain_one run.explained);
       tells = record { histories = run.tells.histories; ends = run.tells.ends };
       config = run.config ∙ ap (λ (t : Trace). t.config) is;
-      cells = subst (λ (t : Trace). AreCellsOf t (only_ended t.config) reported.closed) is c.in_ok-reported.ensures.cells;
-      status = ran.1 ∙ rw (one.0, fine) refl;
+      cells = subst (λ (t : Trace). AreCellsOf t (only_ended t.config) reported.closed) is
+          (subst (λ (d : ℕ → List Noted). AreCellsOf trace d reported.closed) (λ i n. (ap (λ (w : RunWork). noted_by trace.config w n) plain_one ∙ sym (plain-noted trace.config trace.ops report.replies n)) i) ran.cells);
+      status = ran.status ∙ rw (one.0, fine) refl;
     }
+
+pub run_trace-requires-clause-done : goal.run_trace-requires-clause-done
+run_trace-requires-clause-done g c κs within = made-done c.args.seed c.args.blocks c.args.ops c.in_ok-trace.trace c.in_ok-trace.ensures.drawn

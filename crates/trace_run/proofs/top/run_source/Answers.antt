@@ -1,19 +1,18 @@
-use Rattle.std.proofs.Common.{rules, ◌≡◌, Option, refl, sym, ap, ◌∙◌, subst}
+use Rattle.std.proofs.Common.{rules, ◌≡◌, Option, inl, inr, refl, sym, ap, ◌∙◌, subst}
 use Rattle.trace_text.specs.declared.trace.Trace.{Trace}
 use Rattle.trace_run.specs.Bounded.{device_len, with_bound}
-use Rattle.trace_run.specs.CellEnds.{AreCellsOf}
+use Rattle.trace_run.specs.callers.Beside.{WasInUse}
+use Rattle.trace_run.specs.callers.Group.{LeavesDeclared}
 use Rattle.trace_run.specs.DeviceUse.{WasUsed}
-use Rattle.trace_run.specs.Devices.{Finds, IsHandedBack, WasLent, device_of, lent_in, usable}
+use Rattle.trace_run.specs.Devices.{Finds, MayLose, cursor_in, device_of, lent_in, usable}
 use Rattle.trace_run.specs.declared.device.Device.{Device}
 use Rattle.trace_run.specs.Feeds.{IsOpenedAt, MayBeFed}
-use Rattle.trace_run.specs.Outcome.{IsRun}
+use Rattle.trace_run.specs.Outcome.{HasRun}
 use Rattle.trace_run.specs.Restores.{found_keys}
-use Rattle.trace_run.specs.RunWork.{only_ended, plain_work}
-use Rattle.trace_run.proofs.DeviceLemmas.{found-kept, lent-back, nothing-lost, usable-kept, usable-lent}
+use Rattle.trace_run.proofs.DeviceLemmas.{nothing-lost, usable-lent}
 use Rattle.trace_run.proofs.feeds.StartLemmas.{opened-fed}
-use Rattle.trace_run.proofs.callers.DeviceSteps.{was-used}
+use Rattle.trace_run.proofs.theorem.DeviceUsed.{found-kept, usable-kept, was-used}
 use Rattle.trace_run.proofs.theorem.OutcomeLemmas.{reported-so}
-use Rattle.trace_run.proofs.theorem.WorkLemmas.{cells-plain, plain-work}
 use Rattle.trace_run.proofs.top.run_source.Goals as goal
 
 pub returns-in-Err-clause-does : goal.returns-in-Err-clause-does
@@ -22,6 +21,7 @@ returns-in-Err-clause-does g c = record {
   took = search rules;
   unrun = search rules;
   cache = nothing-lost g.D.CacheDev c.args.cache.now;
+  told = inl refl;
   reported = search rules;
   sink = search rules;
   present = search rules;
@@ -32,11 +32,11 @@ returns-in-Ok-ran-clause-does g c =
     let trace : Trace = c.in-Ok.trace in
     let bounded : c.with_bound-trace.result ≡ with_bound trace (device_len g.D.CacheDev.size c.args.cache.now) = c.with_bound-trace.ensures.bounded ∙ ap (with_bound trace) c.device_len.ensures in
     let begun : Device g.row.D.Denot = c.in-Ok-begin.begun.device in
-    let found : Finds g.D.CacheDev c.args.cache.now (device_of begun) c.in-Ok-begin.begun.rebuilt =
-    subst (λ (o : Option g.row.D.Denot). Finds g.D.CacheDev o (device_of begun) c.in-Ok-begin.begun.rebuilt) c.take.ensures.value c.in-Ok-begin.ensures.found in
-    let lent : WasLent g.D.CacheDev begun c.run_trace-ran.new.device = c.run_trace-ran.ensures.device in
+    let first = cursor_in begun in
+    let found : Finds g.D.CacheDev c.args.cache.now (device_of begun) first c.in-Ok-begin.begun.rebuilt =
+    subst (λ (o : Option g.row.D.Denot). Finds g.D.CacheDev o (device_of begun) first c.in-Ok-begin.begun.rebuilt) c.take.ensures.value c.in-Ok-begin.ensures.found in
+    let lent : WasInUse g.D.CacheDev begun c.run_trace-ran.new.device = c.run_trace-ran.ensures.device in
     let kind = c.in-Ok-begin.ensures.kind in
-    let back = subst (IsHandedBack g.D.CacheDev (device_of begun)) (sym c.back.ensures) (lent-back g.D.CacheDev begun c.run_trace-ran.new.device lent) in
     let before : lent_in begun ≡ usable g.D.CacheDev (device_of begun) = sym (usable-lent g.D.CacheDev begun kind) in
     let after : lent_in c.run_trace-ran.new.device ≡ usable g.D.CacheDev c.back.result = sym (usable-kept g.D.CacheDev begun c.run_trace-ran.new.device lent kind) ∙ ap (usable g.D.CacheDev) (sym c.back.ensures) in
     let run = c.in-Ok-ran.ensures.run in
@@ -45,24 +45,21 @@ returns-in-Ok-ran-clause-does g c =
       source = search rules;
       took = search rules;
       unrun = search rules;
-      cache = found-kept g.D.CacheDev c.args.cache.now (device_of begun) c.back.result c.in-Ok-begin.begun.rebuilt found back;
+      cache = subst (MayLose g.D.CacheDev c.args.cache.now) (sym c.back.ensures) (found-kept g.D.CacheDev c.args.cache.now begun c.run_trace-ran.new.device first c.in-Ok-begin.begun.rebuilt found lent);
+      told = inr (trace, c.in-Ok.ensures.read, subst (λ (t : Trace). LeavesDeclared g.P.Pool t.blocks c.args.pool.now c.run_trace-ran.new.pool) bounded c.run_trace-ran.ensures.pool);
       reported = reported-so g.P.Pool g.D.CacheDev _ _ _ told.report told.closed c.deliver.result.report c.deliver.result.closed c.deliver.ensures.same (record {
         trace = trace;
         read = c.in-Ok.ensures.read;
         done = c.in-Ok.ensures.done;
         started = device_of begun;
-        found = subst (Finds g.D.CacheDev c.args.cache.now (device_of begun)) (sym c.in-Ok-ran.ensures.rebuilt) found;
-        used = subst (λ (t : Trace). WasUsed g.D.CacheDev t told.report.replies (device_of begun) c.back.result) bounded
-            (was-used g.D.CacheDev c.with_bound-trace.result told.report.replies begun c.run_trace-ran.new.device c.back.result c.back.ensures kind lent c.in-Ok-ran.ensures.together);
+        first = first;
+        found = subst (Finds g.D.CacheDev c.args.cache.now (device_of begun) first) (sym c.in-Ok-ran.ensures.rebuilt) found;
         ending = told.ending;
-        run = subst (λ (x : Trace × Option g.row.D.Denot × Option g.row.D.Denot). IsRun g.P.Pool g.D.CacheDev c.args.pool.now c.run_trace-ran.new.pool x.1 x.2 x.0 told.ending (plain_work x.0.ops told.report.replies) told.closed told.report) (λ i. (bounded i, before i, after i)) run.0;
-        status = run.1;
+        run = subst (λ (x : Trace × Option g.row.D.Denot × Option g.row.D.Denot). HasRun g.P.Pool g.D.CacheDev c.args.pool.now c.run_trace-ran.new.pool x.1 x.2 x.0 told.ending told.closed told.report) (λ i. (bounded i, before i, after i)) run;
+        used = subst (λ (t : Trace). WasUsed g.D.CacheDev t told.ending run.work (device_of begun) c.back.result) bounded
+            (was-used g.D.CacheDev c.with_bound-trace.result told.ending run.work begun c.run_trace-ran.new.device c.back.result c.back.ensures kind lent run.used run.unfed);
         told = c.deliver.ensures.full;
         whole = c.in-Ok-ran.ensures.whole;
-        work = plain_work trace.ops told.report.replies;
-        did = plain-work trace c.with_bound-trace.result told.ending told.report.replies (ap (λ (t : Trace). t.ops) bounded) c.in-Ok.ensures.done run.0.answers.all;
-        cells = cells-plain (with_bound trace (device_len g.D.CacheDev.size c.args.cache.now)) trace.config refl refl trace.ops told.report.replies told.closed
-            (subst (λ (t : Trace). AreCellsOf t (only_ended t.config) told.closed) bounded c.in-Ok-ran.ensures.cells);
       });
       sink = search rules;
       present = search rules;

@@ -17,18 +17,16 @@ write_due-requires-clause-cell g c κs within =
     cell-here g.P.Pool c.args.arcs.now c.args.group c.args.tick c.args.next c.args.cells.now dues c.args.pool.now c.args.party.now
     c.loop-due.cells c.loop-due.cells index c.loop-due.place 0 c.loop-due.pool c.loop-due.pool c.loop-due.party c.loop-due.party (slice_index_or dues index none) c.loop-due.invariant (drop-next dues index none (omega arith)) c.requires.all
 
-pub returns-in_err-place : goal.returns-in_err-place
-returns-in_err-place g c =
+pub returns-in_err-place-clause-answer : goal.returns-in_err-place-clause-answer
+returns-in_err-place-clause-answer g c =
     let none : Due = record { at = record { object = 0; block = 0 }; cell = 0 } in
     let index = c.loop-due.due-index in
     let dues : List Due = c.args.dues.now in
     let p = err_from_is_err_and c.from_residual.result c.from_residual.ensures.1 in
     let a = c.in_err-place.ensures.answer in
-    record {
-      answer = rw (p.1, p.2) (stops-here g.P.Pool c.args.arcs.now c.args.group c.args.tick c.args.next c.args.cells.now dues c.args.pool.now c.args.party.now
-          c.loop-due.cells c.write_due.new.cells index c.loop-due.place 0 c.loop-due.pool c.write_due.new.pool c.loop-due.party c.write_due.new.party (slice_index_or dues index none) c.loop-due.invariant (drop-next dues index none (omega arith)) c.requires.all
-          a.cell a.news_are a.does.0 c.in_err-place.field-0.0 a.does.1 c.in_err-place.ensures.size c.in_err-place.ensures.reads c.in_err-place.ensures.fault);
-    }
+    rw (p.1, p.2) (stops-here g.P.Pool c.args.arcs.now c.args.group c.args.tick c.args.next c.args.cells.now dues c.args.pool.now c.args.party.now
+    c.loop-due.cells c.write_due.new.cells index c.loop-due.place 0 c.loop-due.pool c.write_due.new.pool c.loop-due.party c.write_due.new.party (slice_index_or dues index none) c.loop-due.invariant (drop-next dues index none (omega arith)) c.requires.all
+    a.cell a.news_are a.does.0 c.in_err-place.field-0.0 a.does.1 c.in_err-place.ensures.size c.in_err-place.ensures.reads c.in_err-place.ensures.fault)
 
 pub overflow_add-place : goal.overflow_add-place
 overflow_add-place g c =
