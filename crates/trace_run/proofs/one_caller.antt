@@ -16,3 +16,6 @@ pub mod ResidentLemmas
 pub mod RestAlone
 pub mod SoleLemmas
 pub mod TellLemmas
+pub mod TurnLists
+pub mod TurnSteps
+pub mod TurnUses

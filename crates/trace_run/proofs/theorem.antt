@@ -20,6 +20,7 @@ pub mod RestLemmas
 pub mod RunEnds
 pub mod SourceLemmas
 pub mod TogetherRun
+pub mod TurnRun
 pub mod ToldLemmas
 pub mod WordLemmas
 pub mod WorkEnds

@@ -1,17 +1,32 @@
 //! One caller and every line: its own lines on the pool and the cache device that were handed in, and between them those that the feeder does.
-ghost use Rattle.std.specs.Prelude.{◌≡◌, ◌≢◌, ℕ, ◌<◌, ◌≤◌, ◌+◌, ◌^◌, ◌∷◌, [], IfOk, None, Some, filter, length, map, slice_get, vec_len};
+ghost use Rattle.std.specs.Prelude.{◌≡◌, ◌≢◌, ◌⊎◌, ℕ, ◌<◌, ◌≤◌, ◌+◌, ◌^◌, ◌∷◌, [], IfOk, List, None, Option, Some, filter, length, map, slice_get, vec_len};
 ghost use Rattle.vdev_io.specs.Calls.{KeepsPool};
+ghost use Rattle.arc_core.specs.declared.served.Restored.{Restored};
+ghost use Rattle.arc_table.specs.Geometry.{parties_of};
 ghost use Rattle.dbuf_cells.specs.Turns.{dbuf_meanings};
+ghost use Rattle.l2_dev.specs.Rebuilding.{HaveKeys};
+ghost use Rattle.trace_text.specs.Grammar.{IsFormed, IsOperation};
 ghost use Rattle.trace_text.specs.declared.op.Op.{Op};
 ghost use Rattle.trace_text.specs.declared.op.Op.TheVariants as ops;
+ghost use Rattle.trace_text.specs.declared.rebuilt.Rebuilt.{Rebuilt};
 ghost use Rattle.trace_run.specs.Devices.{WasLent, lent_in};
+ghost use Rattle.trace_run.specs.FeedSeries.{LeavesFed};
 ghost use Rattle.trace_run.specs.Feeds.{DoesFeeds, IsIdleFeeder, MayBeFed};
 ghost use Rattle.trace_run.specs.KeptBlocks.{Stands, read_of};
 ghost use Rattle.trace_run.specs.Lines.{caller_of, is_of_caller};
+ghost use Rattle.trace_run.specs.Meeting.{MayGoOn};
+ghost use Rattle.trace_run.specs.Restores.{found_keys};
+ghost use Rattle.trace_run.specs.RunWork.{RunWork};
 ghost use Rattle.trace_run.specs.Tally.{AreDeclared};
+ghost use Rattle.trace_run.specs.callers.Beside.{WasInUse};
 ghost use Rattle.trace_run.specs.callers.CallerLines.{at};
 ghost use Rattle.trace_run.specs.callers.Callers.{AreAtStart, CameTo};
-ghost use Rattle.trace_run.specs.one_caller.InTurn.{AreOwn, DidOwnLines};
+ghost use Rattle.trace_run.specs.callers.Group.{LeavesDeclared, LeavesFront};
+ghost use Rattle.trace_run.specs.callers.GroupRun.{RanTogether};
+ghost use Rattle.trace_run.specs.callers.Groups.{MaySync};
+ghost use Rattle.trace_run.specs.callers.Together.{BetweenGroups, between_groups, report_of_closed};
+ghost use Rattle.trace_run.specs.one_caller.Alone.{histories_of};
+ghost use Rattle.trace_run.specs.one_caller.InTurn.{AreDoneInTurn, AreInTurn, AreOwn, DidOtherLine, DidOwnLines, RunsInTurn, StepsInTurn};
 ghost use Rattle.trace_run.specs.one_caller.OverShards.{AreNamed};
 
 use crate::device::Device;
@@ -185,7 +200,19 @@ fn other_line<P: Pool, D: CacheDev>(
     syncs: Syncs,
     pool: &mut P,
     device: &mut Device<D>,
-) -> Result<(Crew<HeapCell>, Syncs, Result<Reply, Ending>), NoMemory> {
+) -> Result<(Crew<HeapCell>, Syncs, Result<Reply, Ending>), NoMemory>
+    requires nobody { caller_of op.now ≡ None }
+    requires may { MayGoOn arcs.now [] crew.feeder crew.parties.items }
+    requires feeder { IsIdleFeeder arcs.now crew.feeder }
+    requires device { MayBeFed D.CacheDev arcs.now.config device.old }
+    requires possible { IsOperation arcs.now.config.callers arcs.now.config.shards op.now }
+    requires sync { (lines : ℕ) × (lines < 2 ^ 32) × MaySync P.Pool lines (between_groups pool.old syncs.group syncs.next) }
+    ensures did { IfOk result (λ done. DidOtherLine arcs.now P.Pool D.CacheDev op.now (between_groups pool.old syncs.group syncs.next) (between_groups pool.new done.1.group done.1.next) device.old device.new crew done.0 done.2) }
+    ensures later { IfOk result (λ done. syncs.next ≤ done.1.next) }
+    ensures pool { LeavesFront P.Pool syncs.next pool.old pool.new }
+    ensures used { WasInUse D.CacheDev device.old device.new }
+    ensures device { MayBeFed D.CacheDev arcs.now.config device.new }
+{
     match op {
         Op::Feed => {
             let (crew, reply) = feed_alone(alloc, rt, arcs, crew, device);
@@ -211,7 +238,23 @@ fn next_lines<P: Pool, D: CacheDev, G: Gate>(
     pool: &mut P,
     device: &mut Device<D>,
     gate: &G,
-) -> Result<(Crew<HeapCell>, Syncs, Ending), NoMemory> {
+) -> Result<(Crew<HeapCell>, Syncs, Ending), NoMemory>
+    requires formed { IsFormed trace.now }
+    requires config { arcs.now.config ≡ trace.now.config }
+    requires one { arcs.now.config.callers ≡ 1 }
+    requires rows { arcs.now.row.parties ≡ parties_of arcs.now.config }
+    requires device { MayBeFed D.CacheDev arcs.now.config device.old }
+    requires between { (start : BetweenGroups P) × (restored : List Restored) × (was : Device D) × (work : RunWork)
+        × AreInTurn arcs.now restored P.Pool D.CacheDev trace.now start (between_groups pool.old syncs.group syncs.next) was device.old replies.old.items work crew }
+    requires more { vec_len replies.old < length trace.now.ops }
+    ensures did { (start : BetweenGroups P) (restored : List Restored) (was : Device D) (work : RunWork)
+        → AreInTurn arcs.now restored P.Pool D.CacheDev trace.now start (between_groups pool.old syncs.group syncs.next) was device.old replies.old.items work crew
+        → IfOk result (λ done. StepsInTurn arcs.now restored P.Pool D.CacheDev trace.now start (between_groups pool.new done.1.group done.1.next) was device.new replies.old.items replies.new.items done.2 done.0) }
+    ensures later { IfOk result (λ done. syncs.next ≤ done.1.next) }
+    ensures pool { LeavesFront P.Pool syncs.next pool.old pool.new }
+    ensures used { WasInUse D.CacheDev device.old device.new }
+    ensures device { MayBeFed D.CacheDev arcs.now.config device.new }
+{
     let ops = trace.ops.as_slice();
     let first = replies.len();
     let to = own_end(ops, first);
@@ -254,7 +297,20 @@ fn all_in_turn<P: Pool, D: CacheDev, G: Gate>(
     pool: &mut P,
     device: &mut Device<D>,
     gate: &G,
-) -> Result<Came<HeapCell>, NoMemory> {
+) -> Result<Came<HeapCell>, NoMemory>
+    requires formed { IsFormed trace.now }
+    requires config { arcs.now.config ≡ trace.now.config }
+    requires one { arcs.now.config.callers ≡ 1 }
+    requires rows { arcs.now.row.parties ≡ parties_of arcs.now.config }
+    requires device { MayBeFed D.CacheDev arcs.now.config device.old }
+    requires between { (restored : List Restored) × (work : RunWork)
+        × AreInTurn arcs.now restored P.Pool D.CacheDev trace.now (between_groups pool.old syncs.group syncs.next) (between_groups pool.old syncs.group syncs.next) device.old device.old [] work crew }
+    ensures done { (restored : List Restored) (work : RunWork)
+        → AreInTurn arcs.now restored P.Pool D.CacheDev trace.now (between_groups pool.old syncs.group syncs.next) (between_groups pool.old syncs.group syncs.next) device.old device.old [] work crew
+        → IfOk result (λ came. (all : RunWork) × AreDoneInTurn arcs.now restored P.Pool D.CacheDev trace.now (between_groups pool.old syncs.group syncs.next) pool.new device.old device.new came.ending came.replies.items all came.crew) }
+    ensures pool { LeavesFront P.Pool syncs.next pool.old pool.new }
+    ensures used { WasInUse D.CacheDev device.old device.new }
+{
     let mut crew = crew;
     let mut syncs = syncs;
     let mut replies = Vec::new(alloc);
@@ -298,7 +354,18 @@ pub(crate) fn run_one<P: Pool, D: CacheDev, G: Gate>(
     pool: &mut P,
     device: &mut Device<D>,
     gate: &G,
-) -> Result<Ran, NoMemory> {
+) -> Result<Ran, NoMemory>
+    requires formed { IsFormed trace.now }
+    requires one { trace.now.config.callers ≡ 1 }
+    requires keys { HaveKeys restored.now }
+    requires device { MayBeFed D.CacheDev trace.now.config device.old }
+    ensures ran { IfOk result (λ ran. (work : RunWork) × (together : RanTogether P.Pool D.CacheDev pool.old pool.new (lent_in device.old) (lent_in device.new) trace.now ran.ending restored.now ran.replies.items work ran.closed)
+        × ((rebuilt : Option Rebuilt) → found_keys rebuilt ≡ restored.now
+        → RunsInTurn P.Pool D.CacheDev pool.old pool.new (lent_in device.old) (lent_in device.new) together.place trace.now ran.ending work ran.closed.cells (report_of_closed ran.ending rebuilt ran.replies.items ran.closed))
+        × LeavesFed D.CacheDev trace.now.config restored.now work.feeds device.old device.new (histories_of ran.closed)) }
+    ensures pool { LeavesDeclared P.Pool trace.now.blocks pool.old pool.new }
+    ensures device { WasInUse D.CacheDev device.old device.new }
+{
     let (arcs, parties) = open_cache(alloc, trace)?;
     let crew = crew_of(alloc, parties)?;
     let crew = restore_crew(alloc, rt, &arcs, crew, restored)?;

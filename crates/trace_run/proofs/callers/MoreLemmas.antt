@@ -37,9 +37,9 @@ use Rattle.trace_run.specs.ObjectLines.{on_object}
 use Rattle.trace_run.specs.Objects.{Line, Work, no_work, ops_of, replies_of}
 use Rattle.trace_run.specs.Restores.{events_by_feeder, restores_in}
 use Rattle.trace_run.specs.RunWork.{FitsBy, IsRunWork, IsSyncWork, RunWork, acts_of_syncs, kept_after_lines, lines_of_caller, lines_of_feeder, noted_of_syncs}
-use Rattle.trace_run.specs.callers.Beside.{WorksBeside}
+use Rattle.trace_run.specs.callers.Beside.{FeedsBeside}
 use Rattle.trace_run.specs.callers.Group.{HasWorked}
-use Rattle.trace_run.specs.callers.Groups.{AreEndLines, ComesAt, DidLinesAtOnce, HaveCome, IsEndLine}
+use Rattle.trace_run.specs.callers.Groups.{AreEndLines, ComesAt, DidLines, DidLinesAtOnce, HaveCome, IsEndLine}
 use Rattle.trace_run.specs.callers.InOrder.{AreInGroup}
 use Rattle.trace_run.specs.callers.Together.{AreCut, IsCut, IsFirstPlace, ends_group}
 use Rattle.trace_run.specs.callers.WorkLines.{AnswersLines, AreLinesOf, HasFront, acts_of_work, noted_of_work}
@@ -91,14 +91,33 @@ module _ {P D : Type 0} (pools : Ghosts P) (devices : Devices D) (g : Config) (v
       (lines-still g blocks len image place p.own.about.openings n p.own.seen q.own.seen (λ l had kept answer. still-answers pools devices g blocks valid place len image n had (on_object l.op) l kept p p q keeps answer) [] [] ls answers)
 
 -- the feeder knows what it knew
-pub fed-about : {D : Type 0} (m : Meanings OnHeap) (devices : Devices D) (cache : Cache) (blocks : List Ptr) (qs : List Op) (callers : ℕ) (own : ℕ → List Line) (ss : List Reply) (a b : Device D) (p q : PartyPlace) → WorksBeside m devices cache blocks qs callers own (replies_where is_feed qs ss) a b p q
+pub fed-about : {D : Type 0} (m : Meanings OnHeap) (devices : Devices D) (cache : Cache) (qs : List Op) (callers : ℕ) (ss : List Reply) (a b : Device D) (p q : PartyPlace) → FeedsBeside m devices cache qs (replies_where is_feed qs ss) a b p q
     → IsIdleFeeder cache p → IsIdleFeeder cache q → q.own.about ≡ p.own.about
-fed-about m devices cache blocks qs callers own ss a b p q works idle again = (fed-beside m devices cache blocks qs callers own ss a b p q works idle again).same.keeps.about
+fed-about m devices cache qs callers ss a b p q works idle again = (fed-beside m devices cache qs callers ss a b p q works idle again).same.keeps.about
+
+-- what callers and the feeder did at once, without what it cost the pool and the device
+abbrev pub lines-of : {P D : Type 0} (m : Meanings OnHeap) (cache : Cache) (pools : Ghosts P) (devices : Devices D) (blocks : List Ptr) (qs : List Op) (from to : P) (a b : Device D) (old new : Crew OnHeap) (ss : List Reply) → DidLinesAtOnce m cache pools devices blocks qs from to a b old new ss
+    → DidLines m cache pools devices blocks qs from a b old new ss
+lines-of m cache pools devices blocks qs from to a b old new ss did = record {
+  lines = did.lines;
+  are = did.are;
+  fits = did.fits;
+  worked = record {
+    kepts = did.worked.kepts;
+    parties = did.worked.parties;
+    forks = did.worked.forks;
+    done = did.worked.done;
+    size = λ n below. (did.worked.fresh n below).size;
+    told = λ n below. (did.worked.fresh n below).told;
+    each = did.worked.each;
+  };
+  beside = record { feeds = did.beside.feeds; used = did.beside.used; answered = did.beside.answered };
+}
 
 -- ---- the lines of a group
 
 module _ {P D : Type 0} (m : Meanings OnHeap) (cache : Cache) (restored : List Restored) (pools : Ghosts P) (devices : Devices D) (len : ℕ) (image : Option (List ℕ)) (place : ℕ) (blocks : List Ptr) (os qs : List Op) (rs ss : List Reply) (w : RunWork)
-    (from to : P) (a b : Device D) (old new : Crew OnHeap) (before : HaveCome cache restored len image place blocks os rs w old) (goes_on : w.stopped ≡ no_work) (did : DidLinesAtOnce m cache pools devices blocks qs from to a b old new ss)
+    (from : P) (a b : Device D) (old new : Crew OnHeap) (before : HaveCome cache restored len image place blocks os rs w old) (goes_on : w.stopped ≡ no_work) (did : DidLines m cache pools devices blocks qs from a b old new ss)
     (own : AreInGroup cache.config.callers qs) (again : IsIdleFeeder cache new.feeder) (first : IsFirstPlace len blocks place) (size : pools.size from ≡ len) (front : HasFront place image (pools.told from)) where
   abbrev g : Config
   g = cache.config
@@ -126,7 +145,7 @@ module _ {P D : Type 0} (m : Meanings OnHeap) (cache : Cache) (restored : List R
   idle = fed-idle cache old.feeder.own.about.openings _ _ _ _ old.feeder before.feeder
 
   fed : HasFedMore cache did.beside.feeds old.feeder new.feeder
-  fed = fed-beside m devices cache blocks qs (length old.parties.items) (λ n. lines_of_caller n did.lines) ss a b old.feeder new.feeder did.beside idle again
+  fed = fed-beside m devices cache qs (length old.parties.items) ss a b old.feeder new.feeder did.beside idle again
 
   -- ---- a caller
 
@@ -154,7 +173,6 @@ module _ {P D : Type 0} (m : Meanings OnHeap) (cache : Cache) (restored : List R
         let worked : HasWorked cache pools blocks n (did.worked.forks n) (did.worked.done n) l1 c.reads c.party h.new h.to =
         subst (λ (x : List KeptBlock × PartyPlace). HasWorked cache pools blocks n (did.worked.forks n) (did.worked.done n) l1 x.0 x.1 h.new h.to) (λ i. (same_reads i, same_party i)) h.worked in
         let left : map read_of c.reads ≡ kept_after_lines blocks [] l0 = c.come.keeps in
-        let fork = did.worked.fresh n inside in
         subst (λ (ls : List Line). ComesAt cache len image place blocks n ls new) (sym lines-two) record {
           reads = h.new;
           party = h.to;
@@ -171,7 +189,7 @@ module _ {P D : Type 0} (m : Meanings OnHeap) (cache : Cache) (restored : List R
                 (answers-grown pools devices g c.come.waits.stands.valid blocks len image place c.party h.to worked.cells n l0 c.come.answers)
                 (answers-front g len image (pools.told from) place blocks first front h.to.own.about.openings h.to.own.seen n (noted_of_work l0) (kept_after_lines blocks [] l0) l1
                 (subst (λ (x : ℕ × Option (List ℕ) × List KeptRead × List (List ℕ)). AnswersLines g x.0 x.1 place blocks x.3 h.to.own.seen n (noted_of_work l0) x.2 l1)
-                (λ i. ((fork.size ∙ size) i, fork.told i, left i, sym (ap (λ (x : About). x.openings) worked.cells.about) i)) (worked.answers (acts_of_work g blocks [] l0) (noted_of_work l0) c.come.waits.told place)));
+                (λ i. ((did.worked.size n inside ∙ size) i, did.worked.told n inside i, left i, sym (ap (λ (x : About). x.openings) worked.cells.about) i)) (worked.answers (acts_of_work g blocks [] l0) (noted_of_work l0) c.come.waits.told place)));
           };
         }
 
@@ -202,7 +220,7 @@ module _ {P D : Type 0} (m : Meanings OnHeap) (cache : Cache) (restored : List R
       (fed-again cache old.feeder.own.about.openings restored os qs rs ss w.feeds did.beside.feeds (acts_of_syncs g blocks w) (noted_of_syncs w) old.feeder new.feeder g.callers long.0 before.did.fed told-more own same-length.0 before.feeder fed)
     where
       told-more : AreFeedsTold g qs ss did.beside.feeds
-      told-more = told-beside m devices cache blocks qs (length old.parties.items) (λ n. lines_of_caller n did.lines) ss a b old.feeder new.feeder did.beside
+      told-more = told-beside m devices cache qs (length old.parties.items) ss a b old.feeder new.feeder did.beside
 
   -- ---- the cuts
 
@@ -229,7 +247,7 @@ module _ {P D : Type 0} (m : Meanings OnHeap) (cache : Cache) (restored : List R
       fits = all-append (λ l. FitsBy g (caller_of l.op) l) w.lines did.lines before.did.fits did.fits;
       stopped = none-synced g;
       fed = told-then g os qs rs ss w.feeds did.beside.feeds long.0 before.did.fed
-          (told-beside m devices cache blocks qs (length old.parties.items) (λ n. lines_of_caller n did.lines) ss a b old.feeder new.feeder did.beside);
+          (told-beside m devices cache qs (length old.parties.items) ss a b old.feeder new.feeder did.beside);
       ended = tt;
     };
     unended = refl;
@@ -237,7 +255,7 @@ module _ {P D : Type 0} (m : Meanings OnHeap) (cache : Cache) (restored : List R
     parties = did.worked.parties ∙ callers-are;
     each = come-at;
     ended = ends-append os qs rs ss long.0 before.ended
-        (ends-beside m devices cache blocks qs (length old.parties.items) (λ n. lines_of_caller n did.lines) ss a b old.feeder new.feeder did.beside (subst (λ (k : ℕ). AreInGroup k qs) (sym callers-are) own) same-length.0);
+        (ends-beside m devices cache qs (length old.parties.items) ss a b old.feeder new.feeder did.beside (subst (λ (k : ℕ). AreInGroup k qs) (sym callers-are) own) same-length.0);
     feeder = feeder-more;
     begun = λ shard below. starts-then (seen_of g shard new.feeder) (seen_of g shard old.feeder) (restores_in g restored shard) (fed.starts shard) (before.begun shard below);
     cut = cut-lines;

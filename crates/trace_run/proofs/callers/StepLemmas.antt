@@ -45,7 +45,7 @@ use Rattle.trace_run.specs.Tally.{AreDeclared}
 use Rattle.trace_run.specs.callers.Beside.{WorksBeside}
 use Rattle.trace_run.specs.callers.DeviceForks.{HaveRead, UsedAtOnce, UsedInGroups}
 use Rattle.trace_run.specs.callers.Group.{HaveWorked, LeavesFront, LeavesPool}
-use Rattle.trace_run.specs.callers.Groups.{AreBetween, AreDone, DidEndLine, DidLinesAtOnce, ForkFailed, HaveCome, HaveCounted, HaveReached, KeepNothing, MaySync, StepsOn, StoodSo, goes_on}
+use Rattle.trace_run.specs.callers.Groups.{AreBetween, AreDone, DidEndLine, DidLines, DidLinesAtOnce, ForkFailed, HaveCome, HaveCounted, HaveReached, KeepNothing, MaySync, StepsOn, StoodSo, goes_on}
 use Rattle.trace_run.specs.callers.InOrder.{AreInGroup}
 use Rattle.trace_run.specs.callers.Together.{BeginsGroup, EndsGroup, GroupLines, IsFirstPlace, OfCells, BetweenGroups, WorkAtOnce, WorkInGroups, between_groups, ends_group, groups_done, groups_of, over_callers, IsCutLast, lines_with_end, with_first}
 use Rattle.trace_run.specs.callers.WorkLines.{HasFront, calls_of_lines, noted_of_work}
@@ -60,7 +60,7 @@ use Rattle.trace_run.proofs.callers.GroupLists.{EndsWhole, begun-append, group-b
 use Rattle.trace_run.proofs.callers.GroupRunLemmas.{all-callers, all-declared, may-resize}
 use Rattle.trace_run.proofs.callers.GroupsLemmas.{have-restored, have-started, restores-seen}
 use Rattle.trace_run.proofs.callers.LineLists.{AreInside, all-inside, calls-append, calls-few, ends-nobody, lines-failed, lines-long, nobody-callers}
-use Rattle.trace_run.proofs.callers.MoreLemmas.{fed-about, have-come-more, with_lines}
+use Rattle.trace_run.proofs.callers.MoreLemmas.{fed-about, have-come-more, lines-of, with_lines}
 use Rattle.trace_run.proofs.feeds.FedLemmas.{ops-are, used-more, used-once, fed-beside}
 use Rattle.trace_run.proofs.feeds.SeriesLemmas.{group-so-far, moved-so-far, none-so-far}
 use Rattle.trace_run.proofs.RunLemmas.{calls-faults, calls-reads}
@@ -210,7 +210,7 @@ in-groups-more pools config Cells before (g ∷ gs) last a b c worked done once 
     (done.0, done.1, done.2, done.3, in-groups-more pools config Cells (lines_with_end (before ++ g.lines) g.end) gs last done.1 b c worked done.4 once ends)
 
 -- what callers and feeder are told to have done to cells
-told-of : (cache : Cache) (restored : List Restored) (len : ℕ) (image : Option (List ℕ)) (place : ℕ) (blocks : List Ptr) (os : List Op) (rs : List Reply) (w : RunWork) (crew : Crew OnHeap) → HaveCome cache restored len image place blocks os rs w crew → w.stopped ≡ no_work
+pub told-of : (cache : Cache) (restored : List Restored) (len : ℕ) (image : Option (List ℕ)) (place : ℕ) (blocks : List Ptr) (os : List Op) (rs : List Reply) (w : RunWork) (crew : Crew OnHeap) → HaveCome cache restored len image place blocks os rs w crew → w.stopped ≡ no_work
     → AreToldOf cache w.lines crew
 told-of cache restored len image place blocks os rs w crew come goes_on = record {
   number = come.feeder.number;
@@ -236,8 +236,8 @@ between-none cache restored pools devices trace start was crew come knows place 
       reads = λ room. let none = over-zero cache.config.callers (asked []) (λ n below. refl) in omega (arith, none);
       faults = λ room. let none = over-zero cache.config.callers (failed []) (λ n below. refl) in omega (arith, none);
     };
-    groups = refl;
-    used = (refl, refl);
+    groups = λ several. refl;
+    used = λ several. (refl, refl);
     fed = none-so-far dbuf_meanings devices cache restored was crew.feeder seen;
   };
   begins = λ more. tt;
@@ -328,9 +328,12 @@ module _ {P D : Type 0} (cache : Cache) (restored : List Restored) (pools : Ghos
       (group-reads cache pools trace.blocks callers was.pool from to ms old.kept.items old.parties.items new.kept.items new.parties.items unused worked some_callers.0 few-here some_callers.1)
       (group-faults cache pools trace.blocks callers was.pool from to ms old.kept.items old.parties.items new.kept.items new.parties.items unused worked some_callers.0 few-here some_callers.1)
 
+  abbrev did-lines : DidLines dbuf_meanings cache pools devices trace.blocks qs from a b old new ss
+  did-lines = lines-of dbuf_meanings cache pools devices trace.blocks qs from to a b old new ss did
+
   pub come-lines : HaveCome cache restored (pools.size start.pool) (pools.told start.pool) start.next trace.blocks (os ++ qs) (rs ++ ss) done new
   come-lines =
-      have-come-more dbuf_meanings cache restored pools devices (pools.size start.pool) (pools.told start.pool) start.next trace.blocks os qs rs ss w from to a b old new reached.come between.goes_on did own again reached.first
+      have-come-more dbuf_meanings cache restored pools devices (pools.size start.pool) (pools.told start.pool) start.next trace.blocks os qs rs ss w from a b old new reached.come between.goes_on did-lines own again reached.first
       (unused.size ∙ reached.counted.keeps.size) from-front
 
   used-here : UsedAtOnce devices trace.blocks callers ms did.beside.feeds (lent_in a) (lent_in b)
@@ -344,8 +347,8 @@ module _ {P D : Type 0} (cache : Cache) (restored : List Restored) (pools : Ghos
       } in
       used-once dbuf_meanings devices cache trace.blocks callers ms a b old.feeder new.feeder beside
 
-  used-lines : (last : GroupLines) → last.lines ≡ ms → UsedInGroups devices trace.blocks callers (groups_of w.lines ++ last ∷ []) done.feeds (lent_in begun) (lent_in b)
-  used-lines last is = used-more devices trace.blocks callers (groups_of w.lines) last w.feeds did.beside.feeds (lent_in begun) (lent_in a) (lent_in b) reached.used (subst (λ (ls : List Line). UsedAtOnce devices trace.blocks callers ls did.beside.feeds (lent_in a) (lent_in b)) (sym is) used-here)
+  used-lines : 2 ≤ callers → (last : GroupLines) → last.lines ≡ ms → UsedInGroups devices trace.blocks callers (groups_of w.lines ++ last ∷ []) done.feeds (lent_in begun) (lent_in b)
+  used-lines several last is = used-more devices trace.blocks callers (groups_of w.lines) last w.feeds did.beside.feeds (lent_in begun) (lent_in a) (lent_in b) (reached.used several) (subst (λ (ls : List Line). UsedAtOnce devices trace.blocks callers ls did.beside.feeds (lent_in a) (lent_in b)) (sym is) used-here)
 
   fed-lines : AreMadeSoFar dbuf_meanings devices cache restored done.feeds begun b new.feeder
   fed-lines = group-so-far dbuf_meanings devices cache restored w.feeds did.beside.feeds begun a b old.feeder new.feeder reached.come.feeder.stands reached.fed did.beside.used
@@ -354,17 +357,17 @@ module _ {P D : Type 0} (cache : Cache) (restored : List Restored) (pools : Ghos
   knows-new = same ∙ reached.knows
     where
       same : new.feeder.own.about.openings ≡ old.feeder.own.about.openings
-      same = ap (λ (x : About). x.openings) (fed-about dbuf_meanings devices cache trace.blocks qs (length old.parties.items) (λ n. lines_of_caller n did.lines) ss a b old.feeder new.feeder did.beside (fed-idle cache old.feeder.own.about.openings _ _ _ _ old.feeder reached.come.feeder) again)
+      same = ap (λ (x : About). x.openings) (fed-about dbuf_meanings devices cache qs (length old.parties.items) ss a b old.feeder new.feeder did-lines.beside (fed-idle cache old.feeder.own.about.openings _ _ _ _ old.feeder reached.come.feeder) again)
 
   -- it has seen of each cell what it had
   seen-grown : (i : ℕ) → IsCell cache.config i → StartsWith (front_of i new.feeder.own.seen) (front_of i old.feeder.own.seen)
-  seen-grown = (fed-beside dbuf_meanings devices cache trace.blocks qs (length old.parties.items) (λ n. lines_of_caller n did.lines) ss a b old.feeder new.feeder did.beside (fed-idle cache old.feeder.own.about.openings _ _ _ _ old.feeder reached.come.feeder) again).same.keeps.fronts
+  seen-grown = (fed-beside dbuf_meanings devices cache qs (length old.parties.items) ss a b old.feeder new.feeder did-lines.beside (fed-idle cache old.feeder.own.about.openings _ _ _ _ old.feeder reached.come.feeder) again).same.keeps.fronts
 
-  groups-so-far : WorkInGroups pools cache.config (Cells new.feeder) [] (groups_of w.lines) start was
-  groups-so-far = in-groups-as pools cache.config (Cells old.feeder) (Cells new.feeder) (stood-more (openings_of trace) cache.config old.feeder new.feeder seen-grown) [] (groups_of w.lines) start was reached.groups
+  groups-so-far : 2 ≤ callers → WorkInGroups pools cache.config (Cells new.feeder) [] (groups_of w.lines) start was
+  groups-so-far several = in-groups-as pools cache.config (Cells old.feeder) (Cells new.feeder) (stood-more (openings_of trace) cache.config old.feeder new.feeder seen-grown) [] (groups_of w.lines) start was (reached.groups several)
 
-  groups-behind : (last : Crew OnHeap) → ((i : ℕ) → IsCell cache.config i → StartsWith (front_of i last.feeder.own.seen) (front_of i new.feeder.own.seen)) → WorkInGroups pools cache.config (Cells last.feeder) [] (groups_of w.lines) start was
-  groups-behind last grown = in-groups-as pools cache.config (Cells new.feeder) (Cells last.feeder) (stood-more (openings_of trace) cache.config new.feeder last.feeder grown) [] (groups_of w.lines) start was groups-so-far
+  groups-behind : (last : Crew OnHeap) → ((i : ℕ) → IsCell cache.config i → StartsWith (front_of i last.feeder.own.seen) (front_of i new.feeder.own.seen)) → 2 ≤ callers → WorkInGroups pools cache.config (Cells last.feeder) [] (groups_of w.lines) start was
+  groups-behind last grown several = in-groups-as pools cache.config (Cells new.feeder) (Cells last.feeder) (stood-more (openings_of trace) cache.config new.feeder last.feeder grown) [] (groups_of w.lines) start was (groups-so-far several)
 
   -- ---- the trace ends with these lines
 
@@ -380,9 +383,9 @@ module _ {P D : Type 0} (cache : Cache) (restored : List Restored) (pools : Ghos
       first = reached.first;
       behind = reached.behind;
       counted = counted-lines;
-      groups = subst (λ (gs : List GroupLines). WorkInGroups pools cache.config (Cells new.feeder) [] gs start (between_groups to was.group was.next)) (sym groups-are)
-          (in-groups-more pools cache.config (Cells new.feeder) [] (groups_of w.lines) alone-group start was (between_groups to was.group was.next) to groups-so-far (once None) refl);
-      used = subst (λ (gs : List GroupLines). UsedInGroups devices trace.blocks callers gs done.feeds (lent_in begun) (lent_in b)) (sym groups-are) (used-lines alone-group refl);
+      groups = λ several. subst (λ (gs : List GroupLines). WorkInGroups pools cache.config (Cells new.feeder) [] gs start (between_groups to was.group was.next)) (sym groups-are)
+          (in-groups-more pools cache.config (Cells new.feeder) [] (groups_of w.lines) alone-group start was (between_groups to was.group was.next) to (groups-so-far several) (once None) refl);
+      used = λ several. subst (λ (gs : List GroupLines). UsedInGroups devices trace.blocks callers gs done.feeds (lent_in begun) (lent_in b)) (sym groups-are) (used-lines several alone-group refl);
       fed = fed-lines;
     };
     begins = λ less. absurd (omega (arith, both-long, all, less));
@@ -412,9 +415,9 @@ module _ {P D : Type 0} (cache : Cache) (restored : List Restored) (pools : Ghos
       first = reached.first;
       behind = reached.behind;
       counted = counted-lines;
-      groups = subst (λ (gs : List GroupLines). WorkInGroups pools cache.config (Cells last.feeder) [] gs start (between_groups to was.group was.next)) (sym groups-are)
-          (in-groups-more pools cache.config (Cells last.feeder) [] (groups_of w.lines) alone-group start was (between_groups to was.group was.next) to (groups-behind last h.so.made.cells) (once None) refl);
-      used = subst (λ (gs : List GroupLines). UsedInGroups devices trace.blocks callers gs done.feeds (lent_in begun) (lent_in b)) (sym groups-are) (used-lines alone-group refl);
+      groups = λ several. subst (λ (gs : List GroupLines). WorkInGroups pools cache.config (Cells last.feeder) [] gs start (between_groups to was.group was.next)) (sym groups-are)
+          (in-groups-more pools cache.config (Cells last.feeder) [] (groups_of w.lines) alone-group start was (between_groups to was.group was.next) to (groups-behind last h.so.made.cells several) (once None) refl);
+      used = λ several. subst (λ (gs : List GroupLines). UsedInGroups devices trace.blocks callers gs done.feeds (lent_in begun) (lent_in b)) (sym groups-are) (used-lines several alone-group refl);
       fed = moved-so-far dbuf_meanings devices cache restored done.feeds begun b new.feeder last.feeder fed-lines
           (λ shard below. made-sees cache h.work h.more new last come-lines.feeder.number h.so.made shard [] (h.so.none shard below) tt);
     };
@@ -478,10 +481,10 @@ module _ {P D : Type 0} (cache : Cache) (restored : List Restored) (pools : Ghos
         first = reached.first;
         behind = omega (arith, reached.behind, turn.later);
         counted = counted-end;
-        groups = subst (λ (gs : List GroupLines). WorkInGroups pools cache.config (Cells last.feeder) [] gs start fin) (sym groups-ended)
-            (in-groups-more pools cache.config (Cells last.feeder) [] (groups_of w.lines) ended-group start was fin to (groups-behind last turn.so.made.cells) (once (Some l))
+        groups = λ several. subst (λ (gs : List GroupLines). WorkInGroups pools cache.config (Cells last.feeder) [] gs start fin) (sym groups-ended)
+            (in-groups-more pools cache.config (Cells last.feeder) [] (groups_of w.lines) ended-group start was fin to (groups-behind last turn.so.made.cells several) (once (Some l))
             (subst (λ (ls : List Line). EndsGroup pools cache.config (Cells last.feeder) (ls ++ ms) (Some l) (between_groups to was.group was.next) fin) (sym (after-groups [] w.lines)) turn.ends));
-        used = subst (λ (gs : List GroupLines). UsedInGroups devices trace.blocks callers gs done.feeds (lent_in begun) (lent_in b)) (sym groups-ended) (used-lines ended-group refl);
+        used = λ several. subst (λ (gs : List GroupLines). UsedInGroups devices trace.blocks callers gs done.feeds (lent_in begun) (lent_in b)) (sym groups-ended) (used-lines several ended-group refl);
         fed = moved-so-far dbuf_meanings devices cache restored done.feeds begun b new.feeder last.feeder fed-lines
             (λ shard below. made-sees cache turn.work turn.more new last come-lines.feeder.number turn.so.made shard (events_of_feeder callers op) (turn.so.feeds shard below) (asked-gives callers op));
       };

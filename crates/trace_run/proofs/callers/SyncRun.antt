@@ -54,7 +54,7 @@ module _ {P : Type 0} (pools : Ghosts P) (config : Config) (Said So : OfCells) (
     next = s.next;
   }
 
-  ends-by-as : (before : List Line) (op : Op) (reply : Reply) (work : Work) (from to : BetweenGroups P) → EndsBy pools config Said before op reply work from to → EndsBy pools config So before op reply work from to
+  pub ends-by-as : (before : List Line) (op : Op) (reply : Reply) (work : Work) (from to : BetweenGroups P) → EndsBy pools config Said before op reply work from to → EndsBy pools config So before op reply work from to
   ends-by-as before (ops.Txg t) reply work from to s = sync-as before t reply work from to s
   ends-by-as before (ops.Cap c) reply work from to is = is
   ends-by-as before ops.Feed reply work from to never = absurd never

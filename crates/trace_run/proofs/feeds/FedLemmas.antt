@@ -47,7 +47,7 @@ use Rattle.trace_run.specs.Objects.{Line, no_work, ops_of, replies_of}
 use Rattle.trace_run.specs.Restores.{events_by_feeder, restores_in}
 use Rattle.trace_run.specs.RunWork.{AllFit, FitsBy, lines_of_caller, lines_of_feeder}
 use Rattle.trace_run.specs.KeptReads.{KeptRead}
-use Rattle.trace_run.specs.callers.Beside.{LendsAndFeeds, WorksBeside}
+use Rattle.trace_run.specs.callers.Beside.{FeedsBeside, LendsAndFeeds, WorksBeside}
 use Rattle.trace_run.specs.callers.DeviceForks.{UsedAtOnce, UsedInGroups}
 use Rattle.trace_run.specs.callers.Groups.{AreEndLines, IsEndLine}
 use Rattle.trace_run.specs.callers.InOrder.{AreInGroup}
@@ -508,7 +508,7 @@ module _ {C D : Type 0} (m : Meanings C) (devices : Ghosts D) (cache : Cache) wh
 
   -- ---- a group with feeds
 
-  module _ (blocks : List Ptr) (qs : List Op) (callers : ℕ) (own : ℕ → List Line) (ss : List Reply) (a b : Device D) (p q : Place (Known C)) (w : WorksBeside m devices cache blocks qs callers own (replies_where is_feed qs ss) a b p q) where
+  module _ (qs : List Op) (callers : ℕ) (ss : List Reply) (a b : Device D) (p q : Place (Known C)) (w : FeedsBeside m devices cache qs (replies_where is_feed qs ss) a b p q) where
     pub fed-beside : IsIdleFeeder cache p → IsIdleFeeder cache q → HasFedMore cache w.feeds p q
     fed-beside idle again = fed-more w.feeds w.used.lent w.used.later p q idle again w.used.made
 
@@ -528,7 +528,7 @@ module _ {C D : Type 0} (m : Meanings C) (devices : Ghosts D) (cache : Cache) wh
       let one = made.3 in (made.0, subst (λ (calls : List DeviceCall). MakesDeviceCalls devices calls was made.0) one.calls one.made.fed.made, asks-for fs made.0 now f.after new made.1 q made.4)
 
   -- the device was asked for the calls of the feeds
-  asks-of : (fs : List FeedDone) (a b : Device D) (p q : Place (Known C)) → MadeFeedsOf m devices cache fs a b p q → AsksOfFeeds devices fs (lent_in a) (lent_in b)
+  pub asks-of : (fs : List FeedDone) (a b : Device D) (p q : Place (Known C)) → MadeFeedsOf m devices cache fs a b p q → AsksOfFeeds devices fs (lent_in a) (lent_in b)
   asks-of fs device.None device.None p q made = made.0
   asks-of fs (device.Short a) (device.Short b) p q made = made.0
   asks-of fs (device.Ready a) (device.Ready b) p q made = asks-for fs a.dev b.dev a.cursor b.cursor p q made.1

@@ -133,14 +133,14 @@ module _ {P D : Type 0} (pools : Ghosts P) (devices : DeviceGhosts D) (before af
     };
     cells = ran.cells;
     kept = ran.kept;
-    used = λ _. ran.used;
-    unfed = λ none. groups-back devices trace.blocks trace.config.callers (groups_done ending work.lines) work.feeds lent back none ran.used;
+    used = ran.used;
+    unfed = λ none. groups-back devices trace.blocks trace.config.callers (groups_done ending work.lines) work.feeds lent back none (ran.used two);
     plain = λ one. absurd (omega (arith, two, one));
     status = refl;
   }
     where
       told : RunsTogether pools before after ran.place trace ending work closed.cells (report_of_closed ending rebuilt replies closed)
-      told = ran.together rebuilt refl
+      told = ran.together two rebuilt refl
 
       -- without a line nothing stops
       no-sync : trace.ops ≡ [] → StopsAtSync trace replies → ⊥

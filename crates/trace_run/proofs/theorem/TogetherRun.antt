@@ -283,10 +283,10 @@ module _ {P D : Type 0} (cache : Cache) (pools : Ghosts P) (devices : Devices D)
     kept = kept-are;
     reads = after-reads;
     faults = after-faults;
-    together = λ rebuilt found. record {
+    together = λ several rebuilt found. record {
       reached = d.now;
       groups = in-groups-as pools trace.config (StoodSo (openings_of trace) trace.config crew.feeder) (StoodThen trace closed.cells) stood [] (groups_done ending work.lines) (between_groups before 1 place) d.now
-          (subst (λ (g : Config). WorkInGroups pools g (StoodSo (openings_of trace) g crew.feeder) [] (groups_done ending work.lines) (between_groups before 1 place) d.now) config d.reached.groups);
+          (subst (λ (g : Config). WorkInGroups pools g (StoodSo (openings_of trace) g crew.feeder) [] (groups_done ending work.lines) (between_groups before 1 place) d.now) config (d.reached.groups (subst (λ (g : Config). 2 ≤ g.callers) (sym config) several)));
       ended = ends ending d.ended;
       counted = λ n below. counted-at n (subst (λ (g : Config). n < g.callers) (sym config) below);
       cut = λ shard below.
@@ -301,7 +301,7 @@ module _ {P D : Type 0} (cache : Cache) (pools : Ghosts P) (devices : Devices D)
           subst (λ (x : Config × List Event × List Restored). IsCutLast x.0 x.2 trace.blocks shard t done-work x.1) (λ i. (config i, sym here i, sym found i))
           (run-cut-last cache valid restored (pools.size before) (pools.told before) place trace.blocks os more rs work crew come closed h shard t l.0 l.1 (d.last t stopped shard inside));
     };
-    used = subst (λ (g : Config). UsedInGroups devices trace.blocks g.callers (groups_done ending work.lines) work.feeds (lent_in was) (lent_in is)) config d.reached.used;
+    used = λ several. subst (λ (g : Config). UsedInGroups devices trace.blocks g.callers (groups_done ending work.lines) work.feeds (lent_in was) (lent_in is)) config (d.reached.used (subst (λ (g : Config). 2 ≤ g.callers) (sym config) several));
     stopped = stops ending d.ended;
   }
     where

@@ -30,6 +30,12 @@ module _ {C D : Type 0} (m : Meanings C) (devices : Ghosts D) (cache : Cache) wh
     pub few : length feeds ≤ length (filter is_feed ops)
     pub used : LendsAndFeeds feeds old new p q
 
+  -- these feeds were made so, and the lines `feed` among these are answered by them
+  pub record FeedsBeside (ops : List Op) (fed : List Reply) (old new : Device D) (p q : Place (Known C)) : Type 0 where
+    pub feeds : List FeedDone
+    pub used : LendsAndFeeds feeds old new p q
+    pub answered : AreFedReplies (lent_in old) (filter is_feed ops) feeds fed
+
   -- Callers did their own lines, and asked the device for them; the lines `feed` among these are answered so, by these feeds.
   pub record WorksBeside (blocks : List Ptr) (ops : List Op) (callers : ℕ) (own : ℕ → List Line) (fed : List Reply) (old new : Device D) (p q : Place (Known C)) : Type 0 where
     pub feeds : List FeedDone

@@ -93,6 +93,16 @@ pub record RepliedAt (ops : List Op) (n : ℕ) (lines : List Line) (replies : Li
   pub own_at : get_elem? replies n ≡ some own
   pub are : AreLinesOf (filter (is_of_caller n) ops) own lines
 
+-- So many callers have done their work, each its own lines on a pool that tells what this one told.
+pub record AllWorked {C P : Type 0} (cache : Cache) (pools : Ghosts P) (blocks : List Ptr) (callers : ℕ) (before : P) (own : ℕ → List Line) (had : List (List KeptBlock)) (ps : List (Place (Known C))) (kept : List (List KeptBlock)) (qs : List (Place (Known C))) : Type 0 where
+  pub kepts : length kept ≡ callers
+  pub parties : length qs ≡ callers
+  pub forks : ℕ → P
+  pub done : ℕ → P
+  pub size : (n : ℕ) → n < callers → pools.size (forks n) ≡ pools.size before
+  pub told : (n : ℕ) → n < callers → pools.told (forks n) ≡ pools.told before
+  pub each : (n : ℕ) → n < callers → WorkedAt cache pools blocks n (forks n) (done n) (own n) had ps kept qs
+
 -- So many callers have done their work, each its own lines on its own fork, and the pool has counted what the forks did; a sum past the last value of a count is that
 -- value.
 pub record HaveWorked {C P : Type 0} (cache : Cache) (pools : Ghosts P) (blocks : List Ptr) (callers : ℕ) (before after : P) (own : ℕ → List Line) (had : List (List KeptBlock)) (ps : List (Place (Known C))) (kept : List (List KeptBlock)) (qs : List (Place (Known C))) : Type 0 where

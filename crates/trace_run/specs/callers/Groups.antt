@@ -35,7 +35,7 @@ use Rattle.trace_run.specs.declared.kept_blocks.KeptBlock.{KeptBlock}
 use Rattle.trace_run.specs.Answers.{AnswersFeed, is_pool_fault}
 use Rattle.trace_run.specs.CellEnds.{done_by}
 use Rattle.trace_run.specs.Deeds.{events_of_cell}
-use Rattle.trace_run.specs.callers.Group.{HaveWorked, IsAt, LeavesFront, LeavesPool}
+use Rattle.trace_run.specs.callers.Group.{AllWorked, HaveWorked, IsAt, LeavesFront, LeavesPool}
 use Rattle.trace_run.specs.Devices.{lent_in}
 use Rattle.trace_run.specs.FeedSeries.{AreMadeSoFar}
 use Rattle.trace_run.specs.Feeds.{is_feed}
@@ -48,7 +48,7 @@ use Rattle.trace_run.specs.one_caller.OverShards.{AreNamed}
 use Rattle.trace_run.specs.Restores.{events_by_feeder, restores_in}
 use Rattle.trace_run.specs.Syncing.{SyncedJoined, lines_of, noted_of}
 use Rattle.trace_run.specs.RunWork.{AllFit, IsRunWork, RunWork, acts_of_syncs, kept_after_lines, lines_of_caller, lines_of_feeder, noted_of_syncs}
-use Rattle.trace_run.specs.callers.Beside.{WorksBeside}
+use Rattle.trace_run.specs.callers.Beside.{FeedsBeside, WorksBeside}
 use Rattle.trace_run.specs.callers.DeviceForks.{UsedInGroups}
 use Rattle.trace_run.specs.callers.WorkLines.{AnswersLines, AreLinesOf, acts_of_work, calls_of_lines, noted_of_work}
 use Rattle.trace_run.specs.callers.Together.{AreCut, BeginsGroup, BetweenGroups, IsCutLast, IsFirstPlace, StoppedAt, StopsSync, WorkInGroups, between_groups, groups_done, over_callers}
@@ -133,8 +133,9 @@ pub record HaveReached {P D : Type 0} (cache : Cache) (restored : List Restored)
   pub first : IsFirstPlace (pools.size before.pool) trace.blocks before.next
   pub behind : before.next ≤ now.next
   pub counted : HaveCounted pools before.next cache.config.callers work.lines before.pool now.pool
-  pub groups : WorkInGroups pools cache.config (StoodSo (openings_of trace) cache.config crew.feeder) [] (groups_done ending work.lines) before now
-  pub used : UsedInGroups devices trace.blocks cache.config.callers (groups_done ending work.lines) work.feeds (lent_in was) (lent_in is)
+  -- several callers did so group by group; what one caller did stands elsewhere
+  pub groups : 2 ≤ cache.config.callers → WorkInGroups pools cache.config (StoodSo (openings_of trace) cache.config crew.feeder) [] (groups_done ending work.lines) before now
+  pub used : 2 ≤ cache.config.callers → UsedInGroups devices trace.blocks cache.config.callers (groups_done ending work.lines) work.feeds (lent_in was) (lent_in is)
   -- each feed went on where the one before it left the ring
   pub fed : AreMadeSoFar dbuf_meanings devices cache restored work.feeds was is crew.feeder
 
@@ -152,6 +153,14 @@ pub record DidLinesAtOnce {P D : Type 0} (m : Meanings OnHeap) (cache : Cache) (
   pub fits : AllFit cache.config lines
   pub worked : HaveWorked cache pools blocks (length old.parties.items) before after (λ n. lines_of_caller n lines) old.kept.items old.parties.items new.kept.items new.parties.items
   pub beside : WorksBeside m devices cache blocks ops (length old.parties.items) (λ n. lines_of_caller n lines) (replies_where is_feed ops replies) was now old.feeder new.feeder
+
+-- Lines of callers and of the feeder were done, at once or one after another, and these are the replies to them in their order, each line with its work.
+pub record DidLines {P D : Type 0} (m : Meanings OnHeap) (cache : Cache) (pools : Ghosts P) (devices : Devices D) (blocks : List Ptr) (ops : List Op) (before : P) (was now : Device D) (old new : Crew OnHeap) (replies : List Reply) : Type 0 where
+  pub lines : List Line
+  pub are : AreLinesOf ops replies lines
+  pub fits : AllFit cache.config lines
+  pub worked : AllWorked cache pools blocks (length old.parties.items) before (λ n. lines_of_caller n lines) old.kept.items old.parties.items new.kept.items new.parties.items
+  pub beside : FeedsBeside m devices cache ops (replies_where is_feed ops replies) was now old.feeder new.feeder
 
 -- every shard was given a capacity
 pub record DidCap {C P : Type 0} (cache : Cache) (c : ℕ) (from to : BetweenGroups P) (old new : Crew C) (came : Result Reply Ending) : Type 0 where

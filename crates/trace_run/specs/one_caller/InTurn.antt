@@ -1,9 +1,10 @@
 -- One caller with any lines: what these did, one after another, with the pool and the cache device that were handed in.
-use Rattle.std.specs.Prelude.{◌≡◌, ◌<◌, ◌++◌, ℕ, List, [], ◌∷◌, Option, None, Some, length, slice_get, slice_index_or}
+use Rattle.std.specs.Prelude.{◌⊎◌, Result, Ok, ◌≡◌, ◌<◌, ◌++◌, ℕ, List, [], ◌∷◌, Option, None, Some, length, slice_get, slice_index_or}
 use Rattle.blk_ptr.specs.declared.ptr.Ptr.{Ptr}
 use Rattle.arc_core.specs.declared.config.Config.{Config}
 use Rattle.arc_table.specs.Cache.{Cache}
-use Rattle.dbuf_cells.specs.Turns.{OnHeap, PartyPlace}
+use Rattle.arc_core.specs.declared.served.Restored.{Restored}
+use Rattle.dbuf_cells.specs.Turns.{OnHeap, PartyPlace, dbuf_meanings}
 use Rattle.vdev_io.specs.declared.device.CacheDev.{Ghosts as Devices}
 use Rattle.vdev_io.specs.declared.pool.Pool.{Ghosts}
 use Rattle.vdev_io.specs.Calls.{MakesCalls}
@@ -15,13 +16,18 @@ use Rattle.trace_text.specs.declared.trace.Trace.{Trace}
 use Rattle.trace_run.specs.declared.groups.Crew.{Crew}
 use Rattle.trace_run.specs.declared.kept_blocks.KeptBlock.{KeptBlock}
 use Rattle.trace_run.specs.declared.ran.Ending.{Ending}
-use Rattle.trace_run.specs.Feeds.{AreFedReplies, AsksOfFeeds, FeedDone}
+use Rattle.trace_run.specs.declared.ran.Ending.TheVariants.{Fork, Full, Sync, Whole}
+use Rattle.trace_run.specs.declared.device.Device.{Device}
+use Rattle.trace_run.specs.Devices.{lent_in}
+use Rattle.trace_run.specs.Feeds.{AreFedReplies, AsksOfFeeds, DoesFeeds, FeedDone, IsIdleFeeder}
 use Rattle.trace_run.specs.Lines.{caller_of}
-use Rattle.trace_run.specs.Objects.{Line, Work}
+use Rattle.trace_run.specs.Objects.{Line, Work, no_work}
+use Rattle.trace_run.specs.Openings.{openings_of}
 use Rattle.trace_run.specs.Restores.{found_keys}
 use Rattle.trace_run.specs.RunWork.{RunWork, lines_of_caller}
 use Rattle.trace_run.specs.callers.Group.{HasWorked}
-use Rattle.trace_run.specs.callers.Together.{AreCut, BetweenGroups, EndsBy, EndsRun, OfCells, StoodThen, between_groups, reads_of_caller}
+use Rattle.trace_run.specs.callers.Groups.{AreDone, DidEndLine, HaveReached, MaySync, StoodSo}
+use Rattle.trace_run.specs.callers.Together.{AreCut, BetweenGroups, EndsBy, EndsRun, IsCutLast, OfCells, StoodThen, StoppedAt, between_groups, reads_of_caller}
 use Rattle.trace_run.specs.callers.WorkLines.{AreLinesOf, AsksGiven, calls_of_lines}
 
 -- ---- the pool
@@ -98,6 +104,47 @@ pub record DidOwnLines {P D : Type 0} (cache : Cache) (pools : Ghosts P) (device
   pub asked : AsksGiven devices blocks lines was now
   pub feeder : new.feeder ≡ old.feeder
 
+-- ---- between two lines
+
+-- What the one caller, the pool and the cache device have come to by the lines that were done.
+pub record AreInTurn {P D : Type 0} (cache : Cache) (restored : List Restored) (pools : Ghosts P) (devices : Devices D) (trace : Trace) (before now : BetweenGroups P) (was is : Device D) (replies : List Reply) (work : RunWork) (crew : Crew OnHeap) : Type 0 where
+  pub reached : HaveReached cache restored pools devices trace before now was is Whole replies work crew
+  pub goes_on : work.stopped ≡ no_work
+  pub may_sync : MaySync pools (length replies) now
+  pub steps : WorkInTurn pools cache.config (StoodSo (openings_of trace) cache.config crew.feeder) [] work.lines before now
+  pub asks : UsedInTurn devices trace.blocks work.lines work.feeds (lent_in was) (lent_in is)
+
+-- All lines are done, or a sync stopped at the line behind the last one that was answered.
+pub record AreDoneInTurn {P D : Type 0} (cache : Cache) (restored : List Restored) (pools : Ghosts P) (devices : Devices D) (trace : Trace) (before : BetweenGroups P) (after : P) (was is : Device D) (ending : Ending) (replies : List Reply) (work : RunWork) (crew : Crew OnHeap) : Type 0 where
+  pub done : AreDone cache restored pools devices trace before after was is ending replies work crew
+  pub steps : WorkInTurn pools cache.config (StoodSo (openings_of trace) cache.config crew.feeder) [] work.lines before done.now
+  pub asks : UsedInTurn devices trace.blocks work.lines work.feeds (lent_in was) (lent_in is)
+
+-- The next lines were done, and the lines go on; or they ended so.
+abbrev pub StepsInTurn : {P D : Type 0} → Cache → List Restored → Ghosts P → Devices D → Trace → (start after : BetweenGroups P) → (was is : Device D) → (replied replies : List Reply) → Ending → Crew OnHeap → Type 0
+StepsInTurn cache restored pools devices trace start after was is replied replies Whole new =
+    (work : RunWork) × AreInTurn cache restored pools devices trace start after was is replies work new × (length replied < length replies)
+StepsInTurn cache restored pools devices trace start after was is replied replies Fork new = (work : RunWork) × AreDoneInTurn cache restored pools devices trace start after.pool was is Fork replies work new
+StepsInTurn cache restored pools devices trace start after was is replied replies Sync new = (work : RunWork) × AreDoneInTurn cache restored pools devices trace start after.pool was is Sync replies work new
+StepsInTurn cache restored pools devices trace start after was is replied replies (Full need left) new =
+    (work : RunWork) × AreDoneInTurn cache restored pools devices trace start after.pool was is (Full need left) replies work new
+
+-- ---- a line that is no caller's
+
+-- the feeder did a line `feed`
+pub record DidFeed {P D : Type 0} (cache : Cache) (devices : Devices D) (from to : BetweenGroups P) (was now : Device D) (old new : Crew OnHeap) (came : Result Reply Ending) : Type 0 where
+  pub reply : Reply
+  pub answer : came ≡ Ok reply
+  pub fed : DoesFeeds dbuf_meanings devices cache (ops.Feed ∷ []) (reply ∷ []) was now old.feeder new.feeder
+  pub again : IsIdleFeeder cache new.feeder
+  pub parties : new.parties.items ≡ old.parties.items
+  pub kept : new.kept.items ≡ old.kept.items
+  pub stays : to ≡ from
+
+-- a feed; or what ends a group, which leaves the device alone
+abbrev pub DidOtherLine : {P D : Type 0} → Cache → Ghosts P → Devices D → Op → (from to : BetweenGroups P) → (was now : Device D) → (old new : Crew OnHeap) → Result Reply Ending → Type 0
+DidOtherLine cache pools devices op from to was now old new came = ((op ≡ ops.Feed) × DidFeed cache devices from to was now old new came) ⊎ (DidEndLine cache pools op from to old new came × (now ≡ was))
+
 -- ---- the run
 
 -- With one caller the lines are done one after another. Where a sync stops, none behind it is done.
@@ -110,3 +157,5 @@ pub record RunsInTurn {P D : Type 0} (pool : Ghosts P) (device : Devices D) (bef
   pub counted : length (calls_of_lines (lines_of_caller 0 work.lines)) ≡ reads_of_caller 0 report.histories
   -- a capacity is given to each shard, and a sync done, once all lines before it are done, and before any line behind it is begun
   pub cut : (shard : ℕ) → shard < length report.histories → AreCut trace.config (found_keys report.rebuilt) trace.blocks shard work (slice_index_or report.histories shard [])
+  -- and so is a sync that stopped
+  pub last : (t : ℕ) → StoppedAt trace report.replies ending t → (shard : ℕ) → shard < length report.histories → IsCutLast trace.config (found_keys report.rebuilt) trace.blocks shard t work (slice_index_or report.histories shard [])
