@@ -53,7 +53,7 @@ use Rattle.trace_run.proofs.syncs.SyncInserts.{HasInserted}
 use Rattle.trace_run.proofs.syncs.SyncSteps.{AreFound, HasTaken, IsFound, all-taken}
 use Rattle.trace_run.proofs.syncs.SyncWrites.{all-synced, cell-front, inserts, synced-cells, synced-front, synced-made, synced-mine, synced-picks, synced-shards, taken}
 use Rattle.trace_run.proofs.syncs.SyncTold.{others-synced}
-use Rattle.trace_run.proofs.callers.MeetLemmas.{HaveJoined, left_alone, own-seen-more, parted_from, starts-events, joined_of, starts-then}
+use Rattle.trace_run.proofs.callers.MeetLemmas.{HaveJoined, have-met, left_alone, own-seen-more, parted_from, starts-events, joined_of, starts-then}
 use Rattle.trace_run.proofs.syncs.SyncOwned.{AreDoneFrom, DidSo, IsDone}
 use Rattle.trace_run.specs.MadeLines.{made_from, made_of}
 use Rattle.trace_run.specs.CellEnds.{done_by}
@@ -247,6 +247,7 @@ module _ (cache : Cache) (p : PartyPlace) (others : List PartyPlace) (stands : S
             synced-front g stands.valid tick cells xs q r stood.of.config low stood.seen has-all stood.cells s inside i in_range
             ∙ ((λ k. cell-front g stands.valid tick cells xs q r stood.of.config low stood.seen has-all stood.cells s inside i c within k ++ lines_of (synced_in (met.number k) i xs))
             ∙ ap (λ (x : OnHeap). lines_of x.value.history ++ lines_of (synced_in p.number i xs)) (index-at i cells c at));
+        met = have-met cache q r then.cells p others met.self.cells met.all;
         grown = λ i range. starts-then (front_of i r.own.seen) (front_of i q.own.seen) (front_of i p.own.seen) (then.cells i range) (met.self.cells i range);
         did = all-did;
         fresh = λ own rest i c at. none-at i cells c (t.fresh (untouched-by cache p others stands alone apart everyone count differ q joins own rest)) at;
