@@ -19,6 +19,7 @@ use Rattle.arc_core.specs.Operations.{pool_reads}
 use Rattle.arc_core.specs.ShardLog.{ShardLog}
 use Rattle.arc_table.specs.Ended.{Ended}
 use Rattle.arc_table.specs.Cache.{Cache}
+use Rattle.arc_table.specs.Fronts.{StartsWith}
 use Rattle.arc_table.specs.TableLaws.{within}
 use Rattle.arc_table.proofs.TableLaws.{there}
 use Rattle.dbuf_cells.specs.Turns.{OnHeap, dbuf_meanings}
@@ -33,6 +34,9 @@ use Rattle.trace_text.specs.declared.op.Op.TheVariants as ops
 use Rattle.trace_text.specs.declared.reply.Reply.{Reply}
 use Rattle.trace_text.specs.declared.trace.Trace.{Trace}
 use Rattle.trace_text.specs.Grammar.{IsFormed}
+use Rattle.trace_run.specs.declared.device.Device.{Device}
+use Rattle.trace_run.specs.Devices.{lent_in}
+use Rattle.trace_run.specs.FeedSeries.{LeavesFed}
 use Rattle.trace_run.specs.declared.groups.Crew.{Crew}
 use Rattle.trace_run.specs.declared.ran.Ending.{Ending}
 use Rattle.trace_run.specs.declared.ran.Ending.TheVariants.{Fork, Full, Sync, Whole}
