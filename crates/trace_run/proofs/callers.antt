@@ -14,6 +14,7 @@ pub mod GroupsLemmas
 pub mod InOrderLemmas
 pub mod InUse
 pub mod LineLists
+pub mod LookingLemmas
 pub mod MeetLemmas
 pub mod MergedLines
 pub mod MoreLemmas
