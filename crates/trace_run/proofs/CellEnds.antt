@@ -66,12 +66,14 @@ use Rattle.dbuf_state.specs.Soundness.{IsSound, plain_cell}
 use Rattle.dbuf_state.specs.declared.event.CellEvent.{CellEvent}
 use Rattle.dbuf_state.specs.declared.event.CellEvent.TheVariants.{End}
 use Rattle.dbuf_state.specs.declared.state.Mapping.{Mapping}
-use Rattle.trace_run.specs.CellEnds.{IsCellDrop, end_entry, ends_from}
+use Rattle.trace_run.specs.CellEnds.{IsCellDrop, SeesEnd, SeesEnds, end_entry, ends_from}
 use Rattle.trace_run.specs.DbufTurns.{CellsDone}
 use Rattle.trace_run.specs.Deeds.{HasToldOthers, Noted, acts_of_events, events_there, noted_in}
 use Rattle.trace_run.specs.Making.{HasSeenItsEvents}
+use Rattle.trace_run.proofs.deeds.CellFound.{turn-finds}
 use Rattle.trace_run.proofs.deeds.CellsDone.{turn-done}
 use Rattle.trace_run.proofs.deeds.DeedLemmas.{events-acts}
+use Rattle.trace_run.proofs.deeds.ObjectReplies.{dbufs-so}
 use Rattle.trace_run.proofs.deeds.TurnMakes.{AreTurnEvents}
 use Rattle.trace_run.proofs.theorem.ToldLemmas.{others-turn}
 use Rattle.trace_run.proofs.CellsLeft.{CellsGrow, LeavesCells, does-leaves, leaves-same, leaves-seen, leaves-then}
@@ -80,7 +82,7 @@ use Rattle.trace_run.proofs.callers.MeetLemmas.{own-seen-more, starts-then}
 
 -- ---- a cell to which nothing was done
 
-opened-uncached : (ms : List Mapping) → filter (λ (d : OutlineDbuf). d.cached) (map outline_dbuf (map opened ms)) ≡ []
+pub opened-uncached : (ms : List Mapping) → filter (λ (d : OutlineDbuf). d.cached) (map outline_dbuf (map opened ms)) ≡ []
 opened-uncached [] = refl
 opened-uncached (m ∷ ms) = opened-uncached ms
 
@@ -478,6 +480,22 @@ module _ (g : Config) (valid : IsConfig g) (i : ℕ) (in_range : IsCell g i) (p 
   pub cell-else : (j : ℕ) → IsCell g j → j ≢ i → front_of j q.own.seen ≡ front_of j p.own.seen
   cell-else j range differs = ap (λ (x : PartyPlace). front_of j x.own.seen) t.gave ∙ back-else j range differs
 
+  -- it knows how the cell began, and gave back all that the cell kept
+  pub sees-end : SeesEnd g p.own.about.openings q.own.seen p.number i e.drops
+  unfolding cell-end
+  sees-end =
+      let found = turn-finds g valid i in_range e.before (End p.number ∷ []) e.drops p q config (sees, entries) cell-kinds e.turn in
+      record {
+        before = e.before;
+        opening = found.opening;
+        last = cell-end.1;
+        kept = record {
+          kept = e.kept;
+          all = record { rising = e.all.rising; all = subst (λ (ds : List OutlineDbuf). IsPermutation (filter (λ (d : OutlineDbuf). d.cached) ds) e.kept) (dbufs-so e.before found.sound) e.all.all };
+          dropped = e.dropped;
+        };
+      }
+
   -- nobody had done anything to a cell from this one on
   module _ (none : IsUntouched g i p) where
     abbrev found : PartyPlace
@@ -536,6 +554,7 @@ module _ (g : Config) (valid : IsConfig g) where
     pub told : (did : List Act) (had : List Noted) → HasToldOthers g did had p → HasToldOthers g (did ++ acts_of_events drops) (had ++ ends_from p.number i count) q
     pub last : (j : ℕ) → IsCell g j → i ≤ j → j < i + count → (before : List Line) × (front_of j q.own.seen ≡ before ++ end_entry p.number j)
     pub lower : (j : ℕ) → IsCell g j → j < i → front_of j q.own.seen ≡ front_of j p.own.seen
+    pub kept : SeesEnds g p.own.about.openings q.own.seen p.number i count drops
     pub idle : IsUntouched g i p → HasEndedIdle g i (i + count) drops p q
 
   pub all-ended : (i count : ℕ) (p q : PartyPlace) → i + count ≤ g.cells → p.own.about.config ≡ g → HasSeenItsEvents g p → HasSeenItsEntries g p → HasAll p → EndsFrom g i count p q → HasEndedFrom i count p q
@@ -563,6 +582,7 @@ module _ (g : Config) (valid : IsConfig g) where
     told = λ did had h. subst (λ (x : List Act × List Noted). HasToldOthers g x.0 x.1 p) (λ z. (sym (append-nil did) z, sym (append-nil had) z)) h;
     last = λ j range above below. absurd (omega (arith, above, below));
     lower = λ j range less. refl;
+    kept = refl;
     idle = λ none. record {
       none = refl;
       untouched = subst (λ (k : ℕ). IsUntouched g k p) (let e : i ≡ i + 0 = omega arith in e) none;
@@ -616,6 +636,14 @@ module _ (g : Config) (valid : IsConfig g) where
             let e = rest.last j range (later j i above differs) (omega (arith, below)) in
             (e.0, e.1 ∙ ap (λ (n : ℕ). e.0 ++ end_entry n j) a.number));
         lower = λ j range less. rest.lower j range (omega (arith, less)) ∙ cell-else g valid i here p r config sees entries all ends.1 j range (λ is. omega (arith, is, less));
+        kept =
+            let e = sees-end g valid i here p r config sees entries all ends.1 in (
+              ends.1.drops,
+              rest.drops,
+              refl,
+              record { before = e.before; opening = e.opening; last = rest.lower i here (omega arith) ∙ e.last; kept = e.kept },
+              subst (λ (x : ℕ × List (List ℕ)). SeesEnds g x.1 q.own.seen x.0 (suc i) count rest.drops) (λ z. (a.number z, (ap (λ (x : About). x.openings) a.about) z)) rest.kept,
+            );
         idle = λ none.
             let x = one-idle g valid i here p r config sees entries all ends.1 none in
             let y = rest.idle x.untouched in

@@ -8,6 +8,7 @@ use Rattle.arc_core.specs.declared.event.Event.{Event}
 use Rattle.arc_core.specs.Operations.{moments, own_moments}
 use Rattle.turn_table.specs.declared.standing.Kept.{Kept}
 use Rattle.turn_table.specs.Places.{IsIn, SomeHas}
+use Rattle.arc_table.specs.declared.about.About.{About}
 use Rattle.arc_table.specs.declared.view.Known.{Known}
 use Rattle.arc_table.specs.declared.view.Ledger.{Ledger}
 use Rattle.arc_table.specs.declared.view.Line.{Line}
@@ -19,7 +20,7 @@ use Rattle.arc_table.specs.Seen.{AreEntriesSeen, AreSeen, HasAll, events_in, see
 use Rattle.arc_table.specs.Telling.{opening_of}
 use Rattle.dbuf_cells.specs.Ending.{EndsFrom}
 use Rattle.dbuf_cells.specs.Turns.{KeepsClaims, OnHeap, PartyPlace, dbuf_meanings}
-use Rattle.trace_run.specs.CellEnds.{EndedCells, EndedIdle, end_entry, ends_from}
+use Rattle.trace_run.specs.CellEnds.{EndedCells, EndedIdle, SeesEnds, end_entry, ends_from}
 use Rattle.trace_run.specs.Deeds.{HasToldOthers, Noted, acts_of_events, events_there}
 use Rattle.trace_run.specs.KeptBlocks.{Stands, times}
 use Rattle.trace_run.specs.Making.{AreEventsSeen, AreNoEntries}
@@ -179,6 +180,7 @@ module _ (cache : Cache) (p : PartyPlace) (others : List PartyPlace) (stands : S
         same = λ before own rest shard. then.shards shard ∙ ap (λ (l : List Line). events_in l ++ events_there g shard ended.drops) (have.level before own rest shard);
         one = λ o is seen shard. then.shards shard ∙ ap (λ (l : List Event). l ++ events_there g shard ended.drops) (one-front o is seen shard);
         idle = was-idle;
+        kept = subst (λ (x : ℕ × List (List ℕ)). SeesEnds g x.1 r.own.seen x.0 0 g.cells ended.drops) (λ i. (have.number i, (ap (λ (a : About). a.openings) have.about) i)) ended.kept;
         are = ended.are;
         settled = λ feeder settled i. then.picks (have.number ∙ feeder) i ∙ (ap (λ (l : Ledger). list_at i l.picked) have.ledger ∙ settled i);
       }

@@ -9,9 +9,9 @@ pub mod FeederKinds
 pub mod FirstPlace
 pub mod GenLemmas
 pub mod HistoryLemmas
+pub mod KeptEnds
 pub mod LineActs
 pub mod LineAnswers
-pub mod LookLemmas
 pub mod OutcomeLemmas
 pub mod PlacedLemmas
 pub mod RanLemmas

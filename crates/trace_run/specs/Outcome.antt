@@ -32,7 +32,7 @@ use Rattle.dbuf_cells.specs.Turns.{OnHeap}
 use Rattle.trace_text.specs.Generator.{generated_block, generated_read, generated_sizes}
 use Rattle.trace_run.specs.Answers.{AnswersAll}
 use Rattle.trace_run.specs.Bounded.{device_len, with_bound}
-use Rattle.trace_run.specs.CellEnds.{AreCellsOf}
+use Rattle.trace_run.specs.CellEnds.{AreCellsOf, AreEndedSo}
 use Rattle.trace_run.specs.RunWork.{IsRunWork, RunWork, noted_by, only_ended, plain_work}
 use Rattle.trace_run.specs.CheckText.{check_text}
 use Rattle.trace_run.specs.DeviceUse.{WasUsed}
@@ -118,6 +118,8 @@ pub record HasRun {P D : Type 0} (pool : Ghosts P) (device : Devices D) (before 
   pub did : IsRunWork trace.config (answered_ops trace ending report.replies) report.replies work
   pub run : IsRun pool device before after lent back trace ending work closed report
   pub cells : AreCellsOf trace (noted_by trace.config work) closed
+  -- what each still kept was given back as it ended
+  pub kept : AreEndedSo trace.config 0 closed.cells work.ended
   pub used : 2 ≤ trace.config.callers → UsedInGroups device trace.blocks trace.config.callers (groups_done ending work.lines) work.feeds lent back
   pub unfed : work.feeds ≡ [] → IsHandedBack device lent back
   pub plain : trace.config.callers ≡ 1 → work ≡ plain_work trace.ops report.replies

@@ -235,6 +235,7 @@ pub(crate) fn end_line<P: Pool>(
     requires ends { ends_group op.now ≡ true }
     requires sync { (lines : ℕ) × (lines < 2 ^ 32) × MaySync P.Pool lines (between_groups pool.old syncs.group syncs.next) }
     ensures did { IfOk result (λ done. DidEndLine arcs.now P.Pool op.now (between_groups pool.old syncs.group syncs.next) (between_groups pool.new done.1.group done.1.next) crew done.0 done.2) }
+    ensures later { IfOk result (λ done. syncs.next ≤ done.1.next) }
     ensures pool { LeavesFront P.Pool syncs.next pool.old pool.new }
 {
     let Crew {

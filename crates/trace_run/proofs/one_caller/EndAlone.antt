@@ -11,7 +11,7 @@ use Rattle.arc_table.specs.Geometry.{parties_of}
 use Rattle.arc_table.specs.Seen.{events_in, seen_of}
 use Rattle.arc_table.specs.Views.{after_learned}
 use Rattle.dbuf_cells.specs.Turns.{PartyPlace, dbuf_meanings}
-use Rattle.trace_run.specs.CellEnds.{EndedCells, HasSeenEnds, end_entry}
+use Rattle.trace_run.specs.CellEnds.{EndedCells, HasSeenEnds, SeesEnds, end_entry}
 use Rattle.trace_run.specs.KeptBlocks.{Stands}
 use Rattle.trace_run.specs.Making.{AreNoEntries}
 use Rattle.trace_run.specs.Meeting.{HasFeeder, HasParted, HaveParted, IsApart, IsLevel, JoinAll, Joins, MayGoOn}
@@ -113,6 +113,7 @@ module _ (cache : Cache) (p : PartyPlace) (one : cache.config.callers ≡ 1) (nu
         joined = have2.joined;
         knows = ap (λ (x : About). x.openings) r.about ∙ (by cache (λ shard. []) p one number rows openings feeder).knows;
         feeder_stands = r.stands;
+        kept = subst (λ (x : ℕ × List (List ℕ)). SeesEnds g x.1 f2.own.seen x.0 0 g.cells r.drops) (λ i. (entries-are i, (by cache (λ shard. []) p one number rows openings feeder).knows i)) r.kept;
         idle = λ none.
             let idle = r.idle (by cache (λ shard. []) p one number rows openings feeder).only (none, tt) in (
               idle.none,

@@ -28,7 +28,7 @@ use Rattle.dbuf_state.specs.Numbers.{event_numbers, number_of}
 use Rattle.dbuf_state.specs.declared.event.CellEvent.{CellEvent}
 use Rattle.dbuf_state.specs.declared.event.CellEvent.TheVariants.{End}
 use Rattle.trace_text.specs.declared.trace.Trace.{Trace}
-use Rattle.trace_run.specs.CellEnds.{AreCellsOf, EndedCrew, HasSeenEnds, IsCellOf, done_by, end_entry, ends_from}
+use Rattle.trace_run.specs.CellEnds.{AreCellsOf, AreEndedSo, EndedCrew, HasSeenEnds, IsCellOf, SeesEnds, done_by, end_entry, ends_from}
 use Rattle.trace_run.specs.RunWork.{only_ended}
 use Rattle.trace_run.specs.Deeds.{HasToldOthers, Noted, events_of_cell, events_there, lines_of_cell}
 use Rattle.trace_run.specs.MadeLines.{made_from, made_of}
@@ -39,6 +39,7 @@ use Rattle.trace_run.specs.Openings.{Knows, openings_of}
 use Rattle.trace_run.proofs.callers.AfterEnds.{crew-long, same-long}
 use Rattle.trace_run.proofs.CellLemmas.{all-cells-of, by-parties, cell-of, done-is, ends-one, entries-are, events-same, opened-so}
 use Rattle.trace_run.proofs.theorem.EndLemmas.{shown-at}
+use Rattle.trace_run.proofs.theorem.KeptEnds.{IsSeenWhole, ended-so}
 use Rattle.trace_run.proofs.deeds.MadeLemmas.{listed-none, made-none}
 
 -- ---- cells with any history
@@ -52,32 +53,41 @@ pub record HasNoted (g : Config) (s : List (List Line)) (k : ℕ) (v : Known OnH
 
 module _ (cache : Cache) (ps : List PartyPlace) (e : Ended OnHeap) (ends : Ends dbuf_meanings cache ps e) (trace : Trace) (config : cache.config ≡ trace.config) where
   -- One party knew how the cells began; another has seen the ends, and with them all that anybody did to cells.
-  pub cells-of-run : (noted : ℕ → List Noted) (n : ℕ) (w : Known OnHeap) → get_elem? ends.views n ≡ some w → w.about.openings ≡ openings_of trace
-      → (m : ℕ) (u : Known OnHeap) → get_elem? ends.views m ≡ some u → u.about.config ≡ cache.config
-      → ((i : ℕ) → IsCell cache.config i → (before : List Line) × (front_of i u.seen ≡ before ++ end_entry cache.config.callers i))
-      → ((k : ℕ) → k < parties_of cache.config → (v : Known OnHeap) × (get_elem? ends.views k ≡ some v) × HasNoted cache.config u.seen k v (noted k))
-      → AreCellsOf trace noted e
-  cells-of-run noted n w knows opening m u sees own fronts each = all-cells-of trace noted e (ends.cells ∙ ap (λ (g : Config). g.cells) config) one
-    where
-      settled : ends.pact.scene.about.config ≡ cache.config
-      settled = ap (λ (a : About). a.config) (sym (ends.pact.attached.views m u sees).about) ∙ own
+  module _ (noted : ℕ → List Noted) (n : ℕ) (w : Known OnHeap) (knows : get_elem? ends.views n ≡ some w) (opening : w.about.openings ≡ openings_of trace) (m : ℕ) (u : Known OnHeap) (sees : get_elem? ends.views m ≡ some u) (own : u.about.config ≡ cache.config)
+      (fronts : (i : ℕ) → IsCell cache.config i → (before : List Line) × (front_of i u.seen ≡ before ++ end_entry cache.config.callers i))
+      (each : (k : ℕ) → k < parties_of cache.config → (v : Known OnHeap) × (get_elem? ends.views k ≡ some v) × HasNoted cache.config u.seen k v (noted k)) where
+    settled : ends.pact.scene.about.config ≡ cache.config
+    settled = ap (λ (a : About). a.config) (sym (ends.pact.attached.views m u sees).about) ∙ own
 
-      all-seen : (k : ℕ) → k < parties_of ends.pact.scene.about.config → (v : Known OnHeap) × (get_elem? ends.views k ≡ some v) × AreEntriesSeen ends.pact.scene.about.config k v.mine u.seen
-      all-seen k below = let h = each k (subst (λ (g : Config). k < parties_of g) settled below) in (h.0, h.1, subst (λ (g : Config). AreEntriesSeen g k h.0.mine u.seen) (sym settled) h.2.seen)
+    all-seen : (k : ℕ) → k < parties_of ends.pact.scene.about.config → (v : Known OnHeap) × (get_elem? ends.views k ≡ some v) × AreEntriesSeen ends.pact.scene.about.config k v.mine u.seen
+    all-seen k below = let h = each k (subst (λ (g : Config). k < parties_of g) settled below) in (h.0, h.1, subst (λ (g : Config). AreEntriesSeen g k h.0.mine u.seen) (sym settled) h.2.seen)
 
-      one : (i : ℕ) (c : OnHeap) → get_elem? e.cells i ≡ some c → IsCellOf trace noted i c
-      one i c at =
-          let inside : i < cache.config.cells = subst (λ (k : ℕ). i < k) ends.cells (within e.cells i c at) in
-          let range : IsCell ends.pact.scene.about.config i = subst (λ (g : Config). IsCell g i) (sym settled) inside in
+    module _ (i : ℕ) (c : OnHeap) (at : get_elem? e.cells i ≡ some c) where
+      inside : i < cache.config.cells
+      inside = subst (λ (k : ℕ). i < k) ends.cells (within e.cells i c at)
+
+      range : IsCell ends.pact.scene.about.config i
+      range = subst (λ (g : Config). IsCell g i) (sym settled) inside
+
+      pub seen-whole : IsSeenWhole (openings_of trace) u.seen i c
+      seen-whole = record {
+        entries = entries-are cache ps e ends i c at (front_of i u.seen) u.seen refl range m u sees refl all-seen;
+        opening = opened-so cache ps e ends i c at n w knows ∙ ap (λ (os : List (List ℕ)). slice_index_or os i []) opening;
+      }
+
+      one-cell : IsCellOf trace noted i c
+      one-cell =
           let front = fronts i inside in
-          cell-of cache ps e ends i c at trace (subst (λ (g : Config). i < g.cells) config inside)
-          (opened-so cache ps e ends i c at n w knows ∙ ap (λ (os : List (List ℕ)). slice_index_or os i []) opening)
+          cell-of cache ps e ends i c at trace (subst (λ (g : Config). i < g.cells) config inside) seen-whole.opening
           noted front.0
-          (entries-are cache ps e ends i c at (front_of i u.seen) u.seen refl range m u sees refl all-seen ∙ (front.1 ∙ ap (λ (g : Config). front.0 ++ end_entry g.callers i) config))
+          (seen-whole.entries ∙ (front.1 ∙ ap (λ (g : Config). front.0 ++ end_entry g.callers i) config))
           (subst (λ (g : Config). AllByRecursion (λ ev. number_of ev < parties_of g) c.value.history) (settled ∙ config) (by-parties cache ps e ends i c at u.seen m u sees refl range all-seen))
           (λ k below.
           let h = each k (subst (λ (g : Config). k < parties_of g) (sym config) below) in
           done-is cache ps e ends i c at u.seen m u sees refl range all-seen k h.0 h.1 (subst (λ (g : Config). AreEntriesSeen g k h.0.mine h.0.seen) (sym settled) h.2.own) (events_of_cell i (noted k)) (h.2.made i inside))
+
+    pub cells-of-run : AreCellsOf trace noted e
+    cells-of-run = all-cells-of trace noted e (ends.cells ∙ ap (λ (g : Config). g.cells) config) one-cell
 
 -- ---- cells to which nothing was done but their ends
 
@@ -246,3 +256,11 @@ module _ (cache : Cache) (olds news : List PartyPlace) (c : EndedCrew cache olds
   pub crew-cells : AreCellsOf trace noted e
   crew-cells = cells-of-run cache news e ends trace config noted g.callers z.own last-shown knows g.callers z.own last-shown c.ended.stands.of.config
       (λ i range. let h = c.ended.ends i range in (h.0, h.1 ∙ ap (λ (n : ℕ). h.0 ++ end_entry n i) feeder-number)) each
+
+  -- what the cells still kept was given back
+  pub crew-kept : AreEndedSo g 0 e.cells c.ended.drops
+  crew-kept = ended-so (openings_of trace) z.own.seen g 0 e.cells c.ended.drops
+      (λ k x at. subst (λ (n : ℕ). IsSeenWhole (openings_of trace) z.own.seen n x) (let same : k ≡ 0 + k = omega arith in same)
+      (seen-whole cache news e ends trace config noted g.callers z.own last-shown knows g.callers z.own last-shown c.ended.stands.of.config
+      (λ i range. let h = c.ended.ends i range in (h.0, h.1 ∙ ap (λ (n : ℕ). h.0 ++ end_entry n i) feeder-number)) each k x at))
+      (subst (λ (x : List (List ℕ) × ℕ × ℕ). SeesEnds g x.0 z.own.seen x.1 0 x.2 c.ended.drops) (λ i. ((ap (λ (a : About). a.openings) (sym c.ended.about) ∙ knows) i, feeder-number i, sym ends.cells i)) c.ended.kept)

@@ -9,14 +9,13 @@ use Rattle.arc_core.specs.declared.config.Config.{Config}
 use Rattle.arc_core.specs.declared.event.Event.{Event}
 use Rattle.arc_core.specs.Operations.{Act, Moment, Tell, actor_of, acts_in, moments, own_events, own_moments}
 use Rattle.arc_core.proofs.OwnEvents.{own-events-are}
-use Rattle.turn_table.specs.Places.{Place}
-use Rattle.arc_table.specs.declared.view.Known.{Known}
 use Rattle.arc_table.specs.declared.view.Line.{Line}
 use Rattle.arc_table.specs.Cache.{Cache}
 use Rattle.arc_table.specs.Seen.{events_in, seen_of}
 use Rattle.arc_table.specs.Telling.{opening_of}
 use Rattle.arc_table.specs.TableLaws.{get_front, within}
 use Rattle.arc_table.proofs.TableLaws.{get_last, get_more}
+use Rattle.dbuf_cells.specs.Turns.{PartyPlace}
 use Rattle.trace_run.specs.CellEnds.{EndedCrew, ends_from}
 use Rattle.trace_run.specs.Deeds.{HasToldAll, HasToldOthers, Noted, acts_of_events, events_there}
 use Rattle.trace_run.specs.Meeting.{HasParted, HasSettled, HaveParted, IsLevel}
@@ -27,21 +26,21 @@ use Rattle.trace_run.proofs.deeds.DeedLemmas.{others-still}
 use Rattle.trace_run.proofs.theorem.ToldLemmas.{others-told}
 use Rattle.trace_run.proofs.theorem.WorkEnds.{HasEndedWork, IsCallersAct}
 
-module _ {C : Type 0} (cache : Cache) (olds news : List (Place (Known C))) (c : EndedCrew cache olds news) (stopped : HaveStopped cache olds) (many : length c.callers ≡ cache.config.callers) where
+module _ (cache : Cache) (olds news : List PartyPlace) (c : EndedCrew cache olds news) (stopped : HaveStopped cache olds) (many : length c.callers ≡ cache.config.callers) where
   abbrev g : Config
   g = cache.config
 
-  abbrev z : Place (Known C)
+  abbrev z : PartyPlace
   z = c.last
 
   feeder-number : c.feeder.number ≡ g.callers
-  feeder-number = (stopped.each (length c.callers) c.feeder (ap (λ (l : List (Place (Known C))). get_elem? l (length c.callers)) c.are ∙ get_last c.callers c.feeder)).0 ∙ many
+  feeder-number = (stopped.each (length c.callers) c.feeder (ap (λ (l : List PartyPlace). get_elem? l (length c.callers)) c.are ∙ get_last c.callers c.feeder)).0 ∙ many
 
   many-parted : length c.parted ≡ g.callers
   many-parted = same-long cache c.ended.lines c.callers c.parted c.ended.parted ∙ many
 
-  parted-at : (os xs : List (Place (Known C))) → HaveParted cache c.ended.lines os xs → (n : ℕ) (x : Place (Known C)) → get_elem? xs n ≡ some x
-      → (o : Place (Known C)) × (get_elem? os n ≡ some o) × HasParted cache c.ended.lines o x
+  parted-at : (os xs : List PartyPlace) → HaveParted cache c.ended.lines os xs → (n : ℕ) (x : PartyPlace) → get_elem? xs n ≡ some x
+      → (o : PartyPlace) × (get_elem? os n ≡ some o) × HasParted cache c.ended.lines o x
   parted-at [] [] parted n x at = absurd (some-ne-none x (sym at))
   parted-at [] (y ∷ ys) parted n x at = absurd parted
   parted-at (o ∷ os) [] parted n x at = absurd parted
@@ -49,29 +48,29 @@ module _ {C : Type 0} (cache : Cache) (olds news : List (Place (Known C))) (c : 
   parted-at (o ∷ os) (y ∷ ys) parted (suc n) x at = parted-at os ys parted.1 n x at
 
   -- a caller's party, and the feeder's
-  each-closing : (fact : ℕ → Place (Known C) → Type 0) → ((n : ℕ) (o x : Place (Known C)) → n < g.callers → get_elem? c.callers n ≡ some o → HasParted cache c.ended.lines o x → fact n x) → fact g.callers z
-      → (n : ℕ) (p : Place (Known C)) → get_elem? news n ≡ some p → fact n p
-  each-closing fact callers feeds n p at = elim (get_more c.parted z p n (ap (λ (l : List (Place (Known C))). get_elem? l n) (sym c.then) ∙ at)) [
+  each-closing : (fact : ℕ → PartyPlace → Type 0) → ((n : ℕ) (o x : PartyPlace) → n < g.callers → get_elem? c.callers n ≡ some o → HasParted cache c.ended.lines o x → fact n x) → fact g.callers z
+      → (n : ℕ) (p : PartyPlace) → get_elem? news n ≡ some p → fact n p
+  each-closing fact callers feeds n p at = elim (get_more c.parted z p n (ap (λ (l : List PartyPlace). get_elem? l n) (sym c.then) ∙ at)) [
     | inl first ↦
         let h = parted-at c.callers c.parted c.ended.parted n p first in
         callers n h.0 p (subst (λ (k : ℕ). n < k) many (within c.callers n h.0 h.1)) h.1 h.2
-    | inr is ↦ subst (λ (x : ℕ × Place (Known C)). fact x.0 x.1) (λ k. ((sym many-parted ∙ sym is.0) k, is.1 k)) feeds
+    | inr is ↦ subst (λ (x : ℕ × PartyPlace). fact x.0 x.1) (λ k. ((sym many-parted ∙ sym is.0) k, is.1 k)) feeds
   ]
 
   -- all have seen the same, where they had before: what was dropped with the cells' numbers more
-  pub crew-level : (before : ℕ → List Line) → AllByRecursion (IsLevel g before) c.callers → IsLevel g before c.feeder → (n : ℕ) (p : Place (Known C)) → get_elem? news n ≡ some p
+  pub crew-level : (before : ℕ → List Line) → AllByRecursion (IsLevel g before) c.callers → IsLevel g before c.feeder → (n : ℕ) (p : PartyPlace) → get_elem? news n ≡ some p
       → (shard : ℕ) → seen_of g shard p ≡ events_in (before shard) ++ events_there g shard c.ended.drops
   crew-level before rest own = each-closing (λ n p. (shard : ℕ) → seen_of g shard p ≡ events_in (before shard) ++ events_there g shard c.ended.drops)
       (λ n o x below at parted shard. ap events_in (parted.level shard) ∙ c.ended.same before own rest shard)
       (λ shard. ap events_in (c.ended.level shard) ∙ c.ended.same before own rest shard)
 
-  module _ (did : ℕ → List Act) (noted : ℕ → List Noted) (feeds : (shard : ℕ) → List Event) (callers : (n : ℕ) (o : Place (Known C)) → get_elem? c.callers n ≡ some o → HasToldAll g (did n) (noted n) o)
+  module _ (did : ℕ → List Act) (noted : ℕ → List Noted) (feeds : (shard : ℕ) → List Event) (callers : (n : ℕ) (o : PartyPlace) → get_elem? c.callers n ≡ some o → HasToldAll g (did n) (noted n) o)
       (acts : (n : ℕ) → n < g.callers → AllByRecursion (IsCallersAct g) (filter (λ act. actor_of act == n) (did n)))
       (made : List Act) (had : List Noted) (told : HasToldOthers g made had c.feeder) (settled : HasSettled c.feeder) (fed : (shard : ℕ) → shard < g.shards → own_events g.callers (seen_of g shard c.feeder) ≡ feeds shard)
       (did-is : did g.callers ≡ made ++ acts_of_events c.ended.drops) (noted-is : noted g.callers ≡ had ++ ends_from g.callers 0 g.cells) where
-    caller-ended : (n : ℕ) (o x : Place (Known C)) → n < g.callers → get_elem? c.callers n ≡ some o → HasParted cache c.ended.lines o x → HasEndedWork g (did n) (noted n) feeds n x
+    caller-ended : (n : ℕ) (o x : PartyPlace) → n < g.callers → get_elem? c.callers n ≡ some o → HasParted cache c.ended.lines o x → HasEndedWork g (did n) (noted n) feeds n x
     caller-ended n o x below at parted =
-        let s = stopped.each n o (ap (λ (l : List (Place (Known C))). get_elem? l n) c.are ∙ get_front c.callers (c.feeder ∷ []) n o at) in
+        let s = stopped.each n o (ap (λ (l : List PartyPlace). get_elem? l n) c.are ∙ get_front c.callers (c.feeder ∷ []) n o at) in
         let stands = parted.stands [] s.1 in
         let all = callers n o at in
         record {
@@ -108,5 +107,5 @@ module _ {C : Type 0} (cache : Cache) (olds news : List (Place (Known C))) (c : 
           settled = λ _. c.ended.settled feeder-number settled;
         }
 
-    pub crew-ended : (n : ℕ) (p : Place (Known C)) → get_elem? news n ≡ some p → HasEndedWork g (did n) (noted n) feeds n p
+    pub crew-ended : (n : ℕ) (p : PartyPlace) → get_elem? news n ≡ some p → HasEndedWork g (did n) (noted n) feeds n p
     crew-ended = each-closing (λ n p. HasEndedWork g (did n) (noted n) feeds n p) caller-ended feeder-ended

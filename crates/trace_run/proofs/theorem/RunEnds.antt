@@ -36,7 +36,7 @@ use Rattle.trace_run.specs.declared.groups.Crew.{Crew}
 use Rattle.trace_run.specs.declared.kept_blocks.KeptBlock.{KeptBlock}
 use Rattle.trace_run.specs.Acts.{acts_of_drops}
 use Rattle.trace_run.specs.Answers.{AnswersAll, is_pool_fault}
-use Rattle.trace_run.specs.CellEnds.{AreCellsOf, EndedCrew, IsCellDrop, ends_from}
+use Rattle.trace_run.specs.CellEnds.{AreCellsOf, AreEndedSo, EndedCrew, IsCellDrop, ends_from}
 use Rattle.trace_run.specs.Deeds.{HasToldAll, HasToldOthers, KeepsCells, Noted, acts_of_events, events_there, lines_of_cell}
 use Rattle.trace_run.specs.Explaining.{BeginsWith, EndsWith, Explain, drops_at_end}
 use Rattle.trace_run.specs.FeedEvents.{events_of_line, events_of_lines, feeds_behind}
@@ -65,7 +65,7 @@ use Rattle.trace_run.proofs.callers.GroupCounts.{IsLineAct, acts-counted, over-s
 use Rattle.trace_run.proofs.callers.GroupRunLemmas.{come-wait, gave-at, gone-long, gone-stopped, lines-acts, lines-noted}
 use Rattle.trace_run.proofs.callers.MeetLemmas.{all-before, starts-then}
 use Rattle.trace_run.proofs.one_caller.TellLemmas.{all-map}
-use Rattle.trace_run.proofs.theorem.CellRun.{crew-cells}
+use Rattle.trace_run.proofs.theorem.CellRun.{crew-cells, crew-kept}
 use Rattle.trace_run.proofs.theorem.CrewEnds.{crew-ended, crew-level}
 use Rattle.trace_run.proofs.theorem.LineActs.{Own, caller-own, own-fits}
 use Rattle.trace_run.proofs.theorem.AnsweredCells.{EndsFrom, all-by-cells, goes-on}
@@ -339,6 +339,11 @@ module _ (cache : Cache) (valid : IsConfig cache.config) (restored : List Restor
 
     pub run-cells : AreCellsOf trace noted closed
     run-cells = crew-cells cache h.parties h.closing c stopped closed h.ends trace config noted knows-last many (λ n o at i range. (caller-tells n o at).entries i range)
+        (acts_of_syncs g blocks work) (noted_of_syncs work) (subst (HasToldOthers g (acts_of_syncs g blocks work) (noted_of_syncs work)) (sym same-parties.1) gave.fed.told) feeder-noted
+
+    -- what they still kept was given back
+    pub run-kept : AreEndedSo g 0 closed.cells ended-work.ended
+    run-kept = crew-kept cache h.parties h.closing c stopped closed h.ends trace config noted knows-last many (λ n o at i range. (caller-tells n o at).entries i range)
         (acts_of_syncs g blocks work) (noted_of_syncs work) (subst (HasToldOthers g (acts_of_syncs g blocks work) (noted_of_syncs work)) (sym same-parties.1) gave.fed.told) feeder-noted
 
     emptied : (j : ℕ) (x : OnHeap) → get_elem? closed.cells j ≡ some x → dbuf_meanings.holds x ≡ []

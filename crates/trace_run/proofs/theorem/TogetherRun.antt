@@ -15,12 +15,11 @@ use Rattle.arc_core.specs.declared.config.Config.{Config}
 use Rattle.arc_core.specs.declared.event.Event.{Event}
 use Rattle.arc_core.specs.declared.served.Restored.{Restored}
 use Rattle.arc_core.specs.declared.served.Served.TheVariants as served
-use Rattle.arc_core.specs.Operations.{own_events, pool_reads}
+use Rattle.arc_core.specs.Operations.{pool_reads}
 use Rattle.arc_core.specs.ShardLog.{ShardLog}
 use Rattle.arc_table.specs.Ended.{Ended}
 use Rattle.arc_table.specs.Cache.{Cache}
 use Rattle.arc_table.specs.Fronts.{StartsWith}
-use Rattle.arc_table.specs.Seen.{seen_of}
 use Rattle.arc_table.specs.TableLaws.{within}
 use Rattle.arc_table.proofs.TableLaws.{there}
 use Rattle.dbuf_cells.specs.Turns.{OnHeap, dbuf_meanings}
@@ -35,21 +34,20 @@ use Rattle.trace_text.specs.declared.op.Op.TheVariants as ops
 use Rattle.trace_text.specs.declared.reply.Reply.{Reply}
 use Rattle.trace_text.specs.declared.trace.Trace.{Trace}
 use Rattle.trace_text.specs.Grammar.{IsFormed}
-use Rattle.trace_run.specs.declared.groups.Crew.{Crew}
 use Rattle.trace_run.specs.declared.device.Device.{Device}
+use Rattle.trace_run.specs.Devices.{lent_in}
+use Rattle.trace_run.specs.FeedSeries.{LeavesFed}
+use Rattle.trace_run.specs.declared.groups.Crew.{Crew}
 use Rattle.trace_run.specs.declared.ran.Ending.{Ending}
 use Rattle.trace_run.specs.declared.ran.Ending.TheVariants.{Fork, Full, Sync, Whole}
 use Rattle.trace_run.specs.Answers.{AnswersAll, is_pool_fault}
-use Rattle.trace_run.specs.CellEnds.{AreCellsOf}
-use Rattle.trace_run.specs.Devices.{lent_in}
-use Rattle.trace_run.specs.FeedSeries.{LeavesFed}
+use Rattle.trace_run.specs.CellEnds.{AreCellsOf, AreEndedSo}
 use Rattle.trace_run.specs.Effects.{Answered, Effect, GivenBack, NoEffect, PoolRefused, calls_of}
 use Rattle.trace_run.specs.Explaining.{Explain}
 use Rattle.trace_run.specs.Lines.{caller_of, is_of_caller}
 use Rattle.trace_run.specs.ObjectAnswers.{AreAnsweredByCells}
 use Rattle.trace_run.specs.Objects.{Line, Work, replies_of}
 use Rattle.trace_run.specs.Openings.{openings_of}
-use Rattle.trace_run.specs.Restores.{events_by_feeder, restores_in}
 use Rattle.trace_run.specs.one_caller.Alone.{ends_in, histories_of}
 use Rattle.trace_run.specs.RunWork.{IsRunWork, RunWork, lines_of_caller, noted_by}
 use Rattle.trace_run.specs.callers.DeviceForks.{UsedInGroups}
@@ -63,8 +61,7 @@ use Rattle.trace_run.proofs.callers.GroupCounts.{over-add, over-one, over-same, 
 use Rattle.trace_run.proofs.callers.GroupRunLemmas.{all-callers}
 use Rattle.trace_run.proofs.callers.SyncRun.{in-groups-as, stood-then, stops-sync-as}
 use Rattle.trace_run.proofs.theorem.LineAnswers.{EndsWell, IsOfOne, end-lines, lines-replies, own-lines-of}
-use Rattle.trace_run.proofs.feeds.LeftLemmas.{left-explained}
-use Rattle.trace_run.proofs.theorem.RunEnds.{did-work, ended-work, feeder-begins, feeder-lines, lines-long, run-answers, run-cells, run-counted, run-cut, run-cut-last, run-explains, run-objects, run-reads, since}
+use Rattle.trace_run.proofs.theorem.RunEnds.{did-work, ended-work, feeder-begins, lines-long, run-answers, run-cells, run-counted, run-cut, run-cut-last, run-explains, run-kept, run-objects, run-reads}
 
 -- ---- what the callers' replies tell is what all replies tell
 
@@ -198,6 +195,9 @@ module _ {P D : Type 0} (cache : Cache) (pools : Ghosts P) (devices : Devices D)
   pub cells-are : AreCellsOf trace (noted_by trace.config done-work) closed
   cells-are = subst (λ (g : Config). AreCellsOf trace (noted_by g done-work) closed) config (run-cells cache valid restored (pools.size before) (pools.told before) place trace.blocks os more rs work crew come closed h trace config d.reached.knows)
 
+  kept-are : AreEndedSo trace.config 0 closed.cells done-work.ended
+  kept-are = subst (λ (g : Config). AreEndedSo g 0 closed.cells done-work.ended) config (run-kept cache valid restored (pools.size before) (pools.told before) place trace.blocks os more rs work crew come closed h trace config d.reached.knows)
+
   explained : Explain trace restored done-work rs (ends_in closed) (histories_of closed)
   explained = mapped trace restored done-work rs closed
       (subst (λ (x : Config × List Op). Explain (record { config = x.0; blocks = trace.blocks; objects = []; ops = x.1 }) restored done-work rs (ends_in closed) (histories_of closed)) (λ i. (config i, whole-ops i))
@@ -269,7 +269,7 @@ module _ {P D : Type 0} (cache : Cache) (pools : Ghosts P) (devices : Devices D)
       own : (shard : ℕ) → shard < cache.config.shards → own_events cache.config.callers (seen_of cache.config shard crew.feeder) ≡ events_by_feeder cache.config restored trace.ops rs work.feeds shard
       own shard below =
           subst (λ (n : ℕ). own_events n (seen_of cache.config shard crew.feeder) ≡ events_by_feeder cache.config restored os rs work.feeds shard) come.feeder.number (come.feeder.fed shard below)
-          ∙ (ap (λ (es : List Event). restores_in cache.config restored shard ++ es) (feeder-lines cache.config shard os more rs work.feeds (lines-long os rs work.lines come.did.lines))
+          ∙ (ap (λ (es : List Event). restores_in cache.config restored shard ++ es) (feeder-lines cache.config shard os more rs work.feeds (lines-long os rs work.lines come.did.lines).0)
           ∙ ap (λ (l : List Op). events_by_feeder cache.config restored l rs work.feeds shard) whole-ops)
 
   pub group-together : RanTogether pools devices before after (lent_in was) (lent_in is) trace ending restored rs done-work closed
@@ -284,6 +284,7 @@ module _ {P D : Type 0} (cache : Cache) (pools : Ghosts P) (devices : Devices D)
     config = h.ends.config ∙ config;
     explained = explained;
     cells = cells-are;
+    kept = kept-are;
     reads = after-reads;
     faults = after-faults;
     together = λ rebuilt found. record {

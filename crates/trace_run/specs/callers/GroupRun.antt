@@ -11,7 +11,7 @@ use Rattle.arc_table.specs.Cache.{Cache}
 use Rattle.arc_table.specs.Ended.{Ended, Ends}
 use Rattle.arc_table.specs.Geometry.{parties_of}
 use Rattle.arc_table.specs.Items.{Meanings}
-use Rattle.dbuf_cells.specs.Turns.{OnHeap}
+use Rattle.dbuf_cells.specs.Turns.{OnHeap, PartyPlace}
 use Rattle.trace_text.specs.declared.rebuilt.Rebuilt.{Rebuilt}
 use Rattle.trace_text.specs.declared.reply.Reply.{Reply}
 use Rattle.trace_text.specs.declared.trace.Trace.{Trace}
@@ -22,7 +22,7 @@ use Rattle.trace_run.specs.declared.ran.Ending.{Ending}
 use Rattle.trace_run.specs.one_caller.Alone.{ends_in, histories_of}
 use Rattle.trace_run.specs.Answers.{AnswersAll}
 use Rattle.trace_run.specs.Explaining.{Explain}
-use Rattle.trace_run.specs.CellEnds.{AreCellsOf, EndedCrew}
+use Rattle.trace_run.specs.CellEnds.{AreCellsOf, AreEndedSo, EndedCrew}
 use Rattle.trace_run.specs.ObjectAnswers.{AreAnsweredByCells}
 use Rattle.trace_run.specs.RunWork.{IsRunWork, RunWork, noted_by}
 use Rattle.trace_run.specs.callers.DeviceForks.{UsedInGroups}
@@ -38,9 +38,9 @@ pub record HaveStopped {C : Type 0} (cache : Cache) (ps : List (Place (Known C))
   pub each : (n : ℕ) (p : Place (Known C)) → get_elem? ps n ≡ some p → (p.number ≡ n) × Stands cache p []
 
 -- The callers gave back what they kept, the feeder ended all cells, and the cache was closed with these parties.
-pub record HaveClosed {C : Type 0} (m : Meanings C) (cache : Cache) (crew : Crew C) (closed : Ended C) : Type 0 where
-  pub parties : List (Place (Known C))
-  pub closing : List (Place (Known C))
+pub record HaveClosed (m : Meanings OnHeap) (cache : Cache) (crew : Crew OnHeap) (closed : Ended OnHeap) : Type 0 where
+  pub parties : List PartyPlace
+  pub closing : List PartyPlace
   pub gave : (acts : ℕ → List Act) (noted : ℕ → List Noted) → AreWaiting cache acts noted 0 crew.kept.items crew.parties.items → (openings : List (List ℕ)) (feeds since : (shard : ℕ) → List Event) (inserted : List Act) (synced : List Noted)
       → IsFed cache openings feeds since inserted synced crew.feeder → HaveGivenBack cache acts noted openings feeds since inserted synced crew.parties.items crew.feeder crew.kept.items parties
   pub ended : EndedCrew cache parties closing
@@ -58,6 +58,7 @@ pub record RanTogether {P D : Type 0} (pools : Ghosts P) (devices : Devices D) (
   pub config : closed.config ≡ trace.config
   pub explained : Explain trace restored work replies (ends_in closed) (histories_of closed)
   pub cells : AreCellsOf trace (noted_by trace.config work) closed
+  pub kept : AreEndedSo trace.config 0 closed.cells work.ended
   pub reads : pools.reads before < 2 ^ 63 → pools.reads after ≡ pools.reads before + sum_by pool_reads (histories_of closed)
   pub faults : pools.faults before < 2 ^ 63 → pools.faults after ≡ pools.faults before + faults_told ending replies
   pub together : (rebuilt : Option Rebuilt) → found_keys rebuilt ≡ restored → RunsTogether pools before after place trace ending work closed.cells (report_of_closed ending rebuilt replies closed)

@@ -1,19 +1,20 @@
-use Rattle.std.proofs.Common.{◌≡◌, ◌<◌, ◌≤◌, ℕ, List, Some, length, vec_len, refl, sym, ap, ◌∙◌, subst, arith}
+use Rattle.std.proofs.Common.{◌≡◌, ◌<◌, ◌≤◌, ℕ, List, Some, length, vec_len, refl, sym, ap, ◌∙◌, subst, arith, rules}
 use Rattle.std.specs.Prelude.{slice_get, slice_range}
 use Rattle.std.proofs.lemmas.Option.{slice_get_read}
 use Rattle.blk_ptr.specs.declared.ptr.Ptr.{Ptr}
 use Rattle.arc_core.specs.declared.config.Config.{Config}
 use Rattle.trace_text.specs.declared.op.Op.{Op}
 use Rattle.trace_run.specs.callers.Callers.{AreAtStart}
+use Rattle.trace_run.specs.Devices.{lent_in}
+use Rattle.trace_run.specs.callers.Groups.{ForkFailed}
 use Rattle.trace_run.specs.callers.InOrder.{AreInGroup}
 use Rattle.trace_run.specs.callers.Together.{between_groups}
 use Rattle.trace_run.specs.Tally.{AreDeclared}
 use Rattle.trace_run.proofs.callers.BesideLemmas.{fed-idle}
 use Rattle.trace_run.proofs.callers.EndLineLemmas.{IsUnused}
-use Rattle.trace_run.proofs.callers.FrontLemmas.{front-then, pool-front}
 use Rattle.trace_run.proofs.callers.GroupRunLemmas.{come-named, may-start}
-use Rattle.trace_run.proofs.callers.InUse.{in-use-same, tried-in-use}
-use Rattle.trace_run.proofs.callers.StepLemmas.{next-ended, next-forked, next-halted, next-last, next-may, next-number, next-sync, range-declared, range-group, unused-leaves}
+use Rattle.trace_run.proofs.callers.InUse.{tried-in-use}
+use Rattle.trace_run.proofs.callers.StepLemmas.{next-ended, next-forked, next-halted, next-last, next-may, next-number, next-sync, range-declared, range-group}
 use Rattle.trace_run.proofs.groups.next_group.Goals as goal
 
 -- ---- the lines of the group
@@ -100,3 +101,48 @@ returns-in-Err-clause-did g c = λ start restored was work between.
     c.args.replies.now.items c.in_ok-crew.answered.items work c.args.crew c.in_ok-crew.crew c.len-first.result c.group_end-to.result c.as_slice-blocks.result.now c.as_slice-ops.result.now c.as_slice-blocks.ensures c.as_slice-ops.ensures first
     c.group_end-to.ensures.range.0 c.group_end-to.ensures.range.1 c.group_end-to.ensures.inside between (let more = c.requires.more in let long = c.args.replies.now.ok.0 in omega (arith, more, long)) unused c.in_ok-crew.ensures.did c.in_ok-crew.ensures.feeder c.lines_at_once.ensures.pool
     c.in-Some.op.now here c.in_ok-crew-2.crew (between_groups c.end_line.new.pool c.in_ok-crew-2.syncs.group c.in_ok-crew-2.syncs.next) c.in_ok-crew-2.came c.in-Err.ending c.in-Err.is c.in_ok-crew-2.ensures.did c.append.new.replies.items c.in_ok-append.ensures
+
+-- ---- a fork failed
+
+pub returns-in-Err-Failed-clause-did : goal.returns-in-Err-Failed-clause-did
+returns-in-Err-Failed-clause-did g c = λ start restored was work between.
+    let failed : ForkFailed g.P.Pool c.args.pool.now c.forks.new.pool = search rules in
+    next-forked c.args.arcs.now restored g.P.Pool g.D.CacheDev c.args.trace.now start (between_groups c.args.pool.now c.args.syncs.group c.args.syncs.next) was (lent_in c.args.device.now) c.forks.new.pool c.args.replies.now.items work c.args.crew between
+    (let more = c.requires.more in let long = c.args.replies.now.ok.0 in omega (arith, more, long)) failed
+
+-- ---- the device
+
+pub returns-in_err-crew-clause-used : goal.returns-in_err-crew-clause-used
+returns-in_err-crew-clause-used g c =
+    let tried = c.lines_at_once.ensures.tried in
+    tried-in-use dbuf_meanings g.D.CacheDev c.args.arcs.now _ c.args.device.now c.lines_at_once.new.device c.args.crew.feeder tried.0 tried.1
+
+pub returns-in_err-append-clause-used : goal.returns-in_err-append-clause-used
+returns-in_err-append-clause-used g c =
+    let tried = c.lines_at_once.ensures.tried in
+    tried-in-use dbuf_meanings g.D.CacheDev c.args.arcs.now _ c.args.device.now c.lines_at_once.new.device c.args.crew.feeder tried.0 tried.1
+
+pub returns-in_default-clause-used : goal.returns-in_default-clause-used
+returns-in_default-clause-used g c =
+    let tried = c.lines_at_once.ensures.tried in
+    tried-in-use dbuf_meanings g.D.CacheDev c.args.arcs.now _ c.args.device.now c.lines_at_once.new.device c.args.crew.feeder tried.0 tried.1
+
+pub returns-in_err-crew-2-clause-used : goal.returns-in_err-crew-2-clause-used
+returns-in_err-crew-2-clause-used g c =
+    let tried = c.lines_at_once.ensures.tried in
+    tried-in-use dbuf_meanings g.D.CacheDev c.args.arcs.now _ c.args.device.now c.lines_at_once.new.device c.args.crew.feeder tried.0 tried.1
+
+pub returns-in_err-push-in-Ok-came-clause-used : goal.returns-in_err-push-in-Ok-came-clause-used
+returns-in_err-push-in-Ok-came-clause-used g c =
+    let tried = c.lines_at_once.ensures.tried in
+    tried-in-use dbuf_meanings g.D.CacheDev c.args.arcs.now _ c.args.device.now c.lines_at_once.new.device c.args.crew.feeder tried.0 tried.1
+
+pub returns-in_ok-push-in-Ok-came-clause-used : goal.returns-in_ok-push-in-Ok-came-clause-used
+returns-in_ok-push-in-Ok-came-clause-used g c =
+    let tried = c.lines_at_once.ensures.tried in
+    tried-in-use dbuf_meanings g.D.CacheDev c.args.arcs.now _ c.args.device.now c.lines_at_once.new.device c.args.crew.feeder tried.0 tried.1
+
+pub returns-in-Err-clause-used : goal.returns-in-Err-clause-used
+returns-in-Err-clause-used g c =
+    let tried = c.lines_at_once.ensures.tried in
+    tried-in-use dbuf_meanings g.D.CacheDev c.args.arcs.now _ c.args.device.now c.lines_at_once.new.device c.args.crew.feeder tried.0 tried.1
