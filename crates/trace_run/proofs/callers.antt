@@ -21,6 +21,5 @@ pub mod MoreLemmas
 pub mod PlaceLemmas
 pub mod StepLemmas
 pub mod SyncRun
-pub mod TogetherLemmas
 pub mod TurnLemmas
 pub mod TurningLemmas

@@ -29,6 +29,7 @@ use Rattle.trace_run.specs.ObjectLines.{OnObject}
 use Rattle.trace_run.specs.Objects.{Line}
 use Rattle.trace_run.specs.RunWork.{RunWork, only_ended, plain_lines, plain_work}
 use Rattle.trace_run.specs.callers.WorkLines.{AreLinesOf}
+use Rattle.trace_run.proofs.feeds.UsedLemmas.{plain-answered, used-answered}
 use Rattle.trace_run.proofs.theorem.DeviceUsed.{groups-back}
 use Rattle.trace_run.proofs.theorem.FirstPlace.{first-place}
 use Rattle.trace_run.proofs.theorem.KeptEnds.{plain-kept}
@@ -110,6 +111,7 @@ module _ {P D : Type 0} (pools : Ghosts P) (devices : DeviceGhosts D) (before af
         kept = plain-kept trace closed cells;
         used = λ two. absurd (omega (arith, two, one));
         unfed = λ _. unfed;
+        answered = plain-answered lent trace.ops replies (only-plain done one);
         plain = λ _. refl;
         status = refl;
       }
@@ -140,6 +142,7 @@ module _ {P D : Type 0} (pools : Ghosts P) (devices : DeviceGhosts D) (before af
     kept = ran.kept;
     used = λ _. ran.used;
     unfed = λ none. groups-back devices trace.blocks trace.config.callers (groups_done ending work.lines) work.feeds lent back none ran.used;
+    answered = used-answered devices trace.blocks trace.config.callers ending work.lines work.feeds lent back ran.used;
     plain = λ one. absurd (omega (arith, two, one));
     status = refl;
   }
