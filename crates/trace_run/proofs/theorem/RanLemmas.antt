@@ -23,6 +23,7 @@ use Rattle.dbuf_cells.specs.Turns.{OnHeap}
 use Rattle.trace_run.specs.callers.GroupRun.{RanTogether}
 use Rattle.trace_run.specs.CellEnds.{AreCellsOf}
 use Rattle.trace_run.specs.Devices.{IsHandedBack}
+use Rattle.trace_run.specs.Feeds.{FeedDone}
 use Rattle.trace_run.specs.Lines.{has_undone, is_undone}
 use Rattle.trace_run.specs.ObjectAnswers.{IsAnsweredBy}
 use Rattle.trace_run.specs.ObjectLines.{OnObject}
@@ -176,3 +177,9 @@ module _ {P D : Type 0} (pools : Ghosts P) (devices : DeviceGhosts D) (before af
           let ended : EndsRun pools trace.config (StoodThen trace closed.cells) trace replies work.lines work.stopped Whole told.reached after =
           subst (λ (e : Ending). EndsRun pools trace.config (StoodThen trace closed.cells) trace replies work.lines work.stopped e told.reached after) whole told.ended in
           ended.1 ∙ ap (λ (s : BetweenGroups P). s.pool) groups
+
+  -- with what its feeds left
+  pub together-has-fed : (ending : Ending) (work : RunWork) → 2 ≤ trace.config.callers → RanTogether pools devices before after lent back trace ending (found_keys rebuilt) replies work closed → (F : List FeedDone → Type 0) → F work.feeds
+      → (r : HasRun pools devices before after lent back trace ending closed (report_of_closed ending rebuilt replies closed)) × F r.work.feeds
+  unfolding together-has-run
+  together-has-fed ending work two ran F left = (together-has-run ending work two ran, left)
