@@ -23,7 +23,6 @@ use Rattle.dbuf_cells.specs.Turns.{OnHeap}
 use Rattle.trace_run.specs.callers.GroupRun.{RanTogether}
 use Rattle.trace_run.specs.CellEnds.{AreCellsOf}
 use Rattle.trace_run.specs.Devices.{IsHandedBack}
-use Rattle.trace_run.specs.Feeds.{FeedDone}
 use Rattle.trace_run.specs.Lines.{has_undone, is_undone}
 use Rattle.trace_run.specs.ObjectAnswers.{IsAnsweredBy}
 use Rattle.trace_run.specs.ObjectLines.{OnObject}
@@ -119,34 +118,37 @@ module _ {P D : Type 0} (pools : Ghosts P) (devices : DeviceGhosts D) (before af
 
   -- several callers' run
   pub together-has-run : (ending : Ending) (work : RunWork) → 2 ≤ trace.config.callers → RanTogether pools devices before after lent back trace ending (found_keys rebuilt) replies work closed
-      → HasRun pools devices before after lent back trace ending closed (report_of_closed ending rebuilt replies closed)
-  together-has-run ending work two ran = record {
-    work = work;
-    did = ran.did;
-    run = record {
-      answers = ran.answers;
-      explained = ran.explained;
-      tells = record { histories = refl; ends = refl };
-      config = ran.config;
-      no_workers = refl;
-      reads = ran.reads;
-      faults = ran.faults;
-      alone = λ one. absurd (omega (arith, two, one));
-      place = ran.place;
-      first = ran.first;
-      objects = ran.objects;
-      together = λ _. told;
-      idle = λ none. let whole = all-done none ending refl ran.stopped in (whole, unworked none whole);
-      stopped = ran.stopped;
-    };
-    cells = ran.cells;
-    kept = ran.kept;
-    used = λ _. ran.used;
-    unfed = λ none. groups-back devices trace.blocks trace.config.callers (groups_done ending work.lines) work.feeds lent back none ran.used;
-    answered = used-answered devices trace.blocks trace.config.callers ending work.lines work.feeds lent back ran.used;
-    plain = λ one. absurd (omega (arith, two, one));
-    status = refl;
-  }
+      → (run : HasRun pools devices before after lent back trace ending closed (report_of_closed ending rebuilt replies closed)) × (run.work ≡ work)
+  together-has-run ending work two ran = (
+    record {
+      work = work;
+      did = ran.did;
+      run = record {
+        answers = ran.answers;
+        explained = ran.explained;
+        tells = record { histories = refl; ends = refl };
+        config = ran.config;
+        no_workers = refl;
+        reads = ran.reads;
+        faults = ran.faults;
+        alone = λ one. absurd (omega (arith, two, one));
+        place = ran.place;
+        first = ran.first;
+        objects = ran.objects;
+        together = λ _. told;
+        idle = λ none. let whole = all-done none ending refl ran.stopped in (whole, unworked none whole);
+        stopped = ran.stopped;
+      };
+      cells = ran.cells;
+      kept = ran.kept;
+      used = λ _. ran.used;
+      unfed = λ none. groups-back devices trace.blocks trace.config.callers (groups_done ending work.lines) work.feeds lent back none ran.used;
+      answered = used-answered devices trace.blocks trace.config.callers ending work.lines work.feeds lent back ran.used;
+      plain = λ one. absurd (omega (arith, two, one));
+      status = refl;
+    },
+    refl,
+  )
     where
       told : RunsTogether pools before after ran.place trace ending work closed.cells (report_of_closed ending rebuilt replies closed)
       told = ran.together rebuilt refl
@@ -177,9 +179,3 @@ module _ {P D : Type 0} (pools : Ghosts P) (devices : DeviceGhosts D) (before af
           let ended : EndsRun pools trace.config (StoodThen trace closed.cells) trace replies work.lines work.stopped Whole told.reached after =
           subst (λ (e : Ending). EndsRun pools trace.config (StoodThen trace closed.cells) trace replies work.lines work.stopped e told.reached after) whole told.ended in
           ended.1 ∙ ap (λ (s : BetweenGroups P). s.pool) groups
-
-  -- with what its feeds left
-  pub together-has-fed : (ending : Ending) (work : RunWork) → 2 ≤ trace.config.callers → RanTogether pools devices before after lent back trace ending (found_keys rebuilt) replies work closed → (F : List FeedDone → Type 0) → F work.feeds
-      → (r : HasRun pools devices before after lent back trace ending closed (report_of_closed ending rebuilt replies closed)) × F r.work.feeds
-  unfolding together-has-run
-  together-has-fed ending work two ran F left = (together-has-run ending work two ran, left)

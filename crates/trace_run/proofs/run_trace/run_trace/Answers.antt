@@ -1,7 +1,6 @@
-use Rattle.std.proofs.Common.{◌≡◌, List, refl, ap, subst, inl, arith}
+use Rattle.std.proofs.Common.{◌≡◌, List, refl, sym, ap, subst, inl, arith}
 use Rattle.arc_core.specs.declared.served.Restored.{Restored}
 use Rattle.trace_run.specs.one_caller.Alone.{RanAlone, ends_in, histories_of}
-use Rattle.trace_run.specs.Feeds.{FeedDone}
 use Rattle.trace_run.specs.FeedSeries.{LeavesFed}
 use Rattle.trace_run.specs.Restores.{found_keys}
 use Rattle.trace_run.specs.Devices.{lent_in}
@@ -15,7 +14,7 @@ use Rattle.trace_run.specs.callers.Together.{report_of_closed}
 use Rattle.trace_run.proofs.callers.InUse.{lent-in-use}
 use Rattle.trace_run.proofs.feeds.LeftLemmas.{unfed-left}
 use Rattle.trace_run.proofs.theorem.DeviceUsed.{leaves-declared, lent-only}
-use Rattle.trace_run.proofs.theorem.RanLemmas.{alone-has-run, together-has-fed}
+use Rattle.trace_run.proofs.theorem.RanLemmas.{alone-has-run, together-has-run}
 use Rattle.trace_run.proofs.run_trace.run_trace.Goals as goal
 use Rattle.trace_run.proofs.run_trace.run_trace.Goals.{then-trace-eq1+in_ok-ran, else-trace-eq1+in_ok-ran-2}
 
@@ -25,7 +24,7 @@ returns-clause-run g c =
     let trace = c.args.trace.now in
     let told = c.in_ok-reported.ensures in
     let run : (r : HasRun g.P.Pool g.D.CacheDev c.args.pool.now c.if-trace-eq1.pool (lent_in c.args.device.now) (lent_in c.if-trace-eq1.device) trace ran.ending ran.closed (report_of_closed ran.ending c.args.rebuilt ran.replies.items ran.closed))
-    × LeavesFed g.D.CacheDev trace.config (found_keys c.args.rebuilt) r.work.feeds c.args.device.now c.if-trace-eq1.device (histories_of ran.closed) = elim c.if-trace-eq1.branch [
+        × LeavesFed g.D.CacheDev trace.config (found_keys c.args.rebuilt) r.work.feeds c.args.device.now c.if-trace-eq1.device (histories_of ran.closed) = elim c.if-trace-eq1.branch [
       | then-trace-eq1+in_ok-ran w ↦
           let did = w.in_ok-ran.ran in
           let one : trace.config.callers ≡ 1 = omega (arith, w.if-trace-eq1.true) in
@@ -42,23 +41,27 @@ returns-clause-run g c =
       | else-trace-eq1+in_ok-ran-2 w ↦
           let did = w.in_ok-ran-2.ran in
           let work = w.in_ok-ran-2.ensures.ran.0 in
-          rw (w.ran-is, w.pool-is, w.device-is) (together-has-fed g.P.Pool g.D.CacheDev c.args.pool.now w.run_together.new.pool (lent_in c.args.device.now) (lent_in w.run_together.new.device) trace c.args.rebuilt did.replies.items did.closed did.ending work
+          let has = together-has-run g.P.Pool g.D.CacheDev c.args.pool.now w.run_together.new.pool (lent_in c.args.device.now) (lent_in w.run_together.new.device) trace c.args.rebuilt did.replies.items did.closed did.ending work
           (omega (arith, c.requires.formed.config.counts.callers.0, w.if-trace-eq1.false))
           (subst (λ (l : List Restored). RanTogether g.P.Pool g.D.CacheDev c.args.pool.now w.run_together.new.pool (lent_in c.args.device.now) (lent_in w.run_together.new.device) trace did.ending l did.replies.items work did.closed) w.found_keys-else-trace-eq1.ensures
-          w.in_ok-ran-2.ensures.ran.1)
-          (λ (feeds : List FeedDone). LeavesFed g.D.CacheDev trace.config (found_keys c.args.rebuilt) feeds c.args.device.now w.run_together.new.device (histories_of did.closed))
-          (subst (λ (l : List Restored). LeavesFed g.D.CacheDev trace.config l work.feeds c.args.device.now w.run_together.new.device (histories_of did.closed)) w.found_keys-else-trace-eq1.ensures w.in_ok-ran-2.ensures.ran.2))
+          w.in_ok-ran-2.ensures.ran.1) in
+          rw (w.ran-is, w.pool-is, w.device-is) (
+            has.0,
+            subst (λ (x : List Restored × RunWork). LeavesFed g.D.CacheDev trace.config x.0 x.1.feeds c.args.device.now w.run_together.new.device (histories_of did.closed)) (λ i. (w.found_keys-else-trace-eq1.ensures i, sym has.1 i)) w.in_ok-ran-2.ensures.ran.2,
+          )
     ] in
     rw (told.report, told.closed, told.ending) run
 
-pub returns-in_err-reported-clause-pool : goal.returns-in_err-reported-clause-pool
-returns-in_err-reported-clause-pool g c = elim c.if-trace-eq1.branch [
-  | then-trace-eq1+in_ok-ran w ↦ rw w.pool-is (leaves-declared g.P.Pool c.args.trace.now.blocks c.args.pool.now w.run_alone.new.pool w.run_alone.ensures.pool)
-  | else-trace-eq1+in_ok-ran-2 w ↦ rw w.pool-is w.run_together.ensures.pool
-]
+-- ---- the pool
 
 pub returns-clause-pool : goal.returns-clause-pool
 returns-clause-pool g c = elim c.if-trace-eq1.branch [
-  | then-trace-eq1+in_ok-ran w ↦ rw w.pool-is (leaves-declared g.P.Pool c.args.trace.now.blocks c.args.pool.now w.run_alone.new.pool w.run_alone.ensures.pool)
+  | then-trace-eq1+in_ok-ran w ↦ rw w.pool-is (leaves-declared g.P.Pool c.args.trace.now.blocks c.args.pool.now w.run_alone.new.pool (let k = w.run_alone.ensures.pool in record { size = k.size; told = k.told; faults = omega (arith, k.faults) }))
+  | else-trace-eq1+in_ok-ran-2 w ↦ rw w.pool-is w.run_together.ensures.pool
+]
+
+pub returns-in_err-reported-clause-pool : goal.returns-in_err-reported-clause-pool
+returns-in_err-reported-clause-pool g c = elim c.if-trace-eq1.branch [
+  | then-trace-eq1+in_ok-ran w ↦ rw w.pool-is (leaves-declared g.P.Pool c.args.trace.now.blocks c.args.pool.now w.run_alone.new.pool (let k = w.run_alone.ensures.pool in record { size = k.size; told = k.told; faults = omega (arith, k.faults) }))
   | else-trace-eq1+in_ok-ran-2 w ↦ rw w.pool-is w.run_together.ensures.pool
 ]
