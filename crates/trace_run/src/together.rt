@@ -12,6 +12,7 @@ ghost use Rattle.trace_run.specs.FeedSeries.{LeavesFed};
 ghost use Rattle.trace_run.specs.Feeds.{MayBeFed};
 ghost use Rattle.trace_run.specs.RunWork.{RunWork};
 ghost use Rattle.trace_run.specs.callers.Beside.{WasInUse};
+ghost use Rattle.trace_run.specs.one_caller.Alone.{histories_of};
 ghost use Rattle.trace_run.specs.callers.Group.{LeavesDeclared};
 ghost use Rattle.trace_run.specs.callers.GroupRun.{HaveClosed, HaveStopped, RanTogether};
 ghost use Rattle.trace_run.specs.one_caller.Alone.{histories_of};

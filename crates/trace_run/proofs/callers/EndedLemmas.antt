@@ -42,7 +42,7 @@ use Rattle.trace_run.specs.Feeds.{FeedDone, is_feed}
 use Rattle.trace_run.specs.KeptBlocks.{Stands}
 use Rattle.trace_run.specs.KeptReads.{KeptRead}
 use Rattle.trace_run.specs.Lines.{caller_of, is_of_caller}
-use Rattle.trace_run.specs.Meeting.{HasSettled, HaveParted, IsFed, Resized, Waits, resizes_in}
+use Rattle.trace_run.specs.Meeting.{HasSettled, HaveMet, HaveParted, IsFed, Resized, Waits, resizes_in}
 use Rattle.trace_run.specs.Objects.{Line, Work, no_work, ops_of, replies_of}
 use Rattle.trace_run.specs.Restores.{events_by_feeder, restores_in}
 use Rattle.trace_run.specs.RunWork.{AllFit, FitsBy, FitsFeeder, IsRunWork, IsSyncWork, RunWork, acts_of_syncs, lines_of_caller, lines_of_feeder, noted_of_syncs}
@@ -90,6 +90,8 @@ pub record MadeWork (cache : Cache) (work : Work) (more : (shard : ℕ) → List
       → AllByRecursion (λ o. own_moments o.number (moments (opening_of cache.config) (front shard)) ≡ own_moments o.number (moments (opening_of cache.config) (seen_of cache.config shard o))) old.parties.items
   pub since : (shard : ℕ) → StartsWith (front shard) (seen_of cache.config shard old.feeder)
   pub told : (acts : List Act) (noted : List Noted) → HasToldOthers cache.config acts noted old.feeder → HasToldOthers cache.config (acts ++ work.acts) (noted ++ work.noted) new.feeder
+  -- of each cell all have seen the same
+  pub met : HaveMet cache.config (old.feeder ∷ old.parties.items) (new.feeder ∷ new.parties.items)
   -- it has seen of each cell what it had, and its acts with the numbers of cells are those of these events
   pub cells : (i : ℕ) → IsCell cache.config i → StartsWith (front_of i new.feeder.own.seen) (front_of i old.feeder.own.seen)
   pub inserted : (shard i : ℕ) → IsCell cache.config i → acts_in (shard_of cache.config.shards) shard (cell_number cache.config i) work.acts ≡ acts_of_events (with_number (cell_number cache.config i) (more shard))
@@ -138,7 +140,7 @@ made-sees cache work more old new number made shard asked is none =
 
 -- ---- small steps
 
-all-at : {X : Type 0} (P : X → Type 0) (xs : List X) (n : ℕ) (x : X) → AllByRecursion P xs → get_elem? xs n ≡ some x → P x
+pub all-at : {X : Type 0} (P : X → Type 0) (xs : List X) (n : ℕ) (x : X) → AllByRecursion P xs → get_elem? xs n ≡ some x → P x
 all-at P [] n x all at = absurd (some-ne-none x (sym at))
 all-at P (y ∷ ys) zero x all at = subst P (some-injective y x at) all.0
 all-at P (y ∷ ys) (suc n) x all at = all-at P ys n x all.1 at
@@ -390,6 +392,7 @@ cap-ends cache c old new number resized kept = record {
     since = resized.since;
     told = λ acts noted told. subst (λ (x : List Act × List Noted). HasToldOthers cache.config x.0 x.1 new.feeder) (λ i. (sym (append-nil acts) i, sym (append-nil noted) i))
         (others-still cache.config acts noted old.feeder new.feeder resized.made told);
+    met = resized.met;
     cells = resized.made.keeps.fronts;
     inserted = λ shard i range. sym (none-inserted cache.config.callers c (cell_number cache.config i) (nat_lt shard cache.config.shards));
   };

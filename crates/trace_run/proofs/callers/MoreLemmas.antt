@@ -75,7 +75,7 @@ ends-append os qs rs ss long first rest k op at none = elim (cases_lt k (length 
       (given.0, ap (slice_get (rs ++ ss)) (there ∙ ap (λ (n : ℕ). n + (k - length os)) (sym long)) ∙ (get-right rs ss (k - length os) ∙ given.1), given.2)
 ]
 
-inside-at : (ms : List Line) → AreInside ms → (k : ℕ) (l : Line) → slice_get ms k ≡ Some l → ends_group l.op ≡ false
+pub inside-at : (ms : List Line) → AreInside ms → (k : ℕ) (l : Line) → slice_get ms k ≡ Some l → ends_group l.op ≡ false
 inside-at [] inside k l at = let never = slice_get_within {A = Line} [] k l at in absurd (omega (arith, never))
 inside-at (m ∷ ms) inside zero l at = subst (λ (x : Line). ends_group x.op ≡ false) (some-line m l at) inside.0
   where

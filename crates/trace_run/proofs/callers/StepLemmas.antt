@@ -47,6 +47,7 @@ use Rattle.trace_run.specs.callers.DeviceForks.{HaveRead, UsedAtOnce, UsedInGrou
 use Rattle.trace_run.specs.callers.Group.{HaveWorked, LeavesFront, LeavesPool}
 use Rattle.trace_run.specs.callers.Groups.{AreBetween, AreDone, DidEndLine, DidLinesAtOnce, ForkFailed, HaveCome, HaveCounted, HaveReached, KeepNothing, MaySync, StepsOn, StoodSo, goes_on}
 use Rattle.trace_run.specs.callers.InOrder.{AreInGroup}
+use Rattle.trace_run.specs.callers.Looking.{HaveLooked}
 use Rattle.trace_run.specs.callers.Together.{BeginsGroup, EndsGroup, GroupLines, IsFirstPlace, OfCells, BetweenGroups, WorkAtOnce, WorkInGroups, between_groups, ends_group, groups_done, groups_of, over_callers, IsCutLast, lines_with_end, with_first}
 use Rattle.trace_run.specs.callers.WorkLines.{HasFront, calls_of_lines, noted_of_work}
 use Rattle.trace_run.proofs.callers.AbsorbLemmas.{over-few}
@@ -58,8 +59,10 @@ use Rattle.trace_run.proofs.callers.FrontLemmas.{front-before, front-same, front
 use Rattle.trace_run.proofs.callers.GroupCounts.{over-add, over-same, over-zero}
 use Rattle.trace_run.proofs.callers.GroupLists.{EndsWhole, begun-append, group-begun, group-ended, group-last, groups-append, whole-of}
 use Rattle.trace_run.proofs.callers.GroupRunLemmas.{all-callers, all-declared, may-resize}
-use Rattle.trace_run.proofs.callers.GroupsLemmas.{have-restored, have-started, restores-seen}
+use Rattle.trace_run.proofs.callers.GroupsLemmas.{have-restored, have-started, parted-length, restores-seen}
 use Rattle.trace_run.proofs.callers.LineLists.{AreInside, all-inside, calls-append, calls-few, ends-nobody, lines-failed, lines-long, nobody-callers}
+use Rattle.trace_run.proofs.callers.LookedLemmas.{answered-looked, lines-looked, stopped-looked}
+use Rattle.trace_run.proofs.callers.LookingLemmas.{none-looked}
 use Rattle.trace_run.proofs.callers.MoreLemmas.{fed-about, have-come-more, with_lines}
 use Rattle.trace_run.proofs.feeds.FedLemmas.{ops-are, used-more, used-once, fed-beside}
 use Rattle.trace_run.proofs.feeds.SeriesLemmas.{group-so-far, moved-so-far, none-so-far}
@@ -239,6 +242,7 @@ between-none cache restored pools devices trace start was crew come knows place 
     groups = refl;
     used = (refl, refl);
     fed = none-so-far dbuf_meanings devices cache restored was crew.feeder seen;
+    looked = none-looked cache.config (pools.size start.pool) (pools.told start.pool) start.next crew.parties.items;
   };
   begins = λ more. tt;
   goes_on = refl;
@@ -350,6 +354,11 @@ module _ {P D : Type 0} (cache : Cache) (restored : List Restored) (pools : Ghos
   fed-lines : AreMadeSoFar dbuf_meanings devices cache restored done.feeds begun b new.feeder
   fed-lines = group-so-far dbuf_meanings devices cache restored w.feeds did.beside.feeds begun a b old.feeder new.feeder reached.come.feeder.stands reached.fed did.beside.used
 
+  -- how its lines on objects looked at cells
+  looked-lines : HaveLooked cache.config (pools.size start.pool) (pools.told start.pool) start.next done.lines new.parties.items
+  looked-lines =
+      lines-looked pools cache restored (pools.size start.pool) (pools.told start.pool) start.next trace.blocks os rs w old new reached.come reached.looked ms inside-these from to worked (unused.size ∙ reached.counted.keeps.size) from-front
+
   pub knows-new : Knows (openings_of trace) new.feeder
   knows-new = same ∙ reached.knows
     where
@@ -384,6 +393,7 @@ module _ {P D : Type 0} (cache : Cache) (restored : List Restored) (pools : Ghos
           (in-groups-more pools cache.config (Cells new.feeder) [] (groups_of w.lines) alone-group start was (between_groups to was.group was.next) to groups-so-far (once None) refl);
       used = subst (λ (gs : List GroupLines). UsedInGroups devices trace.blocks callers gs done.feeds (lent_in begun) (lent_in b)) (sym groups-are) (used-lines alone-group refl);
       fed = fed-lines;
+      looked = looked-lines;
     };
     begins = λ less. absurd (omega (arith, both-long, all, less));
     goes_on = refl;
@@ -417,6 +427,8 @@ module _ {P D : Type 0} (cache : Cache) (restored : List Restored) (pools : Ghos
       used = subst (λ (gs : List GroupLines). UsedInGroups devices trace.blocks callers gs done.feeds (lent_in begun) (lent_in b)) (sym groups-are) (used-lines alone-group refl);
       fed = moved-so-far dbuf_meanings devices cache restored done.feeds begun b new.feeder last.feeder fed-lines
           (λ shard below. made-sees cache h.work h.more new last come-lines.feeder.number h.so.made shard [] (h.so.none shard below) tt);
+      looked = stopped-looked pools cache restored (pools.size start.pool) (pools.told start.pool) start.next trace.blocks (os ++ qs) (rs ++ ss) done new last come-lines looked-lines h.work h.more h.so.made
+          (parted-length cache h.so.made.lines new.parties.items last.parties.items h.so.made.parted ∙ come-lines.parties);
     };
     ended = h.ended;
     last = λ t stopped shard below. subst (λ (tick : ℕ). IsCutLast cache.config restored trace.blocks shard tick (with_stop done h.work) (seen_of cache.config shard last.feeder)) (sym (h.ticks t stopped))
@@ -484,6 +496,8 @@ module _ {P D : Type 0} (cache : Cache) (restored : List Restored) (pools : Ghos
         used = subst (λ (gs : List GroupLines). UsedInGroups devices trace.blocks callers gs done.feeds (lent_in begun) (lent_in b)) (sym groups-ended) (used-lines ended-group refl);
         fed = moved-so-far dbuf_meanings devices cache restored done.feeds begun b new.feeder last.feeder fed-lines
             (λ shard below. made-sees cache turn.work turn.more new last come-lines.feeder.number turn.so.made shard (events_of_feeder callers op) (turn.so.feeds shard below) (asked-gives callers op));
+        looked = answered-looked pools cache restored (pools.size start.pool) (pools.told start.pool) start.next trace.blocks (os ++ qs) (rs ++ ss) done new last come-lines looked-lines turn.work turn.more turn.so.made
+            (parted-length cache turn.so.made.lines new.parties.items last.parties.items turn.so.made.parted ∙ come-lines.parties) l (ends-nobody op turn.so.ends).0;
       };
       begins = λ less. subst (BeginsGroup trace.ops) (sym all-long) (op, at, turn.so.ends);
       goes_on = refl;
@@ -508,7 +522,7 @@ stops-on cache restored pools devices trace start after begun is replied replies
 -- where a fork failed, the groups are those before it
 as-forked : {P D : Type 0} (cache : Cache) (restored : List Restored) (pools : Ghosts P) (devices : Devices D) (trace : Trace) (start was : BetweenGroups P) (begun is : Device D) (rs : List Reply) (w : RunWork) (crew : Crew OnHeap)
     → HaveReached cache restored pools devices trace start was begun is Whole rs w crew → HaveReached cache restored pools devices trace start was begun is Fork rs w crew
-as-forked cache restored pools devices trace start was begun is rs w crew h = record { few = h.few; come = h.come; knows = h.knows; first = h.first; behind = h.behind; counted = h.counted; groups = h.groups; used = h.used; fed = h.fed }
+as-forked cache restored pools devices trace start was begun is rs w crew h = record { few = h.few; come = h.come; knows = h.knows; first = h.first; behind = h.behind; counted = h.counted; groups = h.groups; used = h.used; fed = h.fed; looked = h.looked }
 
 feed-left : (op : Op) → caller_of op ≡ None → ends_group op ≡ false → is_feed op ≡ true
 feed-left (ops.Read n t x window) none inside = cc
