@@ -52,7 +52,7 @@ pub record EndsFrom (g : Config) (openings : List (List ℕ)) (seen : List (List
   pub about : w.about.openings ≡ openings
   pub fronts : (i : ℕ) → IsCell g i → StartsWith (front_of i w.seen) (front_of i seen)
 
-slice-of : (l : List OnHeap) (i : ℕ) (c : OnHeap) → get_elem? l i ≡ some c → slice_get l i ≡ Some c
+pub slice-of : (l : List OnHeap) (i : ℕ) (c : OnHeap) → get_elem? l i ≡ some c → slice_get l i ≡ Some c
 slice-of [] i c at = absurd (some-ne-none c (sym at))
 slice-of (x ∷ xs) zero c at = ap (λ (y : OnHeap). Some y) (some-injective x c at)
 slice-of (x ∷ xs) (suc i) c at = slice-of xs i c at
