@@ -13,6 +13,7 @@ pub mod GroupsLemmas
 pub mod InOrderLemmas
 pub mod InUse
 pub mod LineLists
+pub mod LookedLemmas
 pub mod LookingLemmas
 pub mod MeetLemmas
 pub mod MergedLines
