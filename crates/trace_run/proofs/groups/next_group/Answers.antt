@@ -14,7 +14,7 @@ use Rattle.trace_run.proofs.callers.EndLineLemmas.{IsUnused}
 use Rattle.trace_run.proofs.callers.FrontLemmas.{front-then, pool-front}
 use Rattle.trace_run.proofs.callers.GroupRunLemmas.{come-named, may-start}
 use Rattle.trace_run.proofs.callers.InUse.{in-use-same, tried-in-use}
-use Rattle.trace_run.proofs.callers.StepLemmas.{next-ended, next-forked, next-halted, next-last, next-may, next-number, next-sync, range-declared, range-group, unused-leaves}
+use Rattle.trace_run.proofs.callers.StepLemmas.{next-ended, next-forked, next-halted, next-last, next-may, next-number, next-still, next-sync, range-declared, range-group, unused-leaves}
 use Rattle.trace_run.proofs.groups.next_group.Goals as goal
 
 -- ---- the lines of the group
@@ -101,3 +101,29 @@ returns-in-Err-clause-did g c = λ start restored was work between.
     c.args.replies.now.items c.in_ok-crew.answered.items work c.args.crew c.in_ok-crew.crew c.len-first.result c.group_end-to.result c.as_slice-blocks.result.now c.as_slice-ops.result.now c.as_slice-blocks.ensures c.as_slice-ops.ensures first
     c.group_end-to.ensures.range.0 c.group_end-to.ensures.range.1 c.group_end-to.ensures.inside between (let more = c.requires.more in let long = c.args.replies.now.ok.0 in omega (arith, more, long)) unused c.in_ok-crew.ensures.did c.in_ok-crew.ensures.feeder c.lines_at_once.ensures.pool
     c.in-Some.op.now here c.in_ok-crew-2.crew (between_groups c.end_line.new.pool c.in_ok-crew-2.syncs.group c.in_ok-crew-2.syncs.next) c.in_ok-crew-2.came c.in-Err.ending c.in-Err.is c.in_ok-crew-2.ensures.did c.append.new.replies.items c.in_ok-append.ensures
+
+-- ---- the pool, where no sync is asked for
+
+pub returns-in_ok-push-in-Ok-came-clause-still : goal.returns-in_ok-push-in-Ok-came-clause-still
+returns-in_ok-push-in-Ok-came-clause-still g c =
+    let unused : IsUnused g.P.Pool c.args.pool.now c.forks.new.pool = record { size = c.in-Ok.ensures.keeps.size; told = c.in-Ok.ensures.keeps.told; reads = c.in-Ok.ensures.unread; faults = c.in-Ok.ensures.unfailed } in
+    let here : slice_get c.as_slice-ops.result.now c.group_end-to.result ≡ Some c.in-Some.op.now = slice_get_read c.as_slice-ops.result.now _ c.group_end-to.result c.in-Some.op.now refl c.in-Some.ensures.lookup.3.0 c.in-Some.ensures.lookup.1 in
+    next-still g.P.Pool c.args.trace.now c.as_slice-ops.result.now c.as_slice-ops.ensures c.args.pool.now c.forks.new.pool c.lines_at_once.new.pool c.end_line.new.pool c.group_end-to.result c.in-Some.op.now here unused c.lines_at_once.ensures.pool c.in_ok-crew-2.ensures.still
+
+pub returns-in_err-push-in-Ok-came-clause-still : goal.returns-in_err-push-in-Ok-came-clause-still
+returns-in_err-push-in-Ok-came-clause-still g c =
+    let unused : IsUnused g.P.Pool c.args.pool.now c.forks.new.pool = record { size = c.in-Ok.ensures.keeps.size; told = c.in-Ok.ensures.keeps.told; reads = c.in-Ok.ensures.unread; faults = c.in-Ok.ensures.unfailed } in
+    let here : slice_get c.as_slice-ops.result.now c.group_end-to.result ≡ Some c.in-Some.op.now = slice_get_read c.as_slice-ops.result.now _ c.group_end-to.result c.in-Some.op.now refl c.in-Some.ensures.lookup.3.0 c.in-Some.ensures.lookup.1 in
+    next-still g.P.Pool c.args.trace.now c.as_slice-ops.result.now c.as_slice-ops.ensures c.args.pool.now c.forks.new.pool c.lines_at_once.new.pool c.end_line.new.pool c.group_end-to.result c.in-Some.op.now here unused c.lines_at_once.ensures.pool c.in_ok-crew-2.ensures.still
+
+pub returns-in-Err-clause-still : goal.returns-in-Err-clause-still
+returns-in-Err-clause-still g c =
+    let unused : IsUnused g.P.Pool c.args.pool.now c.forks.new.pool = record { size = c.in-Ok.ensures.keeps.size; told = c.in-Ok.ensures.keeps.told; reads = c.in-Ok.ensures.unread; faults = c.in-Ok.ensures.unfailed } in
+    let here : slice_get c.as_slice-ops.result.now c.group_end-to.result ≡ Some c.in-Some.op.now = slice_get_read c.as_slice-ops.result.now _ c.group_end-to.result c.in-Some.op.now refl c.in-Some.ensures.lookup.3.0 c.in-Some.ensures.lookup.1 in
+    next-still g.P.Pool c.args.trace.now c.as_slice-ops.result.now c.as_slice-ops.ensures c.args.pool.now c.forks.new.pool c.lines_at_once.new.pool c.end_line.new.pool c.group_end-to.result c.in-Some.op.now here unused c.lines_at_once.ensures.pool c.in_ok-crew-2.ensures.still
+
+pub returns-in_err-crew-2-clause-still : goal.returns-in_err-crew-2-clause-still
+returns-in_err-crew-2-clause-still g c =
+    let unused : IsUnused g.P.Pool c.args.pool.now c.forks.new.pool = record { size = c.in-Ok.ensures.keeps.size; told = c.in-Ok.ensures.keeps.told; reads = c.in-Ok.ensures.unread; faults = c.in-Ok.ensures.unfailed } in
+    let here : slice_get c.as_slice-ops.result.now c.group_end-to.result ≡ Some c.in-Some.op.now = slice_get_read c.as_slice-ops.result.now _ c.group_end-to.result c.in-Some.op.now refl c.in-Some.ensures.lookup.3.0 c.in-Some.ensures.lookup.1 in
+    next-still g.P.Pool c.args.trace.now c.as_slice-ops.result.now c.as_slice-ops.ensures c.args.pool.now c.forks.new.pool c.lines_at_once.new.pool c.end_line.new.pool c.group_end-to.result c.in-Some.op.now here unused c.lines_at_once.ensures.pool c.in_err-crew-2.ensures.still
