@@ -24,9 +24,9 @@ use Rattle.l2_dev.specs.declared.report.FeedStop.TheVariants as stop
 use Rattle.l2_dev.specs.declared.stop.Stop.{Stop}
 use Rattle.l2_dev.specs.declared.stop.Stop.TheVariants as stops
 use Rattle.l2_dev.specs.Cursor.{CursorState}
-use Rattle.l2_dev.specs.Rebuilding.{ring_end_of}
+use Rattle.l2_dev.specs.Rebuilding.{HaveKeys, IsOpened, ring_end_of}
 use Rattle.l2_dev.specs.Restoring.{IsRebuilt}
-use Rattle.l2_dev.specs.Starting.{IsOrderlyChain}
+use Rattle.l2_dev.specs.Starting.{IsOrderlyChain, StartKeeps}
 use Rattle.l2_feed.specs.Series.{GivesNone, IsRestoredAt, WasLent, faults_in}
 use Rattle.trace_text.specs.declared.rebuilt.Rebuilt.{Rebuilt}
 use Rattle.trace_run.specs.declared.device.Device.{Device}
@@ -122,3 +122,17 @@ module _ {D : Type 0} (devices : Ghosts D) where
   WasFedFrom g before started after None rebuilt feeds histories = feeds ≡ []
   WasFedFrom g before started after (Some first) rebuilt feeds histories =
       (b s a : D) × (found : Rebuilt) × (before ≡ Some b) × (started ≡ Some s) × (after ≡ Some a) × (rebuilt ≡ Some found) × WasFed g b s a first found.stop feeds histories
+
+  -- So it will be of these feeds of a run, which began with the one device and left the other, whatever start left that device so.
+  abbrev pub LeavesFed : Config → List Restored → List FeedDone → (old new : Device D) → (histories : List (List Event)) → Type 0
+  LeavesFed g restored feeds device.None device.None histories = feeds ≡ []
+  LeavesFed g restored feeds (device.Short was) (device.Short now) histories = feeds ≡ []
+  LeavesFed g restored feeds (device.Ready was) (device.Ready now) histories =
+      (before : D) (why : Stop) → IsOpened (ring_end_of (devices.size before)) was.cursor restored → HaveKeys restored
+      → StartKeeps devices.told devices.has_sectors devices.may_leave (ring_end_of (devices.size before)) before was.dev was.cursor restored why → WasFed g before was.dev now.dev was.cursor why feeds histories
+  LeavesFed g restored feeds device.None (device.Short now) histories = ⊥
+  LeavesFed g restored feeds device.None (device.Ready now) histories = ⊥
+  LeavesFed g restored feeds (device.Short was) device.None histories = ⊥
+  LeavesFed g restored feeds (device.Short was) (device.Ready now) histories = ⊥
+  LeavesFed g restored feeds (device.Ready was) device.None histories = ⊥
+  LeavesFed g restored feeds (device.Ready was) (device.Short now) histories = ⊥

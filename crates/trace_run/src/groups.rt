@@ -11,7 +11,6 @@ ghost use Rattle.blk_ptr.specs.Size.{sector};
 ghost use Rattle.trace_text.specs.Grammar.{IsFormed, IsOperation};
 ghost use Rattle.trace_text.specs.declared.op.Op.{Op};
 ghost use Rattle.trace_text.specs.declared.reply.Reply.{Reply};
-ghost use Rattle.trace_run.specs.Devices.{lent_in};
 ghost use Rattle.trace_run.specs.callers.Callers.{AreAtStart};
 ghost use Rattle.trace_run.specs.Feeds.{IsIdleFeeder, MayBeFed};
 ghost use Rattle.trace_run.specs.RunWork.{RunWork};
@@ -237,6 +236,7 @@ pub(crate) fn end_line<P: Pool>(
     requires ends { ends_group op.now ≡ true }
     requires sync { (lines : ℕ) × (lines < 2 ^ 32) × MaySync P.Pool lines (between_groups pool.old syncs.group syncs.next) }
     ensures did { IfOk result (λ done. DidEndLine arcs.now P.Pool op.now (between_groups pool.old syncs.group syncs.next) (between_groups pool.new done.1.group done.1.next) crew done.0 done.2) }
+    ensures later { IfOk result (λ done. syncs.next ≤ done.1.next) }
     ensures pool { LeavesFront P.Pool syncs.next pool.old pool.new }
     ensures still { is_sync op.now ≡ false → LeavesPool P.Pool pool.old pool.new }
 {
@@ -326,12 +326,12 @@ fn next_group<R: Threads + Wait + Sync, P: Pool, D: CacheDev, G: Gate>(
     requires config { arcs.now.config ≡ trace.now.config }
     requires rows { arcs.now.row.parties ≡ parties_of arcs.now.config }
     requires device { MayBeFed D.CacheDev arcs.now.config device.old }
-    requires between { (start : BetweenGroups P) × (restored : List Restored) × (was : Option D) × (work : RunWork)
-        × AreBetween arcs.now restored P.Pool D.CacheDev trace.now start (between_groups pool.old syncs.group syncs.next) was (lent_in device.old) replies.old.items work crew }
+    requires between { (start : BetweenGroups P) × (restored : List Restored) × (was : Device D) × (work : RunWork)
+        × AreBetween arcs.now restored P.Pool D.CacheDev trace.now start (between_groups pool.old syncs.group syncs.next) was device.old replies.old.items work crew }
     requires more { vec_len replies.old < length trace.now.ops }
-    ensures did { (start : BetweenGroups P) (restored : List Restored) (was : Option D) (work : RunWork)
-        → AreBetween arcs.now restored P.Pool D.CacheDev trace.now start (between_groups pool.old syncs.group syncs.next) was (lent_in device.old) replies.old.items work crew
-        → IfOk result (λ done. StepsOn arcs.now restored P.Pool D.CacheDev trace.now start (between_groups pool.new done.1.group done.1.next) was (lent_in device.new) replies.old.items replies.new.items done.2 done.0) }
+    ensures did { (start : BetweenGroups P) (restored : List Restored) (was : Device D) (work : RunWork)
+        → AreBetween arcs.now restored P.Pool D.CacheDev trace.now start (between_groups pool.old syncs.group syncs.next) was device.old replies.old.items work crew
+        → IfOk result (λ done. StepsOn arcs.now restored P.Pool D.CacheDev trace.now start (between_groups pool.new done.1.group done.1.next) was device.new replies.old.items replies.new.items done.2 done.0) }
     ensures later { IfOk result (λ done. syncs.next ≤ done.1.next) }
     ensures pool { LeavesFront P.Pool syncs.next pool.old pool.new }
     ensures still { has_sync trace.now.ops ≡ false → LeavesPool P.Pool pool.old pool.new }
@@ -401,10 +401,10 @@ pub(crate) fn all_groups<R: Threads + Wait + Sync, P: Pool, D: CacheDev, G: Gate
     requires rows { arcs.now.row.parties ≡ parties_of arcs.now.config }
     requires device { MayBeFed D.CacheDev arcs.now.config device.old }
     requires between { (restored : List Restored) × (work : RunWork)
-        × AreBetween arcs.now restored P.Pool D.CacheDev trace.now (between_groups pool.old syncs.group syncs.next) (between_groups pool.old syncs.group syncs.next) (lent_in device.old) (lent_in device.old) [] work crew }
+        × AreBetween arcs.now restored P.Pool D.CacheDev trace.now (between_groups pool.old syncs.group syncs.next) (between_groups pool.old syncs.group syncs.next) device.old device.old [] work crew }
     ensures done { (restored : List Restored) (work : RunWork)
-        → AreBetween arcs.now restored P.Pool D.CacheDev trace.now (between_groups pool.old syncs.group syncs.next) (between_groups pool.old syncs.group syncs.next) (lent_in device.old) (lent_in device.old) [] work crew
-        → IfOk result (λ came. (all : RunWork) × AreDone arcs.now restored P.Pool D.CacheDev trace.now (between_groups pool.old syncs.group syncs.next) pool.new (lent_in device.old) (lent_in device.new) came.ending came.replies.items all came.crew) }
+        → AreBetween arcs.now restored P.Pool D.CacheDev trace.now (between_groups pool.old syncs.group syncs.next) (between_groups pool.old syncs.group syncs.next) device.old device.old [] work crew
+        → IfOk result (λ came. (all : RunWork) × AreDone arcs.now restored P.Pool D.CacheDev trace.now (between_groups pool.old syncs.group syncs.next) pool.new device.old device.new came.ending came.replies.items all came.crew) }
     ensures pool { LeavesFront P.Pool syncs.next pool.old pool.new }
     ensures still { has_sync trace.now.ops ≡ false → LeavesPool P.Pool pool.old pool.new }
     ensures used { WasInUse D.CacheDev device.old device.new }

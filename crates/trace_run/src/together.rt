@@ -8,6 +8,7 @@ ghost use Rattle.l2_dev.specs.Rebuilding.{HaveKeys};
 ghost use Rattle.trace_text.specs.Grammar.{IsFormed};
 ghost use Rattle.trace_run.specs.Deeds.{Noted};
 ghost use Rattle.trace_run.specs.Devices.{lent_in};
+ghost use Rattle.trace_run.specs.FeedSeries.{LeavesFed};
 ghost use Rattle.trace_run.specs.Feeds.{MayBeFed};
 ghost use Rattle.trace_run.specs.RunWork.{RunWork};
 ghost use Rattle.trace_run.specs.callers.Beside.{WasInUse};
@@ -106,7 +107,8 @@ pub(crate) fn run_together<R: Threads + Wait + Sync, P: Pool, D: CacheDev, G: Ga
     requires formed { IsFormed trace.now }
     requires keys { HaveKeys restored.now }
     requires device { MayBeFed D.CacheDev trace.now.config device.old }
-    ensures ran { IfOk result (λ ran. (work : RunWork) × RanTogether P.Pool D.CacheDev pool.old pool.new (lent_in device.old) (lent_in device.new) trace.now ran.ending restored.now ran.replies.items work ran.closed) }
+    ensures ran { IfOk result (λ ran. (work : RunWork) × RanTogether P.Pool D.CacheDev pool.old pool.new (lent_in device.old) (lent_in device.new) trace.now ran.ending restored.now ran.replies.items work ran.closed
+        × LeavesFed D.CacheDev trace.now.config restored.now work.feeds device.old device.new (histories_of ran.closed)) }
     ensures pool { LeavesDeclared P.Pool trace.now.blocks pool.old pool.new }
     ensures still { has_sync trace.now.ops ≡ false → LeavesPool P.Pool pool.old pool.new }
     ensures device { WasInUse D.CacheDev device.old device.new }

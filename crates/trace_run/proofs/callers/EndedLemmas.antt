@@ -27,6 +27,7 @@ use Rattle.arc_table.specs.Seen.{seen_of}
 use Rattle.arc_table.specs.TableLaws.{starts_whole}
 use Rattle.arc_table.specs.Telling.{opening_of}
 use Rattle.dbuf_cells.specs.Turns.{OnHeap, PartyPlace}
+use Rattle.l2_feed.specs.Series.{GivesNone}
 use Rattle.trace_text.specs.declared.op.Op.{Op}
 use Rattle.trace_text.specs.declared.op.Op.TheVariants as ops
 use Rattle.trace_text.specs.declared.reply.Reply.{Reply}
@@ -36,6 +37,7 @@ use Rattle.trace_run.specs.declared.kept_blocks.KeptBlock.{KeptBlock}
 use Rattle.trace_run.specs.Acts.{events_of_feeder}
 use Rattle.trace_run.specs.Deeds.{HasToldOthers, Noted, acts_of_events, with_number}
 use Rattle.trace_run.specs.FeedEvents.{events_of_lines, feeds_told}
+use Rattle.trace_run.specs.FeedSeries.{SeesMore}
 use Rattle.trace_run.specs.Feeds.{FeedDone, is_feed}
 use Rattle.trace_run.specs.KeptBlocks.{Stands}
 use Rattle.trace_run.specs.KeptReads.{KeptRead}
@@ -55,6 +57,7 @@ use Rattle.trace_run.proofs.callers.MeetLemmas.{parted-waits, same-own-events, s
 use Rattle.trace_run.proofs.callers.MoreLemmas.{answers-grown, ends-append, none-synced}
 use Rattle.trace_run.proofs.deeds.DeedLemmas.{others-still}
 use Rattle.trace_run.proofs.feeds.FedLemmas.{as-told, lines-append, one-asked, ops-are, told-still}
+use Rattle.trace_run.proofs.feeds.SeriesLemmas.{sees-by}
 use Rattle.trace_run.proofs.one_caller.TellLemmas.{all-append}
 
 -- ---- the work so far, and more
@@ -106,6 +109,32 @@ pub record StopsSo (cache : Cache) (tick : ℕ) (work : Work) (more : (shard : �
   pub fits : IsSyncWork cache.config work
   pub none : (shard : ℕ) → shard < cache.config.shards → own_events cache.config.callers (more shard) ≡ []
   pub here : (shard : ℕ) → shard < cache.config.shards → more shard ≡ inserts_noted cache.config tick work.noted shard (made.front shard)
+
+-- ---- what the feeder has seen behind it
+
+-- what a line asks of the feeder gives no place
+pub asked-gives : (n : ℕ) (op : Op) → AllByRecursion GivesNone (events_of_feeder n op)
+asked-gives n (ops.Cap c) = ((λ k. refl), tt)
+asked-gives n (ops.Txg t) = tt
+asked-gives n ops.Feed = tt
+asked-gives n (ops.Read m t x window) = tt
+asked-gives n (ops.Hold m t x) = tt
+asked-gives n (ops.Drop m x) = tt
+asked-gives n (ops.Get m t at window) = tt
+asked-gives n (ops.Put m t at size fill) = tt
+asked-gives n (ops.Patch m t at from bytes) = tt
+asked-gives n (ops.Pin m t at) = tt
+asked-gives n (ops.Unpin m at) = tt
+
+pub made-sees : (cache : Cache) (work : Work) (more : (shard : ℕ) → List Event) (old new : Crew OnHeap) → old.feeder.number ≡ cache.config.callers → MadeWork cache work more old new → (shard : ℕ) (asked : List Event) → own_events cache.config.callers (more shard) ≡ asked
+    → AllByRecursion GivesNone asked → SeesMore cache.config (seen_of cache.config shard old.feeder) (seen_of cache.config shard new.feeder)
+made-sees cache work more old new number made shard asked is none =
+    let g : Config = cache.config in
+    let front = same-own-events g g.callers (seen_of g shard old.feeder) (made.front shard)
+    (subst (λ (n : ℕ). own_moments n (moments (opening_of g) (made.front shard)) ≡ own_moments n (moments (opening_of g) (seen_of g shard old.feeder))) number (made.own shard)) in
+    sees-by g (seen_of g shard old.feeder) (seen_of g shard new.feeder) asked
+    (starts-then (seen_of g shard new.feeder) (made.front shard) (seen_of g shard old.feeder) (more shard, made.seen shard) (made.since shard))
+    (ap (own_events g.callers) (made.seen shard) ∙ (filter-append _ (made.front shard) (more shard) ∙ (λ i. front i ++ is i))) none
 
 -- ---- small steps
 

@@ -153,7 +153,7 @@ module _ {C : Type 0} (cache : Cache) (restored : List Restored) (len : ℕ) (im
   all-level = level-from old.parties.items old.feeder (λ n x at. (n, opened.each n x (ap (λ (l : List (Place (Known C))). get_elem? l n) is ∙ at)))
 
   -- so they have seen the restores, and nothing else
-  restores-seen : (shard : ℕ) → seen_of cache.config shard new.feeder ≡ restores_in cache.config restored shard
+  pub restores-seen : (shard : ℕ) → seen_of cache.config shard new.feeder ≡ restores_in cache.config restored shard
   restores-seen shard = made.seen shard ∙ ap (λ (es : List Event). es ++ restores_in cache.config restored shard) (made.same (λ s. []) all-level.1 all-level.0 shard)
 
   restored-come : (n : ℕ) → n < cache.config.callers → ComesAt cache len image place blocks n [] new

@@ -14,8 +14,7 @@ use Rattle.arc_table.specs.declared.about.About.{About}
 use Rattle.arc_core.specs.declared.served.Restored.{Restored}
 use Rattle.arc_table.specs.Cache.{Cache}
 use Rattle.arc_table.specs.Geometry.{parties_of, IsCell}
-use Rattle.arc_table.specs.Items.{Meanings}
-use Rattle.dbuf_cells.specs.Turns.{OnHeap, PartyPlace}
+use Rattle.dbuf_cells.specs.Turns.{OnHeap, PartyPlace, dbuf_meanings}
 use Rattle.arc_core.specs.declared.config.Config.{Config}
 use Rattle.trace_text.specs.declared.op.Op.{Op}
 use Rattle.trace_text.specs.declared.op.Op.TheVariants as ops
@@ -32,6 +31,8 @@ use Rattle.trace_run.specs.declared.ran.Ending.TheVariants.{Fork, Full, Sync, Wh
 use Rattle.trace_run.specs.declared.kept_blocks.KeptBlock.{KeptBlock}
 use Rattle.trace_run.specs.Answers.{is_pool_fault}
 use Rattle.trace_run.specs.Devices.{lent_in}
+use Rattle.trace_run.specs.Acts.{events_of_feeder}
+use Rattle.trace_run.specs.FeedSeries.{AreMadeSoFar}
 use Rattle.trace_run.specs.Feeds.{AreFedReplies, IsIdleFeeder, is_feed}
 use Rattle.trace_run.specs.Lines.{caller_of, is_of_caller, replies_where, has_sync, is_sync}
 use Rattle.trace_run.specs.Meeting.{MadeJoined, MayGoOn}
@@ -52,15 +53,16 @@ use Rattle.trace_run.proofs.callers.AbsorbLemmas.{over-few}
 use Rattle.trace_run.proofs.callers.BesideLemmas.{fed-idle}
 use Rattle.trace_run.proofs.callers.CallerActLemmas.{line-kind}
 use Rattle.trace_run.proofs.callers.EndLineLemmas.{Halted, IsUnused, Turned, end-halted, end-turned}
-use Rattle.trace_run.proofs.callers.EndedLemmas.{have-come-ended, have-come-stopped, with_end, with_stop, stopped-cut}
+use Rattle.trace_run.proofs.callers.EndedLemmas.{asked-gives, have-come-ended, have-come-stopped, made-sees, with_end, with_stop, stopped-cut}
 use Rattle.trace_run.proofs.callers.FrontLemmas.{front-before, front-same, front-then, pool-front}
 use Rattle.trace_run.proofs.callers.GroupCounts.{over-add, over-same, over-zero}
 use Rattle.trace_run.proofs.callers.GroupLists.{EndsWhole, begun-append, group-begun, group-ended, group-last, groups-append, whole-of}
 use Rattle.trace_run.proofs.callers.GroupRunLemmas.{all-callers, all-declared, may-resize}
-use Rattle.trace_run.proofs.callers.GroupsLemmas.{have-restored, have-started}
+use Rattle.trace_run.proofs.callers.GroupsLemmas.{have-restored, have-started, restores-seen}
 use Rattle.trace_run.proofs.callers.LineLists.{AreInside, all-inside, calls-append, calls-few, ends-nobody, lines-failed, lines-long, nobody-callers}
 use Rattle.trace_run.proofs.callers.MoreLemmas.{fed-about, have-come-more, with_lines}
 use Rattle.trace_run.proofs.feeds.FedLemmas.{ops-are, used-more, used-once, fed-beside}
+use Rattle.trace_run.proofs.feeds.SeriesLemmas.{group-so-far, moved-so-far, none-so-far}
 use Rattle.trace_run.proofs.RunLemmas.{calls-faults, calls-reads}
 use Rattle.arc_lists.proofs.Tables.{cases_true}
 use Rattle.arc_table.specs.Fronts.{StartsWith, front_of}
@@ -225,10 +227,10 @@ told-of cache restored len image place blocks os rs w crew come goes_on = record
 
 -- ---- before the first group
 
-pub between-none : {P D : Type 0} (cache : Cache) (restored : List Restored) (pools : Ghosts P) (devices : Devices D) (trace : Trace) (start : BetweenGroups P) (was : Option D) (crew : Crew OnHeap)
+pub between-none : {P D : Type 0} (cache : Cache) (restored : List Restored) (pools : Ghosts P) (devices : Devices D) (trace : Trace) (start : BetweenGroups P) (was : Device D) (crew : Crew OnHeap)
     → HaveCome cache restored (pools.size start.pool) (pools.told start.pool) start.next trace.blocks [] [] (plain_work [] []) crew → Knows (openings_of trace) crew.feeder → IsFirstPlace (pools.size start.pool) trace.blocks start.next → MaySync pools 0 start
-    → AreBetween cache restored pools devices trace start start was was [] (plain_work [] []) crew
-between-none cache restored pools devices trace start was crew come knows place may = record {
+    → ((shard : ℕ) → seen_of cache.config shard crew.feeder ≡ restores_in cache.config restored shard) → AreBetween cache restored pools devices trace start start was was [] (plain_work [] []) crew
+between-none cache restored pools devices trace start was crew come knows place may seen = record {
   reached = record {
     few = omega arith;
     come = come;
@@ -242,6 +244,7 @@ between-none cache restored pools devices trace start was crew come knows place 
     };
     groups = refl;
     used = (refl, refl);
+    fed = none-so-far dbuf_meanings devices cache restored was crew.feeder seen;
   };
   begins = λ more. tt;
   goes_on = refl;
@@ -253,7 +256,7 @@ pub first-may : {P : Type 0} (pools : Ghosts P) (pool : P) (place len : ℕ) →
 first-may pools pool place len aligned inside is = record { born = omega arith; few = omega arith; aligned = aligned; inside = subst (λ (n : ℕ). place ≤ n) is inside }
 
 -- behind the restores
-pub between-begun : {P D : Type 0} (cache : Cache) (restored : List Restored) (pools : Ghosts P) (devices : Devices D) (trace : Trace) (start : BetweenGroups P) (was : Option D) (whole : List PartyPlace) (old new : Crew OnHeap) → AreOpened cache whole
+pub between-begun : {P D : Type 0} (cache : Cache) (restored : List Restored) (pools : Ghosts P) (devices : Devices D) (trace : Trace) (start : BetweenGroups P) (was : Device D) (whole : List PartyPlace) (old new : Crew OnHeap) → AreOpened cache whole
     → whole ≡ old.parties.items ++ old.feeder ∷ [] → KeepNothing old.kept.items → length old.kept.items ≡ length old.parties.items
     → MadeJoined cache (restores_in cache.config restored) old.feeder old.parties.items new.feeder new.parties.items → new.kept.items ≡ old.kept.items → Knows (openings_of trace) old.feeder → IsFirstPlace (pools.size start.pool) trace.blocks start.next → MaySync pools 0 start
     → AreBetween cache restored pools devices trace start start was was [] (plain_work [] []) new
@@ -262,12 +265,14 @@ between-begun cache restored pools devices trace start was whole old new opened 
     (have-restored cache restored (pools.size start.pool) (pools.told start.pool) start.next trace.blocks old new whole opened is
     (have-started cache whole old opened is none many (pools.size start.pool) (pools.told start.pool) start.next trace.blocks) made kept)
     (ap (λ (a : About). a.openings) made.about ∙ knows) place may
+    (restores-seen cache restored (pools.size start.pool) (pools.told start.pool) start.next trace.blocks old new whole opened is
+    (have-started cache whole old opened is none many (pools.size start.pool) (pools.told start.pool) start.next trace.blocks) made kept)
 
 -- ---- one group
 
-module _ {P D : Type 0} (m : Meanings OnHeap) (cache : Cache) (restored : List Restored) (pools : Ghosts P) (devices : Devices D) (trace : Trace) (start was : BetweenGroups P) (begun : Option D) (from to : P) (a b : Device D) (rs ss : List Reply) (qs : List Op)
-    (w : RunWork) (old new : Crew OnHeap) (few : length trace.ops ≤ 1000000) (some_callers : (0 < cache.config.callers) × (cache.config.callers ≤ 16)) (between : AreBetween cache restored pools devices trace start was begun (lent_in a) rs w old)
-    (more : length rs < length trace.ops) (unused : IsUnused pools was.pool from) (did : DidLinesAtOnce m cache pools devices trace.blocks qs from to a b old new ss) (again : IsIdleFeeder cache new.feeder) (leaves : LeavesPool pools from to)
+module _ {P D : Type 0} (cache : Cache) (restored : List Restored) (pools : Ghosts P) (devices : Devices D) (trace : Trace) (start was : BetweenGroups P) (begun : Device D) (from to : P) (a b : Device D) (rs ss : List Reply) (qs : List Op)
+    (w : RunWork) (old new : Crew OnHeap) (few : length trace.ops ≤ 1000000) (some_callers : (0 < cache.config.callers) × (cache.config.callers ≤ 16)) (between : AreBetween cache restored pools devices trace start was begun a rs w old)
+    (more : length rs < length trace.ops) (unused : IsUnused pools was.pool from) (did : DidLinesAtOnce dbuf_meanings cache pools devices trace.blocks qs from to a b old new ss) (again : IsIdleFeeder cache new.feeder) (leaves : LeavesPool pools from to)
     (own : AreInGroup cache.config.callers qs) (inside : length rs + length qs ≤ length trace.ops) (here : take (length qs) (drop (length rs) trace.ops) ≡ qs) where
   abbrev callers : ℕ
   callers = cache.config.callers
@@ -281,7 +286,7 @@ module _ {P D : Type 0} (m : Meanings OnHeap) (cache : Cache) (restored : List R
   abbrev ms : List Line
   ms = did.lines
 
-  abbrev reached : HaveReached cache restored pools devices trace start was begun (lent_in a) Whole rs w old
+  abbrev reached : HaveReached cache restored pools devices trace start was begun a Whole rs w old
   reached = between.reached
 
   long : length w.lines ≡ length rs
@@ -331,32 +336,35 @@ module _ {P D : Type 0} (m : Meanings OnHeap) (cache : Cache) (restored : List R
 
   pub come-lines : HaveCome cache restored (pools.size start.pool) (pools.told start.pool) start.next trace.blocks (os ++ qs) (rs ++ ss) done new
   come-lines =
-      have-come-more m cache restored pools devices (pools.size start.pool) (pools.told start.pool) start.next trace.blocks os qs rs ss w from to a b old new reached.come between.goes_on did own again reached.first
+      have-come-more dbuf_meanings cache restored pools devices (pools.size start.pool) (pools.told start.pool) start.next trace.blocks os qs rs ss w from to a b old new reached.come between.goes_on did own again reached.first
       (unused.size ∙ reached.counted.keeps.size) from-front
 
   used-here : UsedAtOnce devices trace.blocks callers ms did.beside.feeds (lent_in a) (lent_in b)
   used-here =
       let are = ops-are qs ss ms did.are in
-      let beside : WorksBeside m devices cache trace.blocks (ops_of ms) callers (λ n. lines_of_caller n ms) (replies_where is_feed (ops_of ms) (replies_of ms)) a b old.feeder new.feeder = record {
+      let beside : WorksBeside dbuf_meanings devices cache trace.blocks (ops_of ms) callers (λ n. lines_of_caller n ms) (replies_where is_feed (ops_of ms) (replies_of ms)) a b old.feeder new.feeder = record {
         feeds = did.beside.feeds;
         used = did.beside.used;
         answered = subst (λ (x : List Op × List Reply). AreFedReplies (lent_in a) (filter is_feed x.0) did.beside.feeds (replies_where is_feed x.0 x.1)) (λ i. (sym are.0 i, sym are.1 i)) did.beside.answered;
         read = subst (λ (k : ℕ). HaveRead devices trace.blocks k (λ n. lines_of_caller n ms) (lent_in a) (lent_in did.beside.used.lent) (lent_in did.beside.used.later) (lent_in b)) reached.come.parties did.beside.read;
       } in
-      used-once m devices cache trace.blocks callers ms a b old.feeder new.feeder beside
+      used-once dbuf_meanings devices cache trace.blocks callers ms a b old.feeder new.feeder beside
 
-  used-lines : (last : GroupLines) → last.lines ≡ ms → UsedInGroups devices trace.blocks callers (groups_of w.lines ++ last ∷ []) done.feeds begun (lent_in b)
-  used-lines last is = used-more devices trace.blocks callers (groups_of w.lines) last w.feeds did.beside.feeds begun (lent_in a) (lent_in b) reached.used (subst (λ (ls : List Line). UsedAtOnce devices trace.blocks callers ls did.beside.feeds (lent_in a) (lent_in b)) (sym is) used-here)
+  used-lines : (last : GroupLines) → last.lines ≡ ms → UsedInGroups devices trace.blocks callers (groups_of w.lines ++ last ∷ []) done.feeds (lent_in begun) (lent_in b)
+  used-lines last is = used-more devices trace.blocks callers (groups_of w.lines) last w.feeds did.beside.feeds (lent_in begun) (lent_in a) (lent_in b) reached.used (subst (λ (ls : List Line). UsedAtOnce devices trace.blocks callers ls did.beside.feeds (lent_in a) (lent_in b)) (sym is) used-here)
+
+  fed-lines : AreMadeSoFar dbuf_meanings devices cache restored done.feeds begun b new.feeder
+  fed-lines = group-so-far dbuf_meanings devices cache restored w.feeds did.beside.feeds begun a b old.feeder new.feeder reached.come.feeder.stands reached.fed did.beside.used
 
   pub knows-new : Knows (openings_of trace) new.feeder
   knows-new = same ∙ reached.knows
     where
       same : new.feeder.own.about.openings ≡ old.feeder.own.about.openings
-      same = ap (λ (x : About). x.openings) (fed-about m devices cache trace.blocks qs (length old.parties.items) (λ n. lines_of_caller n did.lines) ss a b old.feeder new.feeder did.beside (fed-idle cache old.feeder.own.about.openings _ _ _ _ old.feeder reached.come.feeder) again)
+      same = ap (λ (x : About). x.openings) (fed-about dbuf_meanings devices cache trace.blocks qs (length old.parties.items) (λ n. lines_of_caller n did.lines) ss a b old.feeder new.feeder did.beside (fed-idle cache old.feeder.own.about.openings _ _ _ _ old.feeder reached.come.feeder) again)
 
   -- it has seen of each cell what it had
   seen-grown : (i : ℕ) → IsCell cache.config i → StartsWith (front_of i new.feeder.own.seen) (front_of i old.feeder.own.seen)
-  seen-grown = (fed-beside m devices cache trace.blocks qs (length old.parties.items) (λ n. lines_of_caller n did.lines) ss a b old.feeder new.feeder did.beside (fed-idle cache old.feeder.own.about.openings _ _ _ _ old.feeder reached.come.feeder) again).same.keeps.fronts
+  seen-grown = (fed-beside dbuf_meanings devices cache trace.blocks qs (length old.parties.items) (λ n. lines_of_caller n did.lines) ss a b old.feeder new.feeder did.beside (fed-idle cache old.feeder.own.about.openings _ _ _ _ old.feeder reached.come.feeder) again).same.keeps.fronts
 
   groups-so-far : WorkInGroups pools cache.config (Cells new.feeder) [] (groups_of w.lines) start was
   groups-so-far = in-groups-as pools cache.config (Cells old.feeder) (Cells new.feeder) (stood-more (openings_of trace) cache.config old.feeder new.feeder seen-grown) [] (groups_of w.lines) start was reached.groups
@@ -369,7 +377,7 @@ module _ {P D : Type 0} (m : Meanings OnHeap) (cache : Cache) (restored : List R
   abbrev alone-group : GroupLines
   alone-group = record { lines = ms; end = None }
 
-  pub between-last : length rs + length qs ≡ length trace.ops → AreBetween cache restored pools devices trace start (between_groups to was.group was.next) begun (lent_in b) (rs ++ ss) done new
+  pub between-last : length rs + length qs ≡ length trace.ops → AreBetween cache restored pools devices trace start (between_groups to was.group was.next) begun b (rs ++ ss) done new
   between-last all = record {
     reached = record {
       few = omega (arith, both-long, all);
@@ -380,7 +388,8 @@ module _ {P D : Type 0} (m : Meanings OnHeap) (cache : Cache) (restored : List R
       counted = counted-lines;
       groups = subst (λ (gs : List GroupLines). WorkInGroups pools cache.config (Cells new.feeder) [] gs start (between_groups to was.group was.next)) (sym groups-are)
           (in-groups-more pools cache.config (Cells new.feeder) [] (groups_of w.lines) alone-group start was (between_groups to was.group was.next) to groups-so-far (once None) refl);
-      used = subst (λ (gs : List GroupLines). UsedInGroups devices trace.blocks callers gs done.feeds begun (lent_in b)) (sym groups-are) (used-lines alone-group refl);
+      used = subst (λ (gs : List GroupLines). UsedInGroups devices trace.blocks callers gs done.feeds (lent_in begun) (lent_in b)) (sym groups-are) (used-lines alone-group refl);
+      fed = fed-lines;
     };
     begins = λ less. absurd (omega (arith, both-long, all, less));
     goes_on = refl;
@@ -398,7 +407,7 @@ module _ {P D : Type 0} (m : Meanings OnHeap) (cache : Cache) (restored : List R
   -- ---- a sync stopped behind them
 
   pub done-halted : (ending : Ending) (last : Crew OnHeap) (fin : P) (h : Halted cache pools trace (rs ++ ss) done ending (between_groups to was.group was.next) fin new last)
-      → AreDone cache restored pools devices trace start fin begun (lent_in b) ending (rs ++ ss) (with_stop done h.work) last
+      → AreDone cache restored pools devices trace start fin begun b ending (rs ++ ss) (with_stop done h.work) last
   done-halted ending last fin h = record {
     now = between_groups to was.group was.next;
     reached = record {
@@ -411,7 +420,9 @@ module _ {P D : Type 0} (m : Meanings OnHeap) (cache : Cache) (restored : List R
       counted = counted-lines;
       groups = subst (λ (gs : List GroupLines). WorkInGroups pools cache.config (Cells last.feeder) [] gs start (between_groups to was.group was.next)) (sym groups-are)
           (in-groups-more pools cache.config (Cells last.feeder) [] (groups_of w.lines) alone-group start was (between_groups to was.group was.next) to (groups-behind last h.so.made.cells) (once None) refl);
-      used = subst (λ (gs : List GroupLines). UsedInGroups devices trace.blocks callers gs done.feeds begun (lent_in b)) (sym groups-are) (used-lines alone-group refl);
+      used = subst (λ (gs : List GroupLines). UsedInGroups devices trace.blocks callers gs done.feeds (lent_in begun) (lent_in b)) (sym groups-are) (used-lines alone-group refl);
+      fed = moved-so-far dbuf_meanings devices cache restored done.feeds begun b new.feeder last.feeder fed-lines
+          (λ shard below. made-sees cache h.work h.more new last come-lines.feeder.number h.so.made shard [] (h.so.none shard below) tt);
     };
     ended = h.ended;
     last = λ t stopped shard below. subst (λ (tick : ℕ). IsCutLast cache.config restored trace.blocks shard tick (with_stop done h.work) (seen_of cache.config shard last.feeder)) (sym (h.ticks t stopped))
@@ -463,7 +474,7 @@ module _ {P D : Type 0} (m : Meanings OnHeap) (cache : Cache) (restored : List R
         ap groups_of (append_assoc w.lines ms (l ∷ []))
         ∙ (groups-append w.lines (ms ++ l ∷ []) whole-so-far ∙ ap (λ (gs : List GroupLines). groups_of w.lines ++ gs) (group-ended ms l inside-these turn.so.ends))
 
-    pub between-ended : AreBetween cache restored pools devices trace start fin begun (lent_in b) all-replies all-done last
+    pub between-ended : AreBetween cache restored pools devices trace start fin begun b all-replies all-done last
     between-ended = record {
       reached = record {
         few = omega (arith, all-long, room);
@@ -476,7 +487,9 @@ module _ {P D : Type 0} (m : Meanings OnHeap) (cache : Cache) (restored : List R
         groups = subst (λ (gs : List GroupLines). WorkInGroups pools cache.config (Cells last.feeder) [] gs start fin) (sym groups-ended)
             (in-groups-more pools cache.config (Cells last.feeder) [] (groups_of w.lines) ended-group start was fin to (groups-behind last turn.so.made.cells) (once (Some l))
             (subst (λ (ls : List Line). EndsGroup pools cache.config (Cells last.feeder) (ls ++ ms) (Some l) (between_groups to was.group was.next) fin) (sym (after-groups [] w.lines)) turn.ends));
-        used = subst (λ (gs : List GroupLines). UsedInGroups devices trace.blocks callers gs done.feeds begun (lent_in b)) (sym groups-ended) (used-lines ended-group refl);
+        used = subst (λ (gs : List GroupLines). UsedInGroups devices trace.blocks callers gs done.feeds (lent_in begun) (lent_in b)) (sym groups-ended) (used-lines ended-group refl);
+        fed = moved-so-far dbuf_meanings devices cache restored done.feeds begun b new.feeder last.feeder fed-lines
+            (λ shard below. made-sees cache turn.work turn.more new last come-lines.feeder.number turn.so.made shard (events_of_feeder callers op) (turn.so.feeds shard below) (asked-gives callers op));
       };
       begins = λ less. subst (BeginsGroup trace.ops) (sym all-long) (op, at, turn.so.ends);
       goes_on = refl;
@@ -491,7 +504,7 @@ module _ {P D : Type 0} (m : Meanings OnHeap) (cache : Cache) (restored : List R
 -- ---- what a step is where the lines don't go on
 
 -- which endings say that a sync stopped
-pub stops-on : {P D : Type 0} (cache : Cache) (restored : List Restored) (pools : Ghosts P) (devices : Devices D) (trace : Trace) (start after : BetweenGroups P) (begun is : Option D) (replied replies : List Reply) (ending : Ending) (work : RunWork) (crew : Crew OnHeap) → goes_on ending ≡ false
+pub stops-on : {P D : Type 0} (cache : Cache) (restored : List Restored) (pools : Ghosts P) (devices : Devices D) (trace : Trace) (start after : BetweenGroups P) (begun is : Device D) (replied replies : List Reply) (ending : Ending) (work : RunWork) (crew : Crew OnHeap) → goes_on ending ≡ false
     → AreDone cache restored pools devices trace start after.pool begun is ending replies work crew → StepsOn cache restored pools devices trace start after begun is replied replies ending crew
 stops-on cache restored pools devices trace start after begun is replied replies Whole work crew stops over = absurd (false≢true (sym stops))
 stops-on cache restored pools devices trace start after begun is replied replies Fork work crew stops over = (work, over)
@@ -499,9 +512,9 @@ stops-on cache restored pools devices trace start after begun is replied replies
 stops-on cache restored pools devices trace start after begun is replied replies (Full need left) work crew stops over = (work, over)
 
 -- where a fork failed, the groups are those before it
-as-forked : {P D : Type 0} (cache : Cache) (restored : List Restored) (pools : Ghosts P) (devices : Devices D) (trace : Trace) (start was : BetweenGroups P) (begun is : Option D) (rs : List Reply) (w : RunWork) (crew : Crew OnHeap)
+as-forked : {P D : Type 0} (cache : Cache) (restored : List Restored) (pools : Ghosts P) (devices : Devices D) (trace : Trace) (start was : BetweenGroups P) (begun is : Device D) (rs : List Reply) (w : RunWork) (crew : Crew OnHeap)
     → HaveReached cache restored pools devices trace start was begun is Whole rs w crew → HaveReached cache restored pools devices trace start was begun is Fork rs w crew
-as-forked cache restored pools devices trace start was begun is rs w crew h = record { few = h.few; come = h.come; knows = h.knows; first = h.first; behind = h.behind; counted = h.counted; groups = h.groups; used = h.used }
+as-forked cache restored pools devices trace start was begun is rs w crew h = record { few = h.few; come = h.come; knows = h.knows; first = h.first; behind = h.behind; counted = h.counted; groups = h.groups; used = h.used; fed = h.fed }
 
 feed-left : (op : Op) → caller_of op ≡ None → ends_group op ≡ false → is_feed op ≡ true
 feed-left (ops.Read n t x window) none inside = cc
@@ -561,15 +574,15 @@ module _ (trace : Trace) (formed : IsFormed trace) (a b : ℕ) where
 -- ---- one step of all groups
 
 -- What the next group came to, whose lines are these of the trace: they are done at once, and then the line that ends them, where there is one.
-module _ {P D : Type 0} (m : Meanings OnHeap) (cache : Cache) (restored : List Restored) (pools : Ghosts P) (devices : Devices D) (trace : Trace) (formed : IsFormed trace) (config : cache.config ≡ trace.config) (start was : BetweenGroups P) (begun : Option D) (from to : P) (a b : Device D)
+module _ {P D : Type 0} (cache : Cache) (restored : List Restored) (pools : Ghosts P) (devices : Devices D) (trace : Trace) (formed : IsFormed trace) (config : cache.config ≡ trace.config) (start was : BetweenGroups P) (begun : Device D) (from to : P) (a b : Device D)
     (rs ss : List Reply) (w : RunWork) (old new : Crew OnHeap) (first end : ℕ) (bs : List Ptr) (os : List Op) (is_bs : bs ≡ trace.blocks) (is_os : os ≡ trace.ops) (is_first : first ≡ length rs) (le : first ≤ end) (few : end ≤ length os)
-    (inside : (k : ℕ) (op : Op) → first ≤ k → k < end → slice_get os k ≡ Some op → ends_group op ≡ false) (between : AreBetween cache restored pools devices trace start was begun (lent_in a) rs w old) (more : length rs < length trace.ops)
-    (unused : IsUnused pools was.pool from) (did : DidLinesAtOnce m cache pools devices bs (slice_range os first end) from to a b old new ss) (again : IsIdleFeeder cache new.feeder) (leaves : LeavesPool pools from to) where
+    (inside : (k : ℕ) (op : Op) → first ≤ k → k < end → slice_get os k ≡ Some op → ends_group op ≡ false) (between : AreBetween cache restored pools devices trace start was begun a rs w old) (more : length rs < length trace.ops)
+    (unused : IsUnused pools was.pool from) (did : DidLinesAtOnce dbuf_meanings cache pools devices bs (slice_range os first end) from to a b old new ss) (again : IsIdleFeeder cache new.feeder) (leaves : LeavesPool pools from to) where
   abbrev qs : List Op
   qs = slice_range trace.ops (length rs) end
 
-  did-these : DidLinesAtOnce m cache pools devices trace.blocks qs from to a b old new ss
-  did-these = subst (λ (x : List Ptr × List Op × ℕ). DidLinesAtOnce m cache pools devices x.0 (slice_range x.1 x.2 end) from to a b old new ss) (λ i. (is_bs i, is_os i, is_first i)) did
+  did-these : DidLinesAtOnce dbuf_meanings cache pools devices trace.blocks qs from to a b old new ss
+  did-these = subst (λ (x : List Ptr × List Op × ℕ). DidLinesAtOnce dbuf_meanings cache pools devices x.0 (slice_range x.1 x.2 end) from to a b old new ss) (λ i. (is_bs i, is_os i, is_first i)) did
 
   few-callers : (0 < cache.config.callers) × (cache.config.callers ≤ 16)
   few-callers = subst (λ (g : Config). (0 < g.callers) × (g.callers ≤ 16)) (sym config) (omega (arith, formed.config.counts.callers.0), formed.config.counts.callers.1)
@@ -594,17 +607,17 @@ module _ {P D : Type 0} (m : Meanings OnHeap) (cache : Cache) (restored : List R
   here = range-here trace.ops (length rs) end low few-lines
 
   come : HaveCome cache restored (pools.size start.pool) (pools.told start.pool) start.next trace.blocks (take (length rs) trace.ops ++ qs) (rs ++ ss) (with_lines w did-these.lines did-these.beside.feeds) new
-  come = come-lines m cache restored pools devices trace start was begun from to a b rs ss qs w old new formed.few_ops few-callers between more unused did-these again leaves own within here
+  come = come-lines cache restored pools devices trace start was begun from to a b rs ss qs w old new formed.few_ops few-callers between more unused did-these again leaves own within here
 
-  pub next-last : length os ≤ end → (all : List Reply) → all ≡ rs ++ ss → StepsOn cache restored pools devices trace start (between_groups to was.group was.next) begun (lent_in b) rs all Whole new
+  pub next-last : length os ≤ end → (all : List Reply) → all ≡ rs ++ ss → StepsOn cache restored pools devices trace start (between_groups to was.group was.next) begun b rs all Whole new
   next-last last all is =
       let long : length os ≡ length trace.ops = ap length is_os in
       let whole : length rs + length qs ≡ length trace.ops = omega (arith, ends-at, few-lines, last, long) in
       let size = ap length is in (
         with_lines w did-these.lines did-these.beside.feeds,
-        subst (λ (l : List Reply). AreBetween cache restored pools devices trace start (between_groups to was.group was.next) begun (lent_in b) l (with_lines w did-these.lines did-these.beside.feeds) new) (sym is)
-            (between-last m cache restored pools devices trace start was begun from to a b rs ss qs w old new formed.few_ops few-callers between more unused did-these again leaves own within here whole),
-        omega (arith, size, both-long m cache restored pools devices trace start was begun from to a b rs ss qs w old new formed.few_ops few-callers between more unused did-these again leaves own within here, whole, more),
+        subst (λ (l : List Reply). AreBetween cache restored pools devices trace start (between_groups to was.group was.next) begun b l (with_lines w did-these.lines did-these.beside.feeds) new) (sym is)
+            (between-last cache restored pools devices trace start was begun from to a b rs ss qs w old new formed.few_ops few-callers between more unused did-these again leaves own within here whole),
+        omega (arith, size, both-long cache restored pools devices trace start was begun from to a b rs ss qs w old new formed.few_ops few-callers between more unused did-these again leaves own within here, whole, more),
       )
 
   -- the callers may join the feeder
@@ -634,10 +647,10 @@ module _ {P D : Type 0} (m : Meanings OnHeap) (cache : Cache) (restored : List R
     there = ap (slice_get trace.ops) ends-at ∙ (ap (λ (l : List Op). slice_get l end) (sym is_os) ∙ at)
 
     knows : Knows (openings_of trace) new.feeder
-    knows = knows-new m cache restored pools devices trace start was begun from to a b rs ss qs w old new formed.few_ops few-callers between more unused did-these again leaves own within here
+    knows = knows-new cache restored pools devices trace start was begun from to a b rs ss qs w old new formed.few_ops few-callers between more unused did-these again leaves own within here
 
     pub next-ended : (came : Result Reply Ending) (reply : Reply) → came ≡ Ok reply → DidEndLine cache pools op (between_groups to was.group was.next) fin new last came → (so_far all : List Reply) → so_far ≡ rs ++ ss → all ≡ so_far ++ reply ∷ []
-        → StepsOn cache restored pools devices trace start fin begun (lent_in b) rs all Whole last
+        → StepsOn cache restored pools devices trace start fin begun b rs all Whole last
     next-ended came reply told did_it so_far all is_far is =
         let ended = subst (DidEndLine cache pools op (between_groups to was.group was.next) fin new last) told did_it in
         let turn = end-turned cache pools (openings_of trace) (with_lines w did-these.lines did-these.beside.feeds).lines (between_groups to was.group was.next) fin new last told-now knows ended.kept (length rs) may-now op reply ended in
@@ -645,25 +658,25 @@ module _ {P D : Type 0} (m : Meanings OnHeap) (cache : Cache) (restored : List R
         let work : RunWork = with_end (with_lines w did-these.lines did-these.beside.feeds) (record { op = op; reply = reply; work = turn.work }) in
         let size = ap length whole in (
           work,
-          subst (λ (l : List Reply). AreBetween cache restored pools devices trace start fin begun (lent_in b) l work last) (sym whole)
-              (between-ended m cache restored pools devices trace start was begun from to a b rs ss qs w old new formed.few_ops few-callers between more unused did-these again leaves own within here op reply last fin there turn),
+          subst (λ (l : List Reply). AreBetween cache restored pools devices trace start fin begun b l work last) (sym whole)
+              (between-ended cache restored pools devices trace start was begun from to a b rs ss qs w old new formed.few_ops few-callers between more unused did-these again leaves own within here op reply last fin there turn),
           omega (arith, size, length-append (rs ++ ss) (reply ∷ []), length-append rs ss),
         )
 
     pub next-halted : (came : Result Reply Ending) (ending : Ending) → came ≡ Err ending → DidEndLine cache pools op (between_groups to was.group was.next) fin new last came → (all : List Reply) → all ≡ rs ++ ss
-        → StepsOn cache restored pools devices trace start fin begun (lent_in b) rs all ending last
+        → StepsOn cache restored pools devices trace start fin begun b rs all ending last
     next-halted came ending told did_it all is =
         let ended = subst (DidEndLine cache pools op (between_groups to was.group was.next) fin new last) told did_it in
         let at_line : slice_get trace.ops (length (rs ++ ss)) ≡ Some op =
-        ap (slice_get trace.ops) (both-long m cache restored pools devices trace start was begun from to a b rs ss qs w old new formed.few_ops few-callers between more unused did-these again leaves own within here) ∙ there in
+        ap (slice_get trace.ops) (both-long cache restored pools devices trace start was begun from to a b rs ss qs w old new formed.few_ops few-callers between more unused did-these again leaves own within here) ∙ there in
         let h = end-halted cache pools trace (rs ++ ss) (with_lines w did-these.lines did-these.beside.feeds) (between_groups to was.group was.next) fin new last told-now knows ended.kept op ending at_line ended in
         let work : RunWork = with_stop (with_lines w did-these.lines did-these.beside.feeds) h.work in
-        subst (λ (l : List Reply). StepsOn cache restored pools devices trace start fin begun (lent_in b) rs l ending last) (sym is)
-        (stops-on cache restored pools devices trace start fin begun (lent_in b) rs (rs ++ ss) ending work last h.stops
-        (done-halted m cache restored pools devices trace start was begun from to a b rs ss qs w old new formed.few_ops few-callers between more unused did-these again leaves own within here ending last fin.pool h))
+        subst (λ (l : List Reply). StepsOn cache restored pools devices trace start fin begun b rs l ending last) (sym is)
+        (stops-on cache restored pools devices trace start fin begun b rs (rs ++ ss) ending work last h.stops
+        (done-halted cache restored pools devices trace start was begun from to a b rs ss qs w old new formed.few_ops few-callers between more unused did-these again leaves own within here ending last fin.pool h))
 
 -- none of it was begun, since a fork failed
-pub next-forked : {P D : Type 0} (cache : Cache) (restored : List Restored) (pools : Ghosts P) (devices : Devices D) (trace : Trace) (start was : BetweenGroups P) (begun is : Option D) (after : P) (rs : List Reply) (w : RunWork) (crew : Crew OnHeap)
+pub next-forked : {P D : Type 0} (cache : Cache) (restored : List Restored) (pools : Ghosts P) (devices : Devices D) (trace : Trace) (start was : BetweenGroups P) (begun is : Device D) (after : P) (rs : List Reply) (w : RunWork) (crew : Crew OnHeap)
     → AreBetween cache restored pools devices trace start was begun is rs w crew → length rs < length trace.ops → ForkFailed pools was.pool after → StepsOn cache restored pools devices trace start (between_groups after was.group was.next) begun is rs rs Fork crew
 next-forked cache restored pools devices trace start was begun is after rs w crew between more failed = (
   w,
@@ -696,7 +709,7 @@ next-still pools trace os is_os was from to fin end op at unused leaves still no
 
 -- ---- all steps
 
-pub all-stepped : {P D : Type 0} (cache : Cache) (restored : List Restored) (pools : Ghosts P) (devices : Devices D) (trace : Trace) (start after : BetweenGroups P) (begun is : Option D) (replies : List Reply) (w : RunWork) (crew : Crew OnHeap)
+pub all-stepped : {P D : Type 0} (cache : Cache) (restored : List Restored) (pools : Ghosts P) (devices : Devices D) (trace : Trace) (start after : BetweenGroups P) (begun is : Device D) (replies : List Reply) (w : RunWork) (crew : Crew OnHeap)
     → AreBetween cache restored pools devices trace start after begun is replies w crew → length trace.ops ≤ length replies → AreDone cache restored pools devices trace start after.pool begun is Whole replies w crew
 all-stepped cache restored pools devices trace start after begun is replies w crew between all = record {
   now = after;
@@ -706,7 +719,7 @@ all-stepped cache restored pools devices trace start after begun is replies w cr
 }
 
 -- what a step says where the lines go on, and where they don't
-module _ {P D : Type 0} (cache : Cache) (restored : List Restored) (pools : Ghosts P) (devices : Devices D) (trace : Trace) (start after : BetweenGroups P) (begun is : Option D) (replied replies : List Reply) (crew : Crew OnHeap) where
+module _ {P D : Type 0} (cache : Cache) (restored : List Restored) (pools : Ghosts P) (devices : Devices D) (trace : Trace) (start after : BetweenGroups P) (begun is : Device D) (replied replies : List Reply) (crew : Crew OnHeap) where
   pub stepped : (ending : Ending) → goes_on ending ≡ true → StepsOn cache restored pools devices trace start after begun is replied replies ending crew
       → (work : RunWork) × AreBetween cache restored pools devices trace start after begun is replies work crew × (length replied < length replies)
   stepped Whole on step = step

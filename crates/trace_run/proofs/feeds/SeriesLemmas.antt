@@ -48,7 +48,7 @@ use Rattle.l2_feed.proofs.InTurn.{crashes_restore, feeds_keep, lent_keep, restor
 use Rattle.trace_run.specs.declared.device.Device.{Device}
 use Rattle.trace_run.specs.declared.device.Device.TheVariants as device
 use Rattle.trace_run.specs.Devices.{WasLent as WasLentOut, WasOnlyRead}
-use Rattle.trace_run.specs.FeedSeries.{AreAllDone, AreInTurn, AreInTurnOf, AreMadeSoFar, GoOn, SeesMore, StandsBetween, WasFed, WasMade, reports_of}
+use Rattle.trace_run.specs.FeedSeries.{AreAllDone, AreInTurn, AreInTurnOf, AreMadeSoFar, GoOn, LeavesFed, SeesMore, StandsBetween, WasFed, WasMade, reports_of}
 use Rattle.trace_run.specs.Feeds.{FeedDone, MadeFeed, MadeFeeds, MadeFeedsOf}
 use Rattle.trace_run.specs.KeptBlocks.{Stands}
 use Rattle.trace_run.specs.Restores.{restores_in}
@@ -333,7 +333,7 @@ module _ {C D : Type 0} (m : Meanings C) (devices : Ghosts D) (cache : Cache) wh
       | inr other ↦ rw other (restores-same rs shard)
     ]
 
-    restores-none : (restored : List Restored) (shard : ℕ) → cache.config.shards ≤ shard → restores_in cache.config restored shard ≡ []
+    pub restores-none : (restored : List Restored) (shard : ℕ) → cache.config.shards ≤ shard → restores_in cache.config restored shard ≡ []
     restores-none [] shard far = refl
     restores-none (r ∷ rs) shard far =
         let other : (shard_of cache.config.shards r.key == shard) ≡ false = ne_eqb (shard_of cache.config.shards r.key) shard (λ is. let below = shard-below r.key in absurd (omega (arith, below, is, far))) in
@@ -378,3 +378,16 @@ module _ {C D : Type 0} (m : Meanings C) (devices : Ghosts D) (cache : Cache) wh
           (places_go cache.config (seen_of cache.config shard q) (slice_index_or histories shard []) valid
           (goes-between (seen_of cache.config shard q) (slice_index_or histories shard []) (slice_index_or histories shard []) (closed shard below) ([], sym (append-nil (slice_index_or histories shard []))) (goes.legal shard below) (goes.numbers shard below)) k place at);
     }
+
+    pub left-fed : (restored : List Restored) (fs : List FeedDone) (a b : Device D) (q : Place (Known C)) (histories : List (List Event)) → AreMadeSoFar m devices cache restored fs a b q → GoesTo q (λ shard. slice_index_or histories shard [])
+        → ((shard : ℕ) → shard < cache.config.shards → SeesMore cache.config (seen_of cache.config shard q) (slice_index_or histories shard [])) → LeavesFed devices cache.config restored fs a b histories
+    left-fed restored fs device.None device.None q histories so_far goes closed = so_far.turn
+    left-fed restored fs (device.Short a) (device.Short b) q histories so_far goes closed = so_far.turn
+    left-fed restored fs (device.Ready a) (device.Ready b) q histories so_far goes closed = λ before why opened keys start.
+        was-fed restored fs before a.dev b.dev a.cursor b.cursor so_far.first q why histories so_far.begun so_far.turn opened keys start goes closed
+    left-fed restored fs device.None (device.Short b) q histories so_far goes closed = absurd so_far.turn
+    left-fed restored fs device.None (device.Ready b) q histories so_far goes closed = absurd so_far.turn
+    left-fed restored fs (device.Short a) device.None q histories so_far goes closed = absurd so_far.turn
+    left-fed restored fs (device.Short a) (device.Ready b) q histories so_far goes closed = absurd so_far.turn
+    left-fed restored fs (device.Ready a) device.None q histories so_far goes closed = absurd so_far.turn
+    left-fed restored fs (device.Ready a) (device.Short b) q histories so_far goes closed = absurd so_far.turn

@@ -105,7 +105,7 @@ none-events : (g : Config) (shard : ℕ) (l : List Op) (feeds : List FeedDone) �
 none-events g shard [] feeds = refl
 none-events g shard (o ∷ l) feeds = refl
 
-feeder-lines : (g : Config) (shard : ℕ) (os more : List Op) (rs : List Reply) (feeds : List FeedDone) → length rs ≡ length os → events_of_lines g shard os rs feeds ≡ events_of_lines g shard (os ++ more) rs feeds
+pub feeder-lines : (g : Config) (shard : ℕ) (os more : List Op) (rs : List Reply) (feeds : List FeedDone) → length rs ≡ length os → events_of_lines g shard os rs feeds ≡ events_of_lines g shard (os ++ more) rs feeds
 feeder-lines g shard [] more [] feeds long = sym (none-events g shard more feeds)
 feeder-lines g shard [] more (r ∷ rs) feeds long = absurd (omega (arith, long))
 feeder-lines g shard (o ∷ os) more [] feeds long = absurd (omega (arith, long))
@@ -298,7 +298,7 @@ module _ (cache : Cache) (valid : IsConfig cache.config) (restored : List Restor
   history-is i l at = work-level dbuf_meanings cache restored blocks (os ++ more) ended-work rs h.closing closed h.ends count ended fronts all-level i l at
 
   -- what the feeder had seen between the groups begins it
-  since : (i : ℕ) (l : ShardLog) → get_elem? closed.shards i ≡ some l → StartsWith l.history (seen_of g i crew.feeder)
+  pub since : (i : ℕ) (l : ShardLog) → get_elem? closed.shards i ≡ some l → StartsWith l.history (seen_of g i crew.feeder)
   since i l at =
       let same : seen_of g i gave.feeder ≡ events_in (gave.lines i) = ap (λ (p : PartyPlace). seen_of g i p) (sym same-parties.1) ∙ ap events_in (levels.1 i) in
       let first : StartsWith l.history (seen_of g i gave.feeder) = (events_there g i c.ended.drops, history-is i l at ∙ ap (λ (es : List Event). es ++ events_there g i c.ended.drops) (sym same)) in

@@ -152,7 +152,7 @@ mapped : (trace : Trace) (restored : List Restored) (work : RunWork) (rs : List 
 mapped trace restored work rs closed e = record { shards = e.shards; legal = e.legal; ends = e.ends; at_rest = e.at_rest; begins = e.begins; every_call = e.every_call; made = e.made; ending = e.ending }
 
 module _ {P D : Type 0} (cache : Cache) (pools : Ghosts P) (devices : Devices D) (before after : P) (place : ℕ) (trace : Trace) (formed : IsFormed trace) (config : cache.config ≡ trace.config) (valid : IsConfig cache.config)
-    (was is : Option D) (ending : Ending) (restored : List Restored) (rs : List Reply) (work : RunWork) (crew : Crew OnHeap) (d : AreDone cache restored pools devices trace (between_groups before 1 place) after was is ending rs work crew)
+    (was is : Device D) (ending : Ending) (restored : List Restored) (rs : List Reply) (work : RunWork) (crew : Crew OnHeap) (d : AreDone cache restored pools devices trace (between_groups before 1 place) after was is ending rs work crew)
     (closed : Ended OnHeap) (h : HaveClosed dbuf_meanings cache crew closed) where
   abbrev callers : ℕ
   callers = cache.config.callers
@@ -252,7 +252,23 @@ module _ {P D : Type 0} (cache : Cache) (pools : Ghosts P) (devices : Devices D)
   objects : AreAnsweredByCells cache.config (pools.size before) (pools.told before) place closed.cells work.lines
   objects = run-objects cache valid restored (pools.size before) (pools.told before) place trace.blocks os more rs work crew come closed h below-all
 
-  pub group-together : RanTogether pools devices before after was is trace ending restored rs done-work closed
+  -- what its feeds leave of the cache device
+  pub group-fed : LeavesFed devices trace.config restored done-work.feeds was is (histories_of closed)
+  group-fed = left-explained dbuf_meanings devices cache valid trace config restored done-work rs (ends_in closed) (histories_of closed) explained was is crew.feeder d.reached.fed starts own
+    where
+      starts : (shard : ℕ) → shard < cache.config.shards → StartsWith (slice_index_or (histories_of closed) shard []) (seen_of cache.config shard crew.feeder)
+      starts shard below =
+          let l = there closed.shards shard (subst (λ (n : ℕ). shard < n) (sym h.ends.shards) below) in
+          subst (λ (es : List Event). StartsWith es (seen_of cache.config shard crew.feeder)) (sym (index-history closed.shards shard l.0 l.1))
+          (since cache valid restored (pools.size before) (pools.told before) place trace.blocks os more rs work crew come closed h shard l.0 l.1)
+
+      own : (shard : ℕ) → shard < cache.config.shards → own_events cache.config.callers (seen_of cache.config shard crew.feeder) ≡ events_by_feeder cache.config restored trace.ops rs work.feeds shard
+      own shard below =
+          subst (λ (n : ℕ). own_events n (seen_of cache.config shard crew.feeder) ≡ events_by_feeder cache.config restored os rs work.feeds shard) come.feeder.number (come.feeder.fed shard below)
+          ∙ (ap (λ (es : List Event). restores_in cache.config restored shard ++ es) (feeder-lines cache.config shard os more rs work.feeds (lines-long os rs work.lines come.did.lines).0)
+          ∙ ap (λ (l : List Op). events_by_feeder cache.config restored l rs work.feeds shard) whole-ops)
+
+  pub group-together : RanTogether pools devices before after (lent_in was) (lent_in is) trace ending restored rs done-work closed
   group-together = record {
     did = subst (λ (x : Config × List Op). IsRunWork x.0 x.1 rs done-work) (λ i. (config i, all-are ending d.ended i))
         (did-work cache valid restored (pools.size before) (pools.told before) place trace.blocks os more rs work crew come closed h);
@@ -285,7 +301,7 @@ module _ {P D : Type 0} (cache : Cache) (pools : Ghosts P) (devices : Devices D)
           subst (λ (x : Config × List Event × List Restored). IsCutLast x.0 x.2 trace.blocks shard t done-work x.1) (λ i. (config i, sym here i, sym found i))
           (run-cut-last cache valid restored (pools.size before) (pools.told before) place trace.blocks os more rs work crew come closed h shard t l.0 l.1 (d.last t stopped shard inside));
     };
-    used = subst (λ (g : Config). UsedInGroups devices trace.blocks g.callers (groups_done ending work.lines) work.feeds was is) config d.reached.used;
+    used = subst (λ (g : Config). UsedInGroups devices trace.blocks g.callers (groups_done ending work.lines) work.feeds (lent_in was) (lent_in is)) config d.reached.used;
     stopped = stops ending d.ended;
   }
     where

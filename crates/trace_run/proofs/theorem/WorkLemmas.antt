@@ -150,7 +150,7 @@ all-at P [] x a all at = absurd (some-ne-none a (sym at))
 all-at P (y ∷ ys) zero a all at = subst P (some-injective y a at) all.0
 all-at P (y ∷ ys) (suc x) a all at = all-at P ys x a all.1 at
 
-all-index : {A : Type 0} (P : List A → Type 0) (xs : List (List A)) (k : ℕ) → AllByRecursion P xs → k < length xs → P (slice_index_or xs k [])
+pub all-index : {A : Type 0} (P : List A → Type 0) (xs : List (List A)) (k : ℕ) → AllByRecursion P xs → k < length xs → P (slice_index_or xs k [])
 all-index P [] k all inside = absurd (omega (arith, inside))
 all-index P (x ∷ xs) zero all inside = all.0
 all-index P (x ∷ xs) (suc k) all inside = all-index P xs k all.1 (omega (arith, inside))

@@ -11,7 +11,7 @@ use Rattle.arc_core.specs.declared.config.Config.{Config}
 use Rattle.arc_table.specs.Fronts.{StartsWith, front_of}
 use Rattle.arc_table.specs.Items.{Meanings}
 use Rattle.arc_table.specs.Seen.{seen_of}
-use Rattle.dbuf_cells.specs.Turns.{OnHeap, PartyPlace}
+use Rattle.dbuf_cells.specs.Turns.{OnHeap, PartyPlace, dbuf_meanings}
 use Rattle.dbuf_state.specs.Numbers.{opening_numbers}
 use Rattle.dbuf_state.specs.Soundness.{IsSound}
 use Rattle.txg_sync.specs.Items.{SyncItem}
@@ -36,6 +36,8 @@ use Rattle.trace_run.specs.Answers.{AnswersFeed, is_pool_fault}
 use Rattle.trace_run.specs.CellEnds.{done_by}
 use Rattle.trace_run.specs.Deeds.{events_of_cell}
 use Rattle.trace_run.specs.callers.Group.{HaveWorked, IsAt, LeavesFront, LeavesPool}
+use Rattle.trace_run.specs.Devices.{lent_in}
+use Rattle.trace_run.specs.FeedSeries.{AreMadeSoFar}
 use Rattle.trace_run.specs.Feeds.{is_feed}
 use Rattle.trace_run.specs.KeptBlocks.{read_of}
 use Rattle.trace_run.specs.Lines.{caller_of, replies_where}
@@ -122,7 +124,7 @@ pub record MaySync {P : Type 0} (pools : Ghosts P) (lines : ℕ) (now : BetweenG
 
 -- What the callers, the pool and the cache device have come to by the groups of a trace that were done, of which so many lines are answered. Before them these were so; the first sync
 -- writes from the place `before.next` on; and so the lines ended, or they go on.
-pub record HaveReached {P D : Type 0} (cache : Cache) (restored : List Restored) (pools : Ghosts P) (devices : Devices D) (trace : Trace) (before now : BetweenGroups P) (was is : Option D) (ending : Ending) (replies : List Reply) (work : RunWork) (crew : Crew OnHeap) : Type 0 where
+pub record HaveReached {P D : Type 0} (cache : Cache) (restored : List Restored) (pools : Ghosts P) (devices : Devices D) (trace : Trace) (before now : BetweenGroups P) (was is : Device D) (ending : Ending) (replies : List Reply) (work : RunWork) (crew : Crew OnHeap) : Type 0 where
   pub few : length replies ≤ length trace.ops
   pub come : HaveCome cache restored (pools.size before.pool) (pools.told before.pool) before.next trace.blocks (take (length replies) trace.ops) replies work crew
   -- the feeder knows how the cells began
@@ -132,10 +134,12 @@ pub record HaveReached {P D : Type 0} (cache : Cache) (restored : List Restored)
   pub behind : before.next ≤ now.next
   pub counted : HaveCounted pools before.next cache.config.callers work.lines before.pool now.pool
   pub groups : WorkInGroups pools cache.config (StoodSo (openings_of trace) cache.config crew.feeder) [] (groups_done ending work.lines) before now
-  pub used : UsedInGroups devices trace.blocks cache.config.callers (groups_done ending work.lines) work.feeds was is
+  pub used : UsedInGroups devices trace.blocks cache.config.callers (groups_done ending work.lines) work.feeds (lent_in was) (lent_in is)
+  -- each feed went on where the one before it left the ring
+  pub fed : AreMadeSoFar dbuf_meanings devices cache restored work.feeds was is crew.feeder
 
 -- The callers stand between two groups of a trace.
-pub record AreBetween {P D : Type 0} (cache : Cache) (restored : List Restored) (pools : Ghosts P) (devices : Devices D) (trace : Trace) (before now : BetweenGroups P) (was is : Option D) (replies : List Reply) (work : RunWork) (crew : Crew OnHeap) : Type 0 where
+pub record AreBetween {P D : Type 0} (cache : Cache) (restored : List Restored) (pools : Ghosts P) (devices : Devices D) (trace : Trace) (before now : BetweenGroups P) (was is : Device D) (replies : List Reply) (work : RunWork) (crew : Crew OnHeap) : Type 0 where
   pub reached : HaveReached cache restored pools devices trace before now was is Whole replies work crew
   pub begins : length replies < length trace.ops → BeginsGroup trace.ops (length replies)
   pub goes_on : work.stopped ≡ no_work
@@ -192,7 +196,7 @@ EndsLines pools cache trace replies p work (Full need left) reached after =
     StopsSync pools cache.config (StoodSo (openings_of trace) cache.config p) trace replies work.lines work.stopped (sync_fault.PoolFull need left) reached after
 
 -- All lines of the trace were done; or a fork of the pool failed before the group of the first line that isn't answered; or a sync stopped at that line.
-pub record AreDone {P D : Type 0} (cache : Cache) (restored : List Restored) (pools : Ghosts P) (devices : Devices D) (trace : Trace) (before : BetweenGroups P) (after : P) (was is : Option D) (ending : Ending) (replies : List Reply) (work : RunWork) (crew : Crew OnHeap) : Type 0 where
+pub record AreDone {P D : Type 0} (cache : Cache) (restored : List Restored) (pools : Ghosts P) (devices : Devices D) (trace : Trace) (before : BetweenGroups P) (after : P) (was is : Device D) (ending : Ending) (replies : List Reply) (work : RunWork) (crew : Crew OnHeap) : Type 0 where
   pub now : BetweenGroups P
   pub reached : HaveReached cache restored pools devices trace before now was is ending replies work crew
   pub ended : EndsLines pools cache trace replies crew.feeder work ending now after
@@ -207,7 +211,7 @@ goes_on Sync = false
 goes_on (Full need left) = false
 
 -- The next group was done, and the lines go on; or none of it was begun, since a fork of the pool failed; or its lines were done, and its sync stopped.
-abbrev pub StepsOn : {P D : Type 0} → Cache → List Restored → Ghosts P → Devices D → Trace → (start after : BetweenGroups P) → (was is : Option D) → (replied replies : List Reply) → Ending → Crew OnHeap → Type 0
+abbrev pub StepsOn : {P D : Type 0} → Cache → List Restored → Ghosts P → Devices D → Trace → (start after : BetweenGroups P) → (was is : Device D) → (replied replies : List Reply) → Ending → Crew OnHeap → Type 0
 StepsOn cache restored pools devices trace start after was is replied replies Whole new =
     (work : RunWork) × AreBetween cache restored pools devices trace start after was is replies work new × (length replied < length replies)
 StepsOn cache restored pools devices trace start after was is replied replies Fork new = (work : RunWork) × AreDone cache restored pools devices trace start after.pool was is Fork replies work new

@@ -1,6 +1,5 @@
 use Rattle.std.proofs.Common.{◌≡◌, ◌-◌, ◌≤◌, false, List, [], length, vec_len}
 use Rattle.arc_core.specs.declared.served.Restored.{Restored}
-use Rattle.trace_run.specs.Devices.{lent_in}
 use Rattle.trace_run.specs.Feeds.{MayBeFed}
 use Rattle.trace_run.specs.Lines.{has_sync}
 use Rattle.trace_run.specs.RunWork.{RunWork}
@@ -13,8 +12,8 @@ use Rattle.trace_run.proofs.groups.all_groups.Given as goal
 abbrev pub invariant-loop-alloc : goal.invariant-loop-alloc
 invariant-loop-alloc g l = record {
   between : (restored : List Restored) (work : RunWork)
-      → AreBetween l.arcs restored g.P.Pool g.D.CacheDev l.trace (between_groups l.fn.pool l.fn.syncs.group l.fn.syncs.next) (between_groups l.fn.pool l.fn.syncs.group l.fn.syncs.next) (lent_in l.fn.device) (lent_in l.fn.device) [] work l.fn.crew
-      → (now : RunWork) × AreBetween l.arcs restored g.P.Pool g.D.CacheDev l.trace (between_groups l.fn.pool l.fn.syncs.group l.fn.syncs.next) (between_groups l.pool l.syncs.group l.syncs.next) (lent_in l.fn.device) (lent_in l.device) l.replies.items now l.crew;
+      → AreBetween l.arcs restored g.P.Pool g.D.CacheDev l.trace (between_groups l.fn.pool l.fn.syncs.group l.fn.syncs.next) (between_groups l.fn.pool l.fn.syncs.group l.fn.syncs.next) l.fn.device l.fn.device [] work l.fn.crew
+      → (now : RunWork) × AreBetween l.arcs restored g.P.Pool g.D.CacheDev l.trace (between_groups l.fn.pool l.fn.syncs.group l.fn.syncs.next) (between_groups l.pool l.syncs.group l.syncs.next) l.fn.device l.device l.replies.items now l.crew;
   later : l.fn.syncs.next ≤ l.syncs.next;
   leaves : LeavesFront g.P.Pool l.fn.syncs.next l.fn.pool l.pool;
   still : has_sync l.trace.ops ≡ false → LeavesPool g.P.Pool l.fn.pool l.pool;

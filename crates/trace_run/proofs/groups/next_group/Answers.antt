@@ -1,20 +1,20 @@
-use Rattle.std.proofs.Common.{◌≡◌, ◌<◌, ◌≤◌, ℕ, List, Some, length, vec_len, refl, sym, ap, ◌∙◌, subst, arith}
+use Rattle.std.proofs.Common.{◌≡◌, ◌<◌, ◌≤◌, ℕ, List, Some, length, vec_len, refl, sym, ap, ◌∙◌, subst, arith, rules}
 use Rattle.std.specs.Prelude.{slice_get, slice_range}
 use Rattle.std.proofs.lemmas.Option.{slice_get_read}
 use Rattle.blk_ptr.specs.declared.ptr.Ptr.{Ptr}
 use Rattle.arc_core.specs.declared.config.Config.{Config}
-use Rattle.dbuf_cells.specs.Turns.{dbuf_meanings}
 use Rattle.trace_text.specs.declared.op.Op.{Op}
 use Rattle.trace_run.specs.callers.Callers.{AreAtStart}
+use Rattle.trace_run.specs.Devices.{lent_in}
+use Rattle.trace_run.specs.callers.Groups.{ForkFailed}
 use Rattle.trace_run.specs.callers.InOrder.{AreInGroup}
 use Rattle.trace_run.specs.callers.Together.{between_groups}
 use Rattle.trace_run.specs.Tally.{AreDeclared}
 use Rattle.trace_run.proofs.callers.BesideLemmas.{fed-idle}
 use Rattle.trace_run.proofs.callers.EndLineLemmas.{IsUnused}
-use Rattle.trace_run.proofs.callers.FrontLemmas.{front-then, pool-front}
 use Rattle.trace_run.proofs.callers.GroupRunLemmas.{come-named, may-start}
-use Rattle.trace_run.proofs.callers.InUse.{in-use-same, tried-in-use}
-use Rattle.trace_run.proofs.callers.StepLemmas.{next-ended, next-forked, next-halted, next-last, next-may, next-number, next-still, next-sync, range-declared, range-group, unused-leaves}
+use Rattle.trace_run.proofs.callers.InUse.{tried-in-use}
+use Rattle.trace_run.proofs.callers.StepLemmas.{next-ended, next-forked, next-halted, next-last, next-may, next-number, next-still, next-sync, range-declared, range-group}
 use Rattle.trace_run.proofs.groups.next_group.Goals as goal
 
 -- ---- the lines of the group
@@ -47,7 +47,7 @@ pub returns-in_default-clause-did : goal.returns-in_default-clause-did
 returns-in_default-clause-did g c = λ start restored was work between.
     let first : c.len-first.result ≡ length c.args.replies.now.items = let is = c.len-first.ensures in let long = c.args.replies.now.ok.0 in omega (arith, is, long) in
     let unused : IsUnused g.P.Pool c.args.pool.now c.forks.new.pool = record { size = c.in-Ok.ensures.keeps.size; told = c.in-Ok.ensures.keeps.told; reads = c.in-Ok.ensures.unread; faults = c.in-Ok.ensures.unfailed } in
-    next-last dbuf_meanings c.args.arcs.now restored g.P.Pool g.D.CacheDev c.args.trace.now c.requires.formed c.requires.config start (between_groups c.args.pool.now c.args.syncs.group c.args.syncs.next) was c.forks.new.pool c.lines_at_once.new.pool c.args.device.now c.lines_at_once.new.device
+    next-last c.args.arcs.now restored g.P.Pool g.D.CacheDev c.args.trace.now c.requires.formed c.requires.config start (between_groups c.args.pool.now c.args.syncs.group c.args.syncs.next) was c.forks.new.pool c.lines_at_once.new.pool c.args.device.now c.lines_at_once.new.device
     c.args.replies.now.items c.in_ok-crew.answered.items work c.args.crew c.in_ok-crew.crew c.len-first.result c.group_end-to.result c.as_slice-blocks.result.now c.as_slice-ops.result.now c.as_slice-blocks.ensures c.as_slice-ops.ensures first
     c.group_end-to.ensures.range.0 c.group_end-to.ensures.range.1 c.group_end-to.ensures.inside between (let more = c.requires.more in let long = c.args.replies.now.ok.0 in omega (arith, more, long)) unused c.in_ok-crew.ensures.did c.in_ok-crew.ensures.feeder c.lines_at_once.ensures.pool c.in_default.ensures.lookup.3 c.append.new.replies.items c.in_ok-append.ensures
 
@@ -57,7 +57,7 @@ pub end_line-requires-clause-may : goal.end_line-requires-clause-may
 end_line-requires-clause-may g c κs within =
     let first : c.len-first.result ≡ length c.args.replies.now.items = let is = c.len-first.ensures in let long = c.args.replies.now.ok.0 in omega (arith, is, long) in
     let unused : IsUnused g.P.Pool c.args.pool.now c.forks.new.pool = record { size = c.in-Ok.ensures.keeps.size; told = c.in-Ok.ensures.keeps.told; reads = c.in-Ok.ensures.unread; faults = c.in-Ok.ensures.unfailed } in
-    next-may dbuf_meanings c.args.arcs.now c.requires.between.1 g.P.Pool g.D.CacheDev c.args.trace.now c.requires.formed c.requires.config c.requires.between.0 (between_groups c.args.pool.now c.args.syncs.group c.args.syncs.next) c.requires.between.2 c.forks.new.pool c.lines_at_once.new.pool c.args.device.now c.lines_at_once.new.device
+    next-may c.args.arcs.now c.requires.between.1 g.P.Pool g.D.CacheDev c.args.trace.now c.requires.formed c.requires.config c.requires.between.0 (between_groups c.args.pool.now c.args.syncs.group c.args.syncs.next) c.requires.between.2 c.forks.new.pool c.lines_at_once.new.pool c.args.device.now c.lines_at_once.new.device
     c.args.replies.now.items c.in_ok-crew.answered.items c.requires.between.3 c.args.crew c.in_ok-crew.crew c.len-first.result c.group_end-to.result c.as_slice-blocks.result.now c.as_slice-ops.result.now c.as_slice-blocks.ensures c.as_slice-ops.ensures first
     c.group_end-to.ensures.range.0 c.group_end-to.ensures.range.1 c.group_end-to.ensures.inside c.requires.between.4 (let more = c.requires.more in let long = c.args.replies.now.ok.0 in omega (arith, more, long)) unused c.in_ok-crew.ensures.did c.in_ok-crew.ensures.feeder c.lines_at_once.ensures.pool c.requires.rows
 
@@ -65,7 +65,7 @@ pub end_line-requires-clause-feeder : goal.end_line-requires-clause-feeder
 end_line-requires-clause-feeder g c κs within =
     let first : c.len-first.result ≡ length c.args.replies.now.items = let is = c.len-first.ensures in let long = c.args.replies.now.ok.0 in omega (arith, is, long) in
     let unused : IsUnused g.P.Pool c.args.pool.now c.forks.new.pool = record { size = c.in-Ok.ensures.keeps.size; told = c.in-Ok.ensures.keeps.told; reads = c.in-Ok.ensures.unread; faults = c.in-Ok.ensures.unfailed } in
-    next-number dbuf_meanings c.args.arcs.now c.requires.between.1 g.P.Pool g.D.CacheDev c.args.trace.now c.requires.formed c.requires.config c.requires.between.0 (between_groups c.args.pool.now c.args.syncs.group c.args.syncs.next) c.requires.between.2 c.forks.new.pool c.lines_at_once.new.pool c.args.device.now c.lines_at_once.new.device
+    next-number c.args.arcs.now c.requires.between.1 g.P.Pool g.D.CacheDev c.args.trace.now c.requires.formed c.requires.config c.requires.between.0 (between_groups c.args.pool.now c.args.syncs.group c.args.syncs.next) c.requires.between.2 c.forks.new.pool c.lines_at_once.new.pool c.args.device.now c.lines_at_once.new.device
     c.args.replies.now.items c.in_ok-crew.answered.items c.requires.between.3 c.args.crew c.in_ok-crew.crew c.len-first.result c.group_end-to.result c.as_slice-blocks.result.now c.as_slice-ops.result.now c.as_slice-blocks.ensures c.as_slice-ops.ensures first
     c.group_end-to.ensures.range.0 c.group_end-to.ensures.range.1 c.group_end-to.ensures.inside c.requires.between.4 (let more = c.requires.more in let long = c.args.replies.now.ok.0 in omega (arith, more, long)) unused c.in_ok-crew.ensures.did c.in_ok-crew.ensures.feeder c.lines_at_once.ensures.pool
 
@@ -78,7 +78,7 @@ pub end_line-requires-clause-sync : goal.end_line-requires-clause-sync
 end_line-requires-clause-sync g c κs within =
     let first : c.len-first.result ≡ length c.args.replies.now.items = let is = c.len-first.ensures in let long = c.args.replies.now.ok.0 in omega (arith, is, long) in
     let unused : IsUnused g.P.Pool c.args.pool.now c.forks.new.pool = record { size = c.in-Ok.ensures.keeps.size; told = c.in-Ok.ensures.keeps.told; reads = c.in-Ok.ensures.unread; faults = c.in-Ok.ensures.unfailed } in
-    next-sync dbuf_meanings c.args.arcs.now c.requires.between.1 g.P.Pool g.D.CacheDev c.args.trace.now c.requires.formed c.requires.config c.requires.between.0 (between_groups c.args.pool.now c.args.syncs.group c.args.syncs.next) c.requires.between.2 c.forks.new.pool c.lines_at_once.new.pool c.args.device.now c.lines_at_once.new.device
+    next-sync c.args.arcs.now c.requires.between.1 g.P.Pool g.D.CacheDev c.args.trace.now c.requires.formed c.requires.config c.requires.between.0 (between_groups c.args.pool.now c.args.syncs.group c.args.syncs.next) c.requires.between.2 c.forks.new.pool c.lines_at_once.new.pool c.args.device.now c.lines_at_once.new.device
     c.args.replies.now.items c.in_ok-crew.answered.items c.requires.between.3 c.args.crew c.in_ok-crew.crew c.len-first.result c.group_end-to.result c.as_slice-blocks.result.now c.as_slice-ops.result.now c.as_slice-blocks.ensures c.as_slice-ops.ensures first
     c.group_end-to.ensures.range.0 c.group_end-to.ensures.range.1 c.group_end-to.ensures.inside c.requires.between.4 (let more = c.requires.more in let long = c.args.replies.now.ok.0 in omega (arith, more, long)) unused c.in_ok-crew.ensures.did c.in_ok-crew.ensures.feeder c.lines_at_once.ensures.pool
 
@@ -87,7 +87,7 @@ returns-in_ok-push-in-Ok-came-clause-did g c = λ start restored was work betwee
     let first : c.len-first.result ≡ length c.args.replies.now.items = let is = c.len-first.ensures in let long = c.args.replies.now.ok.0 in omega (arith, is, long) in
     let unused : IsUnused g.P.Pool c.args.pool.now c.forks.new.pool = record { size = c.in-Ok.ensures.keeps.size; told = c.in-Ok.ensures.keeps.told; reads = c.in-Ok.ensures.unread; faults = c.in-Ok.ensures.unfailed } in
     let here : slice_get c.as_slice-ops.result.now c.group_end-to.result ≡ Some c.in-Some.op.now = slice_get_read c.as_slice-ops.result.now _ c.group_end-to.result c.in-Some.op.now refl c.in-Some.ensures.lookup.3.0 c.in-Some.ensures.lookup.1 in
-    next-ended dbuf_meanings c.args.arcs.now restored g.P.Pool g.D.CacheDev c.args.trace.now c.requires.formed c.requires.config start (between_groups c.args.pool.now c.args.syncs.group c.args.syncs.next) was c.forks.new.pool c.lines_at_once.new.pool c.args.device.now c.lines_at_once.new.device
+    next-ended c.args.arcs.now restored g.P.Pool g.D.CacheDev c.args.trace.now c.requires.formed c.requires.config start (between_groups c.args.pool.now c.args.syncs.group c.args.syncs.next) was c.forks.new.pool c.lines_at_once.new.pool c.args.device.now c.lines_at_once.new.device
     c.args.replies.now.items c.in_ok-crew.answered.items work c.args.crew c.in_ok-crew.crew c.len-first.result c.group_end-to.result c.as_slice-blocks.result.now c.as_slice-ops.result.now c.as_slice-blocks.ensures c.as_slice-ops.ensures first
     c.group_end-to.ensures.range.0 c.group_end-to.ensures.range.1 c.group_end-to.ensures.inside between (let more = c.requires.more in let long = c.args.replies.now.ok.0 in omega (arith, more, long)) unused c.in_ok-crew.ensures.did c.in_ok-crew.ensures.feeder c.lines_at_once.ensures.pool
     c.in-Some.op.now here c.in_ok-crew-2.crew (between_groups c.end_line.new.pool c.in_ok-crew-2.syncs.group c.in_ok-crew-2.syncs.next) c.in_ok-crew-2.came c.in-Ok-came.reply c.in-Ok-came.is c.in_ok-crew-2.ensures.did c.append.new.replies.items c.push.new.self.items c.in_ok-append.ensures c.in_ok-push-in-Ok-came.ensures.items
@@ -97,10 +97,55 @@ returns-in-Err-clause-did g c = λ start restored was work between.
     let first : c.len-first.result ≡ length c.args.replies.now.items = let is = c.len-first.ensures in let long = c.args.replies.now.ok.0 in omega (arith, is, long) in
     let unused : IsUnused g.P.Pool c.args.pool.now c.forks.new.pool = record { size = c.in-Ok.ensures.keeps.size; told = c.in-Ok.ensures.keeps.told; reads = c.in-Ok.ensures.unread; faults = c.in-Ok.ensures.unfailed } in
     let here : slice_get c.as_slice-ops.result.now c.group_end-to.result ≡ Some c.in-Some.op.now = slice_get_read c.as_slice-ops.result.now _ c.group_end-to.result c.in-Some.op.now refl c.in-Some.ensures.lookup.3.0 c.in-Some.ensures.lookup.1 in
-    next-halted dbuf_meanings c.args.arcs.now restored g.P.Pool g.D.CacheDev c.args.trace.now c.requires.formed c.requires.config start (between_groups c.args.pool.now c.args.syncs.group c.args.syncs.next) was c.forks.new.pool c.lines_at_once.new.pool c.args.device.now c.lines_at_once.new.device
+    next-halted c.args.arcs.now restored g.P.Pool g.D.CacheDev c.args.trace.now c.requires.formed c.requires.config start (between_groups c.args.pool.now c.args.syncs.group c.args.syncs.next) was c.forks.new.pool c.lines_at_once.new.pool c.args.device.now c.lines_at_once.new.device
     c.args.replies.now.items c.in_ok-crew.answered.items work c.args.crew c.in_ok-crew.crew c.len-first.result c.group_end-to.result c.as_slice-blocks.result.now c.as_slice-ops.result.now c.as_slice-blocks.ensures c.as_slice-ops.ensures first
     c.group_end-to.ensures.range.0 c.group_end-to.ensures.range.1 c.group_end-to.ensures.inside between (let more = c.requires.more in let long = c.args.replies.now.ok.0 in omega (arith, more, long)) unused c.in_ok-crew.ensures.did c.in_ok-crew.ensures.feeder c.lines_at_once.ensures.pool
     c.in-Some.op.now here c.in_ok-crew-2.crew (between_groups c.end_line.new.pool c.in_ok-crew-2.syncs.group c.in_ok-crew-2.syncs.next) c.in_ok-crew-2.came c.in-Err.ending c.in-Err.is c.in_ok-crew-2.ensures.did c.append.new.replies.items c.in_ok-append.ensures
+
+-- ---- a fork failed
+
+pub returns-in-Err-Failed-clause-did : goal.returns-in-Err-Failed-clause-did
+returns-in-Err-Failed-clause-did g c = λ start restored was work between.
+    let failed : ForkFailed g.P.Pool c.args.pool.now c.forks.new.pool = search rules in
+    next-forked c.args.arcs.now restored g.P.Pool g.D.CacheDev c.args.trace.now start (between_groups c.args.pool.now c.args.syncs.group c.args.syncs.next) was (lent_in c.args.device.now) c.forks.new.pool c.args.replies.now.items work c.args.crew between
+    (let more = c.requires.more in let long = c.args.replies.now.ok.0 in omega (arith, more, long)) failed
+
+-- ---- the device
+
+pub returns-in_err-crew-clause-used : goal.returns-in_err-crew-clause-used
+returns-in_err-crew-clause-used g c =
+    let tried = c.lines_at_once.ensures.tried in
+    tried-in-use dbuf_meanings g.D.CacheDev c.args.arcs.now _ c.args.device.now c.lines_at_once.new.device c.args.crew.feeder tried.0 tried.1
+
+pub returns-in_err-append-clause-used : goal.returns-in_err-append-clause-used
+returns-in_err-append-clause-used g c =
+    let tried = c.lines_at_once.ensures.tried in
+    tried-in-use dbuf_meanings g.D.CacheDev c.args.arcs.now _ c.args.device.now c.lines_at_once.new.device c.args.crew.feeder tried.0 tried.1
+
+pub returns-in_default-clause-used : goal.returns-in_default-clause-used
+returns-in_default-clause-used g c =
+    let tried = c.lines_at_once.ensures.tried in
+    tried-in-use dbuf_meanings g.D.CacheDev c.args.arcs.now _ c.args.device.now c.lines_at_once.new.device c.args.crew.feeder tried.0 tried.1
+
+pub returns-in_err-crew-2-clause-used : goal.returns-in_err-crew-2-clause-used
+returns-in_err-crew-2-clause-used g c =
+    let tried = c.lines_at_once.ensures.tried in
+    tried-in-use dbuf_meanings g.D.CacheDev c.args.arcs.now _ c.args.device.now c.lines_at_once.new.device c.args.crew.feeder tried.0 tried.1
+
+pub returns-in_err-push-in-Ok-came-clause-used : goal.returns-in_err-push-in-Ok-came-clause-used
+returns-in_err-push-in-Ok-came-clause-used g c =
+    let tried = c.lines_at_once.ensures.tried in
+    tried-in-use dbuf_meanings g.D.CacheDev c.args.arcs.now _ c.args.device.now c.lines_at_once.new.device c.args.crew.feeder tried.0 tried.1
+
+pub returns-in_ok-push-in-Ok-came-clause-used : goal.returns-in_ok-push-in-Ok-came-clause-used
+returns-in_ok-push-in-Ok-came-clause-used g c =
+    let tried = c.lines_at_once.ensures.tried in
+    tried-in-use dbuf_meanings g.D.CacheDev c.args.arcs.now _ c.args.device.now c.lines_at_once.new.device c.args.crew.feeder tried.0 tried.1
+
+pub returns-in-Err-clause-used : goal.returns-in-Err-clause-used
+returns-in-Err-clause-used g c =
+    let tried = c.lines_at_once.ensures.tried in
+    tried-in-use dbuf_meanings g.D.CacheDev c.args.arcs.now _ c.args.device.now c.lines_at_once.new.device c.args.crew.feeder tried.0 tried.1
 
 -- ---- the pool, where no sync is asked for
 

@@ -3,7 +3,6 @@ use Rattle.std.proofs.Common.{◌≡◌, ◌⊎◌, ℕ, List, [], length, refl,
 use Rattle.arc_core.specs.Config.{IsConfig}
 use Rattle.arc_core.specs.declared.config.Config.{Config}
 use Rattle.blk_ptr.specs.declared.ptr.Ptr.{Ptr}
-use Rattle.trace_run.specs.Devices.{lent_in}
 use Rattle.trace_run.specs.Feeds.{MayBeFed}
 use Rattle.trace_run.specs.Openings.{AllKnow, openings_of}
 use Rattle.trace_run.specs.RunWork.{plain_work}
@@ -12,7 +11,7 @@ use Rattle.trace_run.proofs.OpenLemmas.{last-knows}
 use Rattle.trace_run.proofs.callers.GroupRunLemmas.{come-wait, lines-acts, lines-noted, may-resize}
 use Rattle.trace_run.proofs.callers.GroupsLemmas.{crew-rows, have-started}
 use Rattle.trace_run.proofs.callers.StepLemmas.{between-begun, first-may}
-use Rattle.trace_run.proofs.theorem.TogetherRun.{group-together}
+use Rattle.trace_run.proofs.theorem.TogetherRun.{group-fed, group-together}
 use Rattle.trace_run.proofs.together.run_together.Goals as goal
 
 pub crew_of-requires : goal.crew_of-requires
@@ -40,7 +39,7 @@ all_groups-requires-clause-between g c κs within =
     let many : length c.in_ok-crew.crew.kept.items ≡ length c.in_ok-crew.crew.parties.items = let a = c.in_ok-crew.crew.kept.ok.0 in let b = c.in_ok-crew.crew.parties.ok.0 in let e = c.in_ok-crew.ensures.count in omega (arith, a, b, e) in
     let place : IsFirstPlace (g.P.Pool.size c.args.pool.now) c.args.trace.now.blocks c.first_place.result =
     subst (λ (x : ℕ × List Ptr). IsFirstPlace x.0 x.1 c.first_place.result) (λ i. (c.len.ensures i, c.as_slice.ensures i)) c.first_place.ensures.place in
-    let begun = between-begun c.in_ok-arcs.arcs c.args.restored.now g.P.Pool g.D.CacheDev c.args.trace.now (between_groups c.args.pool.now 1 c.first_place.result) (lent_in c.args.device.now) c.in_ok-arcs.parties.items c.in_ok-crew.crew c.in_ok-crew-2.crew
+    let begun = between-begun c.in_ok-arcs.arcs c.args.restored.now g.P.Pool g.D.CacheDev c.args.trace.now (between_groups c.args.pool.now 1 c.first_place.result) c.args.device.now c.in_ok-arcs.parties.items c.in_ok-crew.crew c.in_ok-crew-2.crew
     c.in_ok-arcs.ensures.parties c.in_ok-crew.ensures.parties c.in_ok-crew.ensures.none many c.in_ok-crew-2.ensures.made c.in_ok-crew-2.ensures.kept
     (last-knows (openings_of c.args.trace.now) c.in_ok-crew.crew.parties.items c.in_ok-crew.crew.feeder (subst (AllKnow (openings_of c.args.trace.now)) c.in_ok-crew.ensures.parties c.in_ok-arcs.ensures.known))
     place (first-may g.P.Pool c.args.pool.now c.first_place.result c.len.result c.first_place.ensures.aligned c.first_place.ensures.inside c.len.ensures) in
@@ -55,7 +54,7 @@ close_crew-requires-clause-callers g c =
     let many : length c.in_ok-crew.crew.kept.items ≡ length c.in_ok-crew.crew.parties.items = let a = c.in_ok-crew.crew.kept.ok.0 in let b = c.in_ok-crew.crew.parties.ok.0 in let e = c.in_ok-crew.ensures.count in omega (arith, a, b, e) in
     let place : IsFirstPlace (g.P.Pool.size c.args.pool.now) c.args.trace.now.blocks c.first_place.result =
     subst (λ (x : ℕ × List Ptr). IsFirstPlace x.0 x.1 c.first_place.result) (λ i. (c.len.ensures i, c.as_slice.ensures i)) c.first_place.ensures.place in
-    let begun = between-begun c.in_ok-arcs.arcs c.args.restored.now g.P.Pool g.D.CacheDev c.args.trace.now (between_groups c.args.pool.now 1 c.first_place.result) (lent_in c.args.device.now) c.in_ok-arcs.parties.items c.in_ok-crew.crew c.in_ok-crew-2.crew
+    let begun = between-begun c.in_ok-arcs.arcs c.args.restored.now g.P.Pool g.D.CacheDev c.args.trace.now (between_groups c.args.pool.now 1 c.first_place.result) c.args.device.now c.in_ok-arcs.parties.items c.in_ok-crew.crew c.in_ok-crew-2.crew
     c.in_ok-arcs.ensures.parties c.in_ok-crew.ensures.parties c.in_ok-crew.ensures.none many c.in_ok-crew-2.ensures.made c.in_ok-crew-2.ensures.kept
     (last-knows (openings_of c.args.trace.now) c.in_ok-crew.crew.parties.items c.in_ok-crew.crew.feeder (subst (AllKnow (openings_of c.args.trace.now)) c.in_ok-crew.ensures.parties c.in_ok-arcs.ensures.known))
     place (first-may g.P.Pool c.args.pool.now c.first_place.result c.len.result c.first_place.ensures.aligned c.first_place.ensures.inside c.len.ensures) in
@@ -68,7 +67,7 @@ close_crew-requires-clause-feeder g c =
     let many : length c.in_ok-crew.crew.kept.items ≡ length c.in_ok-crew.crew.parties.items = let a = c.in_ok-crew.crew.kept.ok.0 in let b = c.in_ok-crew.crew.parties.ok.0 in let e = c.in_ok-crew.ensures.count in omega (arith, a, b, e) in
     let place : IsFirstPlace (g.P.Pool.size c.args.pool.now) c.args.trace.now.blocks c.first_place.result =
     subst (λ (x : ℕ × List Ptr). IsFirstPlace x.0 x.1 c.first_place.result) (λ i. (c.len.ensures i, c.as_slice.ensures i)) c.first_place.ensures.place in
-    let begun = between-begun c.in_ok-arcs.arcs c.args.restored.now g.P.Pool g.D.CacheDev c.args.trace.now (between_groups c.args.pool.now 1 c.first_place.result) (lent_in c.args.device.now) c.in_ok-arcs.parties.items c.in_ok-crew.crew c.in_ok-crew-2.crew
+    let begun = between-begun c.in_ok-arcs.arcs c.args.restored.now g.P.Pool g.D.CacheDev c.args.trace.now (between_groups c.args.pool.now 1 c.first_place.result) c.args.device.now c.in_ok-arcs.parties.items c.in_ok-crew.crew c.in_ok-crew-2.crew
     c.in_ok-arcs.ensures.parties c.in_ok-crew.ensures.parties c.in_ok-crew.ensures.none many c.in_ok-crew-2.ensures.made c.in_ok-crew-2.ensures.kept
     (last-knows (openings_of c.args.trace.now) c.in_ok-crew.crew.parties.items c.in_ok-crew.crew.feeder (subst (AllKnow (openings_of c.args.trace.now)) c.in_ok-crew.ensures.parties c.in_ok-arcs.ensures.known))
     place (first-may g.P.Pool c.args.pool.now c.first_place.result c.len.result c.first_place.ensures.aligned c.first_place.ensures.inside c.len.ensures) in
@@ -80,7 +79,7 @@ close_crew-requires-clause-count g c =
     let many : length c.in_ok-crew.crew.kept.items ≡ length c.in_ok-crew.crew.parties.items = let a = c.in_ok-crew.crew.kept.ok.0 in let b = c.in_ok-crew.crew.parties.ok.0 in let e = c.in_ok-crew.ensures.count in omega (arith, a, b, e) in
     let place : IsFirstPlace (g.P.Pool.size c.args.pool.now) c.args.trace.now.blocks c.first_place.result =
     subst (λ (x : ℕ × List Ptr). IsFirstPlace x.0 x.1 c.first_place.result) (λ i. (c.len.ensures i, c.as_slice.ensures i)) c.first_place.ensures.place in
-    let begun = between-begun c.in_ok-arcs.arcs c.args.restored.now g.P.Pool g.D.CacheDev c.args.trace.now (between_groups c.args.pool.now 1 c.first_place.result) (lent_in c.args.device.now) c.in_ok-arcs.parties.items c.in_ok-crew.crew c.in_ok-crew-2.crew
+    let begun = between-begun c.in_ok-arcs.arcs c.args.restored.now g.P.Pool g.D.CacheDev c.args.trace.now (between_groups c.args.pool.now 1 c.first_place.result) c.args.device.now c.in_ok-arcs.parties.items c.in_ok-crew.crew c.in_ok-crew-2.crew
     c.in_ok-arcs.ensures.parties c.in_ok-crew.ensures.parties c.in_ok-crew.ensures.none many c.in_ok-crew-2.ensures.made c.in_ok-crew-2.ensures.kept
     (last-knows (openings_of c.args.trace.now) c.in_ok-crew.crew.parties.items c.in_ok-crew.crew.feeder (subst (AllKnow (openings_of c.args.trace.now)) c.in_ok-crew.ensures.parties c.in_ok-arcs.ensures.known))
     place (first-may g.P.Pool c.args.pool.now c.first_place.result c.len.result c.first_place.ensures.aligned c.first_place.ensures.inside c.len.ensures) in
@@ -94,14 +93,17 @@ returns-clause-ran g c =
     let many : length c.in_ok-crew.crew.kept.items ≡ length c.in_ok-crew.crew.parties.items = let a = c.in_ok-crew.crew.kept.ok.0 in let b = c.in_ok-crew.crew.parties.ok.0 in let e = c.in_ok-crew.ensures.count in omega (arith, a, b, e) in
     let place : IsFirstPlace (g.P.Pool.size c.args.pool.now) c.args.trace.now.blocks c.first_place.result =
     subst (λ (x : ℕ × List Ptr). IsFirstPlace x.0 x.1 c.first_place.result) (λ i. (c.len.ensures i, c.as_slice.ensures i)) c.first_place.ensures.place in
-    let begun = between-begun c.in_ok-arcs.arcs c.args.restored.now g.P.Pool g.D.CacheDev c.args.trace.now (between_groups c.args.pool.now 1 c.first_place.result) (lent_in c.args.device.now) c.in_ok-arcs.parties.items c.in_ok-crew.crew c.in_ok-crew-2.crew
+    let begun = between-begun c.in_ok-arcs.arcs c.args.restored.now g.P.Pool g.D.CacheDev c.args.trace.now (between_groups c.args.pool.now 1 c.first_place.result) c.args.device.now c.in_ok-arcs.parties.items c.in_ok-crew.crew c.in_ok-crew-2.crew
     c.in_ok-arcs.ensures.parties c.in_ok-crew.ensures.parties c.in_ok-crew.ensures.none many c.in_ok-crew-2.ensures.made c.in_ok-crew-2.ensures.kept
     (last-knows (openings_of c.args.trace.now) c.in_ok-crew.crew.parties.items c.in_ok-crew.crew.feeder (subst (AllKnow (openings_of c.args.trace.now)) c.in_ok-crew.ensures.parties c.in_ok-arcs.ensures.known))
     place (first-may g.P.Pool c.args.pool.now c.first_place.result c.len.result c.first_place.ensures.aligned c.first_place.ensures.inside c.len.ensures) in
     let done = c.in_ok-crew-3.ensures.done c.args.restored.now (plain_work [] []) begun in
     let config = c.in_ok-arcs.ensures.config in
-    let valid : IsConfig c.in_ok-arcs.arcs.config = subst IsConfig (sym config) c.requires.formed.config in (
+    let valid : IsConfig c.in_ok-arcs.arcs.config = subst IsConfig (sym config) c.requires.formed.config in
+    (
       _,
-      group-together c.in_ok-arcs.arcs g.P.Pool g.D.CacheDev c.args.pool.now c.all_groups.new.pool c.first_place.result c.args.trace.now c.requires.formed config valid (lent_in c.args.device.now) (lent_in c.all_groups.new.device) _ c.args.restored.now _ done.0 _ done.1
+      group-together c.in_ok-arcs.arcs g.P.Pool g.D.CacheDev c.args.pool.now c.all_groups.new.pool c.first_place.result c.args.trace.now c.requires.formed config valid c.args.device.now c.all_groups.new.device _ c.args.restored.now _ done.0 _ done.1
+          c.in_ok-closed.closed c.in_ok-closed.ensures,
+      group-fed c.in_ok-arcs.arcs g.P.Pool g.D.CacheDev c.args.pool.now c.all_groups.new.pool c.first_place.result c.args.trace.now c.requires.formed config valid c.args.device.now c.all_groups.new.device _ c.args.restored.now _ done.0 _ done.1
           c.in_ok-closed.closed c.in_ok-closed.ensures,
     )
