@@ -31,12 +31,12 @@ is_undone callers (ops.Hold n t x) = false
 is_undone callers (ops.Drop n x) = false
 is_undone callers (ops.Cap c) = false
 is_undone callers (ops.Txg t) = callers == 1
-is_undone callers (ops.Get n t at window) = true
-is_undone callers (ops.Put n t at size fill) = true
-is_undone callers (ops.Patch n t at from bytes) = true
-is_undone callers (ops.Pin n t at) = true
-is_undone callers (ops.Unpin n at) = true
-is_undone callers ops.Feed = true
+is_undone callers (ops.Get n t at window) = callers == 1
+is_undone callers (ops.Put n t at size fill) = callers == 1
+is_undone callers (ops.Patch n t at from bytes) = callers == 1
+is_undone callers (ops.Pin n t at) = callers == 1
+is_undone callers (ops.Unpin n at) = callers == 1
+is_undone callers ops.Feed = callers == 1
 
 -- an operation of the trace is none that the program does yet
 abbrev pub has_undone : Trace → Bool

@@ -1,7 +1,6 @@
 pub mod Access
 pub mod Alone
 pub mod Asking
-pub mod InTurn
 pub mod Lent
 pub mod OneCaller
 pub mod OverShards

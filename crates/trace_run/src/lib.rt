@@ -13,7 +13,6 @@ mod get;
 mod group;
 mod groups;
 mod in_order;
-mod in_turn;
 mod kept_blocks;
 mod lines;
 mod objects;

@@ -13,9 +13,8 @@ ghost use Rattle.trace_run.specs.Restores.{found_keys};
 ghost use Rattle.trace_run.specs.Words.{IsInRange};
 ghost use Rattle.trace_run.specs.declared.words.Command.TheVariants as command;
 
-use crate::alone::{is_plain, run_alone};
+use crate::alone::run_alone;
 use crate::device::Device;
-use crate::in_turn::run_one;
 use crate::ran::Reported;
 use crate::together::run_together;
 use crate::zero_pool::ZeroPool;
@@ -58,13 +57,10 @@ pub(crate) fn run_trace<R: Threads + Wait + Sync, P: Pool, D: CacheDev, G: Gate>
     ensures pool { LeavesDeclared P.Pool trace.now.blocks pool.old pool.new }
     ensures device { WasInUse D.CacheDev device.old device.new }
 {
-    let restored = found_keys(&rebuilt);
-    let ran = if trace.config.callers > 1 {
-        run_together(alloc, rt, trace, restored, pool, device, gate)?
-    } else if is_plain(trace.ops.as_slice()) {
-        run_alone(alloc, rt, trace, restored, pool, device, gate)?
+    let ran = if trace.config.callers == 1 {
+        run_alone(alloc, rt, trace, found_keys(&rebuilt), pool, device, gate)?
     } else {
-        run_one(alloc, rt, trace, restored, pool, device, gate)?
+        run_together(alloc, rt, trace, found_keys(&rebuilt), pool, device, gate)?
     };
     let reported = ran.report(alloc, rebuilt)?;
     Ok(reported)

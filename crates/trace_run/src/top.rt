@@ -158,7 +158,7 @@ fn read_source<S: Source>(alloc: Global, source: &mut S) -> Result<Trace, Status
     };
     match read_trace(alloc, &text) {
         Ok(trace) if has_undone(&trace) => Err(Status::BadTrace {
-            line: first_undone(trace.config.callers, &text),
+            line: first_undone(&text),
             kind: Kind::Word,
         }),
         Ok(trace) => Ok(trace),

@@ -31,6 +31,7 @@ use Rattle.l2_feed.specs.Series.{GivesNone}
 use Rattle.trace_text.specs.declared.op.Op.{Op}
 use Rattle.trace_text.specs.declared.rebuilt.Rebuilt.{Rebuilt}
 use Rattle.trace_text.specs.declared.reply.Reply.{Reply}
+use Rattle.trace_text.specs.declared.ends.ShardEnd.{ShardEnd}
 use Rattle.trace_text.specs.declared.trace.Trace.{Trace}
 use Rattle.trace_run.specs.declared.device.Device.{Device}
 use Rattle.trace_run.specs.declared.device.Device.TheVariants as device
@@ -89,10 +90,12 @@ module _ (g : Config) (restored : List Restored) where
   apart j n differs same = differs (omega (arith, same))
 
   front-far : (n j : ℕ) → n ≤ j → front_of (turn_of g j) (fronts n) ≡ []
+  unfolding fronts
   front-far zero j far = refl
   front-far (suc n) j far = front_else (turn_of g n) (turn_of g j) (map line.Event (restores_in g restored n)) (fronts n) (apart j n (λ same. absurd (omega (arith, same, far)))) ∙ front-far n j (omega (arith, far))
 
   front-in : (n j : ℕ) → j < n → front_of (turn_of g j) (fronts n) ≡ map line.Event (restores_in g restored j)
+  unfolding fronts
   front-in zero j below = absurd (omega (arith, below))
   front-in (suc n) j below = elim (cases_lt j n) [
     | inl less ↦ front_else (turn_of g n) (turn_of g j) (map line.Event (restores_in g restored n)) (fronts n) (apart j n (λ same. absurd (omega (arith, same, less)))) ∙ front-in n j less

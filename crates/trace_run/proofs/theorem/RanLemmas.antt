@@ -1,4 +1,5 @@
 -- What a run over the shared cache came to is what its report has to say.
+use Rattle.std.specs.List.{list_any}
 use Rattle.std.proofs.lemmas.Option.{slice_get_within}
 use Rattle.std.proofs.Common.{◌≡◌, ℕ, ◌+◌, ◌<◌, ◌≤◌, ◌^◌, false, List, [], ◌∷◌, length, take, Option, Some, None, IfSome, refl, sym, ap, subst, ◌∙◌, arith}
 use Rattle.arc_core.specs.declared.event.Event.{Event}
@@ -22,7 +23,7 @@ use Rattle.dbuf_cells.specs.Turns.{OnHeap}
 use Rattle.trace_run.specs.callers.GroupRun.{RanTogether}
 use Rattle.trace_run.specs.CellEnds.{AreCellsOf}
 use Rattle.trace_run.specs.Devices.{IsHandedBack}
-use Rattle.trace_run.specs.Lines.{has_undone}
+use Rattle.trace_run.specs.Lines.{has_undone, is_undone}
 use Rattle.trace_run.specs.ObjectAnswers.{IsAnsweredBy}
 use Rattle.trace_run.specs.ObjectLines.{OnObject}
 use Rattle.trace_run.specs.Objects.{Line}
@@ -53,8 +54,12 @@ both-told (Some x) None each is = tt
 both-told (Some x) (Some y) each is = each x y is
 
 module _ {P D : Type 0} (pools : Ghosts P) (devices : DeviceGhosts D) (before after : P) (lent back : Option D) (trace : Trace) (rebuilt : Option Rebuilt) (replies : List Reply) (closed : Ended OnHeap) where
+  -- none of its lines is one that needs more
+  only-plain : has_undone trace ≡ false → trace.config.callers ≡ 1 → list_any (is_undone 1) trace.ops ≡ false
+  only-plain done one = subst (λ (n : ℕ). list_any (is_undone n) trace.ops ≡ false) one done
+
   -- One caller's run, none of whose lines did anything beside its reply.
-  alone-run : (done : has_undone trace ≡ false) → IsFormed trace → trace.config.callers ≡ 1 → RanAlone pools before after trace (found_keys rebuilt) replies closed
+  alone-run : (done : list_any (is_undone 1) trace.ops ≡ false) → IsFormed trace → trace.config.callers ≡ 1 → RanAlone pools before after trace (found_keys rebuilt) replies closed
       → ReadsAlone pools devices before trace (found_keys rebuilt) replies lent back → IsRun pools devices before after lent back trace Whole (plain_work trace.ops replies) closed (report_of_closed Whole rebuilt replies closed)
   alone-run done formed one ran read =
       let report : Report = report_of_closed Whole rebuilt replies closed in
@@ -99,8 +104,8 @@ module _ {P D : Type 0} (pools : Ghosts P) (devices : DeviceGhosts D) (before af
   alone-has-run done ending whole formed one ran read cells unfed =
       subst (λ (e : Ending). HasRun pools devices before after lent back trace e closed (report_of_closed e rebuilt replies closed)) (sym whole) record {
         work = plain_work trace.ops replies;
-        did = plain-is trace.config trace.ops replies ran.answers.all done;
-        run = alone-run done formed one ran read;
+        did = plain-is trace.config trace.ops replies ran.answers.all (only-plain done one);
+        run = alone-run (only-plain done one) formed one ran read;
         cells = cells-plain trace trace.config refl refl trace.ops replies closed cells;
         kept = plain-kept trace closed cells;
         used = λ two. absurd (omega (arith, two, one));

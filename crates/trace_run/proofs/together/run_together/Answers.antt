@@ -99,8 +99,7 @@ returns-clause-ran g c =
     place (first-may g.P.Pool c.args.pool.now c.first_place.result c.len.result c.first_place.ensures.aligned c.first_place.ensures.inside c.len.ensures) in
     let done = c.in_ok-crew-3.ensures.done c.args.restored.now (plain_work [] []) begun in
     let config = c.in_ok-arcs.ensures.config in
-    let valid : IsConfig c.in_ok-arcs.arcs.config = subst IsConfig (sym config) c.requires.formed.config in
-    (
+    let valid : IsConfig c.in_ok-arcs.arcs.config = subst IsConfig (sym config) c.requires.formed.config in (
       _,
       group-together c.in_ok-arcs.arcs g.P.Pool g.D.CacheDev c.args.pool.now c.all_groups.new.pool c.first_place.result c.args.trace.now c.requires.formed config valid c.args.device.now c.all_groups.new.device _ c.args.restored.now _ done.0 _ done.1
           c.in_ok-closed.closed c.in_ok-closed.ensures,
