@@ -1,5 +1,5 @@
 -- What a run answers, status by status.
-use Rattle.std.specs.Prelude.{◌≡◌, ◌⊎◌, ℕ, ◌+◌, ◌*◌, ◌^◌, ◌<◌, ◌≤◌, List, [], Option, Some, None, is_some, map, replicate, sum_by, Bool, true, false}
+use Rattle.std.specs.Prelude.{◌≡◌, ◌⊎◌, ℕ, ◌+◌, ◌*◌, ◌^◌, ◌<◌, ◌≤◌, List, [], Option, Some, None, filter, is_some, map, replicate, sum_by, Bool, true, false}
 use Rattle.std.specs.Bool.{OnFalse}
 use Rattle.std.specs.List.{AllByRecursion, range_with_len}
 use Rattle.std.specs.Io.KnownBytes.{Appends}
@@ -38,7 +38,10 @@ use Rattle.trace_run.specs.CheckText.{check_text}
 use Rattle.trace_run.specs.DeviceUse.{WasUsed}
 use Rattle.trace_run.specs.Devices.{Finds, IsHandedBack, MayLose, usable}
 use Rattle.trace_run.specs.Explaining.{Explain, RunsAlone}
-use Rattle.trace_run.specs.Lines.{has_undone}
+use Rattle.trace_run.specs.FeedSeries.{WasFedFrom}
+use Rattle.trace_run.specs.Feeds.{AreFedReplies, is_feed}
+use Rattle.trace_run.specs.Lines.{has_sync, has_undone, replies_where}
+use Rattle.trace_run.specs.Objects.{ops_of, replies_of}
 use Rattle.trace_run.specs.ObjectAnswers.{AreAnsweredByCells}
 use Rattle.trace_run.specs.one_caller.PlainRun.{images, report_of}
 use Rattle.l2_dev.specs.Cursor.{CursorState}
@@ -122,6 +125,7 @@ pub record HasRun {P D : Type 0} (pool : Ghosts P) (device : Devices D) (before 
   pub kept : AreEndedSo trace.config 0 closed.cells work.ended
   pub used : 2 ≤ trace.config.callers → UsedInGroups device trace.blocks trace.config.callers (groups_done ending work.lines) work.feeds lent back
   pub unfed : work.feeds ≡ [] → IsHandedBack device lent back
+  pub answered : AreFedReplies lent (filter is_feed (ops_of work.lines)) work.feeds (replies_where is_feed (ops_of work.lines) (replies_of work.lines))
   pub plain : trace.config.callers ≡ 1 → work ≡ plain_work trace.ops report.replies
   pub status : report.status ≡ report_status ending report.replies
 
@@ -152,6 +156,8 @@ pub record IsReport {P D : Type 0} (pool : Ghosts P) (device : Devices D) (befor
   pub ending : Ending
   pub run : HasRun pool device before.pool after.pool (usable device started) (usable device after.cache) (with_bound trace (device_len device.size before.cache)) ending closed report
   pub used : WasUsed device (with_bound trace (device_len device.size before.cache)) ending run.work started after.cache
+  -- what its feeds left of it: where each was written, the faults that were counted, and what each crash restores
+  pub fed : WasFedFrom device (with_bound trace (device_len device.size before.cache)).config before.cache started after.cache first report.rebuilt run.work.feeds report.histories
   pub told : TellsEnding answer ending
   pub whole : report.short ≡ false
 
@@ -362,8 +368,8 @@ pub record DoesRun {P D : Type 0} (pool : Ghosts P) (device : Devices D) (events
   pub took : TakesAtMost before.source.told after.source.told (longest_text + 1)
   pub unrun : OnFalse (ran status) ((after.pool ≡ before.pool) × (after.cache ≡ before.cache))
   pub cache : MayLose device before.cache after.cache
-  -- what the pool tells is as it was, but for what syncs of the trace that was read wrote behind its declared blocks
-  pub told : (pool.told after.pool ≡ pool.told before.pool) ⊎ ((trace : Trace) × WasRead before.source after.source trace × LeavesDeclared pool trace.blocks before.pool after.pool)
+  -- what the pool tells is as it was, but for what syncs of the trace that was read, where it asks for some, wrote behind its declared blocks
+  pub told : (pool.told after.pool ≡ pool.told before.pool) ⊎ ((trace : Trace) × WasRead before.source after.source trace × (has_sync trace.ops ≡ true) × LeavesDeclared pool trace.blocks before.pool after.pool)
   pub reported : IfReported report closed (IsReport pool device before after status)
   pub sink : AnswersSink events before.sink after.sink status report
   pub present : is_some report ≡ has_report status

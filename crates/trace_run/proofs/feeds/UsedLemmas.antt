@@ -22,14 +22,16 @@ use Rattle.trace_run.specs.declared.ran.Ending.{Ending}
 use Rattle.trace_run.specs.declared.ran.Ending.TheVariants.{Fork, Full, Sync, Whole}
 use Rattle.trace_run.specs.Devices.{WasLent}
 use Rattle.trace_run.specs.Feeds.{AreFedReplies, AsksForFeeds, AsksOfFeeds, FeedDone, MadeFeedsOf, is_feed}
-use Rattle.trace_run.specs.Lines.{replies_where}
+use Rattle.trace_run.specs.Lines.{is_undone, replies_where}
 use Rattle.trace_run.specs.Objects.{Line, ops_of, replies_of}
+use Rattle.trace_run.specs.RunWork.{plain_lines}
 use Rattle.trace_run.specs.callers.Beside.{TriesBeside}
 use Rattle.trace_run.specs.callers.DeviceForks.{GivesFork, GivesForks, TakesForkBack, TakesForksBack, UsedAtOnce, UsedInGroups}
 use Rattle.trace_run.specs.callers.Together.{GroupLines, ends_group, groups_begun, groups_done, groups_of, with_first}
 use Rattle.trace_run.proofs.DeviceLemmas.{lent-same, lent-then}
 use Rattle.trace_run.proofs.callers.BesideLemmas.{none-found}
 use Rattle.trace_run.proofs.feeds.FeedLemmas.{answered-then, none-answered}
+use Rattle.trace_run.proofs.theorem.WorkLemmas.{first-done, no-feed}
 
 -- ---- the lines among others
 
@@ -205,6 +207,18 @@ unasked-answered a os rs none = subst (λ (x : List Op × List Reply). AreFedRep
       | inl asks ↦ absurd (false≢true (sym none ∙ rw asks refl))
       | inr other ↦ rw other (no-replies os rs (rw other at none))
     ]
+
+-- and so where one caller's lines did nothing beside their replies: none of them asks for a feed
+pub plain-answered : {D : Type 0} (a : Option D) (os : List Op) (rs : List Reply) → list_any (is_undone 1) os ≡ false
+    → AreFedReplies a (filter is_feed (ops_of (plain_lines os rs))) [] (replies_where is_feed (ops_of (plain_lines os rs)) (replies_of (plain_lines os rs)))
+plain-answered a os rs done =
+    subst (λ (x : List Op × List Reply). AreFedReplies a x.0 [] x.1) (λ i. (ops-fed (plain_lines os rs) i, replies-fed (plain_lines os rs) i))
+    (subst (λ (ls : List Line). AreFedReplies a (ops_of ls) [] (replies_of ls)) (sym (none-left os rs done)) (none-answered a))
+  where
+    none-left : (os : List Op) (rs : List Reply) → list_any (is_undone 1) os ≡ false → feed_lines (plain_lines os rs) ≡ []
+    none-left [] rs done = refl
+    none-left (o ∷ os) [] done = refl
+    none-left (o ∷ os) (r ∷ rs) done = let h = first-done (is_undone 1) o os done in rw (no-feed o h.0) (none-left os rs h.1)
 
 -- ---- a device that is fed by no line
 

@@ -1,5 +1,6 @@
 -- What a run made of the cache device, once it is handed back.
 use Rattle.std.proofs.Common.{◌≡◌, ◌≤◌, ℕ, List, [], ◌∷◌, ◌++◌, Option, None, Some, refl, sym, ap, ◌∙◌, subst, inl, arith}
+use Rattle.std.specs.Prelude.{filter}
 use Rattle.blk_ptr.specs.declared.ptr.Ptr.{Ptr}
 use Rattle.l2_dev.specs.Cursor.{CursorState}
 use Rattle.vdev_io.specs.declared.device.CacheDev.{Ghosts}
@@ -15,7 +16,9 @@ use Rattle.trace_run.specs.callers.DeviceForks.{GivesFork, GivesForks, TakesFork
 use Rattle.trace_run.specs.callers.Together.{GroupLines, groups_done}
 use Rattle.trace_run.specs.Devices.{Finds, IsHandedBack, IsRightKind, MayLose, WasLent, WasOnlyRead, device_of, lent_in, usable}
 use Rattle.trace_run.specs.DeviceUse.{WasUsed}
-use Rattle.trace_run.specs.Feeds.{AsksOfFeeds, FeedDone}
+use Rattle.trace_run.specs.Feeds.{AreFedReplies, AsksOfFeeds, FeedDone, is_feed}
+use Rattle.trace_run.specs.Lines.{replies_where}
+use Rattle.trace_run.specs.Objects.{ops_of, replies_of}
 use Rattle.trace_run.specs.RunWork.{RunWork}
 use Rattle.trace_run.proofs.DeviceLemmas.{only-same, only-then, usable-lent}
 
@@ -155,11 +158,13 @@ module _ {D : Type 0} (devices : Ghosts D) where
   -- what was made of the device that was started so, and ended so
   pub was-used : (trace : Trace) (ending : Ending) (work : RunWork) (begun ended : Device D) (after : Option D) → after ≡ device_of ended → IsRightKind devices begun → WasInUse devices begun ended
       → (2 ≤ trace.config.callers → UsedInGroups devices trace.blocks trace.config.callers (groups_done ending work.lines) work.feeds (lent_in begun) (lent_in ended))
-      → (work.feeds ≡ [] → IsHandedBack devices (lent_in begun) (lent_in ended)) → WasUsed devices trace ending work (device_of begun) after
-  was-used trace ending work begun ended after is kind used together unfed = subst (WasUsed devices trace ending work (device_of begun)) (sym is) (record {
+      → (work.feeds ≡ [] → IsHandedBack devices (lent_in begun) (lent_in ended))
+      → AreFedReplies (lent_in begun) (filter is_feed (ops_of work.lines)) work.feeds (replies_where is_feed (ops_of work.lines) (replies_of work.lines)) → WasUsed devices trace ending work (device_of begun) after
+  was-used trace ending work begun ended after is kind used together unfed answered = subst (WasUsed devices trace ending work (device_of begun)) (sym is) (record {
     together = λ two.
         subst (λ (x : Option D × Option D). UsedInGroups devices trace.blocks trace.config.callers (groups_done ending work.lines) work.feeds x.0 x.1)
         (λ i. (sym (usable-lent devices begun kind) i, sym (usable-kept begun ended used kind) i)) (together two);
+    answered = subst (λ (o : Option D). AreFedReplies o (filter is_feed (ops_of work.lines)) work.feeds (replies_where is_feed (ops_of work.lines) (replies_of work.lines))) (sym (usable-lent devices begun kind)) answered;
     back = λ none. all-back begun ended used (unfed none);
     short = λ none. unlent-same begun ended used (sym (usable-lent devices begun kind) ∙ none);
   })

@@ -267,11 +267,25 @@ module _ (trace : Trace) (restored : List Restored) (replies : List Reply) (ends
 
 -- ---- the work itself, and the cells
 
-first-done : (test : Op → Bool) (o : Op) (os : List Op) → list_any test (o ∷ os) ≡ false → (test o ≡ false) × (list_any test os ≡ false)
+pub first-done : (test : Op → Bool) (o : Op) (os : List Op) → list_any test (o ∷ os) ≡ false → (test o ≡ false) × (list_any test os ≡ false)
 first-done test o os none = elim (cases_true (test o)) [
   | inl is ↦ absurd (false≢true (sym none ∙ rw is refl))
   | inr not_it ↦ (not_it, rw not_it at none)
 ]
+
+-- no line asks for a feed
+pub no-feed : (op : Op) → is_undone 1 op ≡ false → is_feed op ≡ false
+no-feed (ops.Read n t x window) done = refl
+no-feed (ops.Hold n t x) done = refl
+no-feed (ops.Drop n x) done = refl
+no-feed (ops.Get n t at window) done = refl
+no-feed (ops.Put n t at size fill) done = refl
+no-feed (ops.Patch n t at from bytes) done = refl
+no-feed (ops.Pin n t at) done = refl
+no-feed (ops.Unpin n at) done = refl
+no-feed ops.Feed done = absurd (false≢true (sym done))
+no-feed (ops.Txg t) done = absurd (false≢true (sym done))
+no-feed (ops.Cap c) done = refl
 
 module _ (g : Config) where
   plain-are : (os : List Op) (rs : List Reply) → length rs ≡ length os → AreLinesOf os rs (plain_lines os rs)
@@ -283,20 +297,6 @@ module _ (g : Config) where
   -- a sync that wrote nothing
   no-sync : IsSyncWork g no_work
   no-sync = record { brought = refl; synced = tt; inserted = tt }
-
-  -- no line asks for a feed
-  no-feed : (op : Op) → is_undone 1 op ≡ false → is_feed op ≡ false
-  no-feed (ops.Read n t x window) done = refl
-  no-feed (ops.Hold n t x) done = refl
-  no-feed (ops.Drop n x) done = refl
-  no-feed (ops.Get n t at window) done = refl
-  no-feed (ops.Put n t at size fill) done = refl
-  no-feed (ops.Patch n t at from bytes) done = refl
-  no-feed (ops.Pin n t at) done = refl
-  no-feed (ops.Unpin n at) done = refl
-  no-feed ops.Feed done = absurd (false≢true (sym done))
-  no-feed (ops.Txg t) done = absurd (false≢true (sym done))
-  no-feed (ops.Cap c) done = refl
 
   unfed : (os : List Op) (rs : List Reply) → list_any (is_undone 1) os ≡ false → replies_where is_feed os rs ≡ []
   unfed [] rs done = refl
