@@ -1,17 +1,14 @@
-use Rattle.std.proofs.Common.{◌≡◌, List, refl, sym, ap, subst, inl, arith}
+use Rattle.std.proofs.Common.{◌≡◌, List, sym, ap, subst, arith}
 use Rattle.arc_core.specs.declared.served.Restored.{Restored}
 use Rattle.trace_run.specs.one_caller.Alone.{RanAlone, ends_in, histories_of}
 use Rattle.trace_run.specs.FeedSeries.{LeavesFed}
 use Rattle.trace_run.specs.Restores.{found_keys}
 use Rattle.trace_run.specs.Devices.{lent_in}
 use Rattle.trace_run.specs.one_caller.Lent.{ReadsAlone}
-use Rattle.trace_run.specs.callers.Beside.{WasInUse}
-use Rattle.trace_run.specs.callers.Group.{LeavesDeclared}
 use Rattle.trace_run.specs.callers.GroupRun.{RanTogether}
 use Rattle.trace_run.specs.Outcome.{HasRun}
 use Rattle.trace_run.specs.RunWork.{RunWork}
 use Rattle.trace_run.specs.callers.Together.{report_of_closed}
-use Rattle.trace_run.proofs.callers.InUse.{lent-in-use}
 use Rattle.trace_run.proofs.feeds.LeftLemmas.{unfed-left}
 use Rattle.trace_run.proofs.theorem.DeviceUsed.{leaves-declared, lent-only}
 use Rattle.trace_run.proofs.theorem.RanLemmas.{alone-has-run, together-has-run}
