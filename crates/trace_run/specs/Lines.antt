@@ -42,6 +42,24 @@ is_undone callers ops.Feed = callers == 1
 abbrev pub has_undone : Trace → Bool
 has_undone trace = list_any (is_undone trace.config.callers) trace.ops
 
+-- the operation is a sync
+abbrev pub is_sync : Op → Bool
+is_sync (ops.Read n t x window) = false
+is_sync (ops.Hold n t x) = false
+is_sync (ops.Drop n x) = false
+is_sync (ops.Get n t at window) = false
+is_sync (ops.Put n t at size fill) = false
+is_sync (ops.Patch n t at from bytes) = false
+is_sync (ops.Pin n t at) = false
+is_sync (ops.Unpin n at) = false
+is_sync ops.Feed = false
+is_sync (ops.Txg t) = true
+is_sync (ops.Cap c) = false
+
+-- one of these is
+abbrev pub has_sync : List Op → Bool
+has_sync = list_any is_sync
+
 -- the operation is this caller's
 abbrev pub is_of_caller : ℕ → Op → Bool
 is_of_caller n op = option_map_or (λ (m : ℕ). m == n) (caller_of op) false

@@ -62,3 +62,15 @@ returns-in_err-reported-clause-pool g c = elim c.if-trace-eq1.branch [
   | then-trace-eq1+in_ok-ran w ↦ rw w.pool-is (leaves-declared g.P.Pool c.args.trace.now.blocks c.args.pool.now w.run_alone.new.pool (let k = w.run_alone.ensures.pool in record { size = k.size; told = k.told; faults = omega (arith, k.faults) }))
   | else-trace-eq1+in_ok-ran-2 w ↦ rw w.pool-is w.run_together.ensures.pool
 ]
+
+pub returns-clause-still : goal.returns-clause-still
+returns-clause-still g c = elim c.if-trace-eq1.branch [
+  | then-trace-eq1+in_ok-ran w ↦ rw w.pool-is (λ none. w.run_alone.ensures.pool.told)
+  | else-trace-eq1+in_ok-ran-2 w ↦ rw w.pool-is (λ none. (w.run_together.ensures.still none).told)
+]
+
+pub returns-in_err-reported-clause-still : goal.returns-in_err-reported-clause-still
+returns-in_err-reported-clause-still g c = elim c.if-trace-eq1.branch [
+  | then-trace-eq1+in_ok-ran w ↦ rw w.pool-is (λ none. w.run_alone.ensures.pool.told)
+  | else-trace-eq1+in_ok-ran-2 w ↦ rw w.pool-is (λ none. (w.run_together.ensures.still none).told)
+]
