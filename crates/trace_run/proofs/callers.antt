@@ -2,7 +2,6 @@ pub mod AbsorbLemmas
 pub mod AfterEnds
 pub mod BesideLemmas
 pub mod CallerActLemmas
-pub mod DeviceSteps
 pub mod EndLineLemmas
 pub mod EndedLemmas
 pub mod FrontLemmas
@@ -20,6 +19,5 @@ pub mod MoreLemmas
 pub mod PlaceLemmas
 pub mod StepLemmas
 pub mod SyncRun
-pub mod TogetherLemmas
 pub mod TurnLemmas
 pub mod TurningLemmas
