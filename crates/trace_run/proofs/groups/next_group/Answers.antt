@@ -1,11 +1,11 @@
-use Rattle.std.proofs.Common.{◌≡◌, ◌<◌, ◌≤◌, ℕ, List, Some, length, vec_len, refl, sym, ap, ◌∙◌, subst, arith, rules}
+use Rattle.std.proofs.Common.{◌≡◌, ℕ, List, Some, length, vec_len, refl, sym, ap, ◌∙◌, subst, arith, rules}
 use Rattle.std.specs.Prelude.{slice_get, slice_range}
 use Rattle.std.proofs.lemmas.Option.{slice_get_read}
 use Rattle.blk_ptr.specs.declared.ptr.Ptr.{Ptr}
 use Rattle.arc_core.specs.declared.config.Config.{Config}
+use Rattle.dbuf_cells.specs.Turns.{dbuf_meanings}
 use Rattle.trace_text.specs.declared.op.Op.{Op}
 use Rattle.trace_run.specs.callers.Callers.{AreAtStart}
-use Rattle.trace_run.specs.Devices.{lent_in}
 use Rattle.trace_run.specs.callers.Groups.{ForkFailed}
 use Rattle.trace_run.specs.callers.InOrder.{AreInGroup}
 use Rattle.trace_run.specs.callers.Together.{between_groups}
@@ -107,7 +107,7 @@ returns-in-Err-clause-did g c = λ start restored was work between.
 pub returns-in-Err-Failed-clause-did : goal.returns-in-Err-Failed-clause-did
 returns-in-Err-Failed-clause-did g c = λ start restored was work between.
     let failed : ForkFailed g.P.Pool c.args.pool.now c.forks.new.pool = search rules in
-    next-forked c.args.arcs.now restored g.P.Pool g.D.CacheDev c.args.trace.now start (between_groups c.args.pool.now c.args.syncs.group c.args.syncs.next) was (lent_in c.args.device.now) c.forks.new.pool c.args.replies.now.items work c.args.crew between
+    next-forked c.args.arcs.now restored g.P.Pool g.D.CacheDev c.args.trace.now start (between_groups c.args.pool.now c.args.syncs.group c.args.syncs.next) was c.args.device.now c.forks.new.pool c.args.replies.now.items work c.args.crew between
     (let more = c.requires.more in let long = c.args.replies.now.ok.0 in omega (arith, more, long)) failed
 
 -- ---- the device
