@@ -2,7 +2,6 @@ pub mod AbsorbLemmas
 pub mod AfterEnds
 pub mod BesideLemmas
 pub mod CallerActLemmas
-pub mod DeviceSteps
 pub mod EndLineLemmas
 pub mod EndedLemmas
 pub mod FrontLemmas
