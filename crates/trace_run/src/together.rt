@@ -15,6 +15,7 @@ ghost use Rattle.trace_run.specs.callers.Beside.{WasInUse};
 ghost use Rattle.trace_run.specs.one_caller.Alone.{histories_of};
 ghost use Rattle.trace_run.specs.callers.Group.{LeavesDeclared};
 ghost use Rattle.trace_run.specs.callers.GroupRun.{HaveClosed, HaveStopped, RanTogether};
+ghost use Rattle.trace_run.specs.one_caller.Alone.{histories_of};
 ghost use Rattle.trace_run.specs.Meeting.{AreWaiting, IsFed, MadeJoined, MayGoOn};
 ghost use Rattle.trace_run.specs.Restores.{restores_in};
 

@@ -118,34 +118,37 @@ module _ {P D : Type 0} (pools : Ghosts P) (devices : DeviceGhosts D) (before af
 
   -- several callers' run
   pub together-has-run : (ending : Ending) (work : RunWork) → 2 ≤ trace.config.callers → RanTogether pools devices before after lent back trace ending (found_keys rebuilt) replies work closed
-      → HasRun pools devices before after lent back trace ending closed (report_of_closed ending rebuilt replies closed)
-  together-has-run ending work two ran = record {
-    work = work;
-    did = ran.did;
-    run = record {
-      answers = ran.answers;
-      explained = ran.explained;
-      tells = record { histories = refl; ends = refl };
-      config = ran.config;
-      no_workers = refl;
-      reads = ran.reads;
-      faults = ran.faults;
-      alone = λ one. absurd (omega (arith, two, one));
-      place = ran.place;
-      first = ran.first;
-      objects = ran.objects;
-      together = λ _. told;
-      idle = λ none. let whole = all-done none ending refl ran.stopped in (whole, unworked none whole);
-      stopped = ran.stopped;
-    };
-    cells = ran.cells;
-    kept = ran.kept;
-    used = λ _. ran.used;
-    unfed = λ none. groups-back devices trace.blocks trace.config.callers (groups_done ending work.lines) work.feeds lent back none ran.used;
-    answered = used-answered devices trace.blocks trace.config.callers ending work.lines work.feeds lent back ran.used;
-    plain = λ one. absurd (omega (arith, two, one));
-    status = refl;
-  }
+      → (run : HasRun pools devices before after lent back trace ending closed (report_of_closed ending rebuilt replies closed)) × (run.work ≡ work)
+  together-has-run ending work two ran = (
+    record {
+      work = work;
+      did = ran.did;
+      run = record {
+        answers = ran.answers;
+        explained = ran.explained;
+        tells = record { histories = refl; ends = refl };
+        config = ran.config;
+        no_workers = refl;
+        reads = ran.reads;
+        faults = ran.faults;
+        alone = λ one. absurd (omega (arith, two, one));
+        place = ran.place;
+        first = ran.first;
+        objects = ran.objects;
+        together = λ _. told;
+        idle = λ none. let whole = all-done none ending refl ran.stopped in (whole, unworked none whole);
+        stopped = ran.stopped;
+      };
+      cells = ran.cells;
+      kept = ran.kept;
+      used = λ _. ran.used;
+      unfed = λ none. groups-back devices trace.blocks trace.config.callers (groups_done ending work.lines) work.feeds lent back none ran.used;
+      answered = used-answered devices trace.blocks trace.config.callers ending work.lines work.feeds lent back ran.used;
+      plain = λ one. absurd (omega (arith, two, one));
+      status = refl;
+    },
+    refl,
+  )
     where
       told : RunsTogether pools before after ran.place trace ending work closed.cells (report_of_closed ending rebuilt replies closed)
       told = ran.together rebuilt refl

@@ -15,11 +15,12 @@ use Rattle.arc_core.specs.declared.config.Config.{Config}
 use Rattle.arc_core.specs.declared.event.Event.{Event}
 use Rattle.arc_core.specs.declared.served.Restored.{Restored}
 use Rattle.arc_core.specs.declared.served.Served.TheVariants as served
-use Rattle.arc_core.specs.Operations.{pool_reads}
+use Rattle.arc_core.specs.Operations.{own_events, pool_reads}
 use Rattle.arc_core.specs.ShardLog.{ShardLog}
 use Rattle.arc_table.specs.Ended.{Ended}
 use Rattle.arc_table.specs.Cache.{Cache}
 use Rattle.arc_table.specs.Fronts.{StartsWith}
+use Rattle.arc_table.specs.Seen.{seen_of}
 use Rattle.arc_table.specs.TableLaws.{within}
 use Rattle.arc_table.proofs.TableLaws.{there}
 use Rattle.dbuf_cells.specs.Turns.{OnHeap, dbuf_meanings}
@@ -36,6 +37,8 @@ use Rattle.trace_text.specs.declared.trace.Trace.{Trace}
 use Rattle.trace_text.specs.Grammar.{IsFormed}
 use Rattle.trace_run.specs.declared.device.Device.{Device}
 use Rattle.trace_run.specs.Devices.{lent_in}
+use Rattle.trace_run.specs.Restores.{events_by_feeder, restores_in}
+use Rattle.trace_run.proofs.feeds.LeftLemmas.{left-explained}
 use Rattle.trace_run.specs.FeedSeries.{LeavesFed}
 use Rattle.trace_run.specs.declared.groups.Crew.{Crew}
 use Rattle.trace_run.specs.declared.ran.Ending.{Ending}
@@ -61,7 +64,7 @@ use Rattle.trace_run.proofs.callers.GroupCounts.{over-add, over-one, over-same, 
 use Rattle.trace_run.proofs.callers.GroupRunLemmas.{all-callers}
 use Rattle.trace_run.proofs.callers.SyncRun.{in-groups-as, stood-then, stops-sync-as}
 use Rattle.trace_run.proofs.theorem.LineAnswers.{EndsWell, IsOfOne, end-lines, lines-replies, own-lines-of}
-use Rattle.trace_run.proofs.theorem.RunEnds.{did-work, ended-work, feeder-begins, lines-long, run-answers, run-cells, run-counted, run-cut, run-cut-last, run-explains, run-kept, run-objects, run-reads}
+use Rattle.trace_run.proofs.theorem.RunEnds.{did-work, ended-work, feeder-begins, feeder-lines, lines-long, run-answers, run-cells, run-counted, run-cut, run-cut-last, run-explains, run-kept, run-objects, run-reads, since}
 
 -- ---- what the callers' replies tell is what all replies tell
 
@@ -269,7 +272,7 @@ module _ {P D : Type 0} (cache : Cache) (pools : Ghosts P) (devices : Devices D)
       own : (shard : ℕ) → shard < cache.config.shards → own_events cache.config.callers (seen_of cache.config shard crew.feeder) ≡ events_by_feeder cache.config restored trace.ops rs work.feeds shard
       own shard below =
           subst (λ (n : ℕ). own_events n (seen_of cache.config shard crew.feeder) ≡ events_by_feeder cache.config restored os rs work.feeds shard) come.feeder.number (come.feeder.fed shard below)
-          ∙ (ap (λ (es : List Event). restores_in cache.config restored shard ++ es) (feeder-lines cache.config shard os more rs work.feeds (lines-long os rs work.lines come.did.lines).0)
+          ∙ (ap (λ (es : List Event). restores_in cache.config restored shard ++ es) (feeder-lines cache.config shard os more rs work.feeds (lines-long os rs work.lines come.did.lines))
           ∙ ap (λ (l : List Op). events_by_feeder cache.config restored l rs work.feeds shard) whole-ops)
 
   pub group-together : RanTogether pools devices before after (lent_in was) (lent_in is) trace ending restored rs done-work closed

@@ -1,4 +1,4 @@
-use Rattle.std.proofs.Common.{◌≡◌, List, refl, ap, subst, inl, arith}
+use Rattle.std.proofs.Common.{◌≡◌, List, refl, sym, ap, subst, inl, arith}
 use Rattle.arc_core.specs.declared.served.Restored.{Restored}
 use Rattle.trace_run.specs.one_caller.Alone.{RanAlone, ends_in, histories_of}
 use Rattle.trace_run.specs.FeedSeries.{LeavesFed}
@@ -41,12 +41,27 @@ returns-clause-run g c =
       | else-trace-eq1+in_ok-ran-2 w ↦
           let did = w.in_ok-ran-2.ran in
           let work = w.in_ok-ran-2.ensures.ran.0 in
+          let has = together-has-run g.P.Pool g.D.CacheDev c.args.pool.now w.run_together.new.pool (lent_in c.args.device.now) (lent_in w.run_together.new.device) trace c.args.rebuilt did.replies.items did.closed did.ending work
+          (omega (arith, c.requires.formed.config.counts.callers.0, w.if-trace-eq1.false))
+          (subst (λ (l : List Restored). RanTogether g.P.Pool g.D.CacheDev c.args.pool.now w.run_together.new.pool (lent_in c.args.device.now) (lent_in w.run_together.new.device) trace did.ending l did.replies.items work did.closed) w.found_keys-else-trace-eq1.ensures
+          w.in_ok-ran-2.ensures.ran.1) in
           rw (w.ran-is, w.pool-is, w.device-is) (
-            together-has-run g.P.Pool g.D.CacheDev c.args.pool.now w.run_together.new.pool (lent_in c.args.device.now) (lent_in w.run_together.new.device) trace c.args.rebuilt did.replies.items did.closed did.ending work
-                (omega (arith, c.requires.formed.config.counts.callers.0, w.if-trace-eq1.false))
-                (subst (λ (l : List Restored). RanTogether g.P.Pool g.D.CacheDev c.args.pool.now w.run_together.new.pool (lent_in c.args.device.now) (lent_in w.run_together.new.device) trace did.ending l did.replies.items work did.closed) w.found_keys-else-trace-eq1.ensures
-                w.in_ok-ran-2.ensures.ran.1),
-            subst (λ (l : List Restored). LeavesFed g.D.CacheDev trace.config l work.feeds c.args.device.now w.run_together.new.device (histories_of did.closed)) w.found_keys-else-trace-eq1.ensures w.in_ok-ran-2.ensures.ran.2,
+            has.0,
+            subst (λ (x : List Restored × RunWork). LeavesFed g.D.CacheDev trace.config x.0 x.1.feeds c.args.device.now w.run_together.new.device (histories_of did.closed)) (λ i. (w.found_keys-else-trace-eq1.ensures i, sym has.1 i)) w.in_ok-ran-2.ensures.ran.2,
           )
     ] in
     rw (told.report, told.closed, told.ending) run
+
+-- ---- the pool
+
+pub returns-clause-pool : goal.returns-clause-pool
+returns-clause-pool g c = elim c.if-trace-eq1.branch [
+  | then-trace-eq1+in_ok-ran w ↦ rw w.pool-is (leaves-declared g.P.Pool c.args.trace.now.blocks c.args.pool.now w.run_alone.new.pool (let k = w.run_alone.ensures.pool in record { size = k.size; told = k.told; faults = omega (arith, k.faults) }))
+  | else-trace-eq1+in_ok-ran-2 w ↦ rw w.pool-is w.run_together.ensures.pool
+]
+
+pub returns-in_err-reported-clause-pool : goal.returns-in_err-reported-clause-pool
+returns-in_err-reported-clause-pool g c = elim c.if-trace-eq1.branch [
+  | then-trace-eq1+in_ok-ran w ↦ rw w.pool-is (leaves-declared g.P.Pool c.args.trace.now.blocks c.args.pool.now w.run_alone.new.pool (let k = w.run_alone.ensures.pool in record { size = k.size; told = k.told; faults = omega (arith, k.faults) }))
+  | else-trace-eq1+in_ok-ran-2 w ↦ rw w.pool-is w.run_together.ensures.pool
+]
