@@ -111,7 +111,7 @@ pub(crate) fn run_together<R: Threads + Wait + Sync, P: Pool, D: CacheDev, G: Ga
     ensures ran { IfOk result (λ ran. (work : RunWork) × RanTogether P.Pool D.CacheDev pool.old pool.new (lent_in device.old) (lent_in device.new) trace.now ran.ending restored.now ran.replies.items work ran.closed
         × LeavesFed D.CacheDev trace.now.config restored.now work.feeds device.old device.new (histories_of ran.closed)) }
     ensures pool { LeavesDeclared P.Pool trace.now.blocks pool.old pool.new }
-    ensures device { WasInUse D.CacheDev device.old device.new }
+    ensures device { WasInUse D.CacheDev trace.now.ops device.old device.new }
 {
     let (arcs, parties) = open_cache(alloc, trace)?;
     let crew = crew_of(alloc, parties)?;

@@ -15,7 +15,7 @@ invariant-loop-alloc g l = record {
       → (now : RunWork) × AreBetween l.arcs restored g.P.Pool g.D.CacheDev l.trace (between_groups l.fn.pool l.fn.syncs.group l.fn.syncs.next) (between_groups l.pool l.syncs.group l.syncs.next) l.fn.device l.device l.replies.items now l.crew;
   later : l.fn.syncs.next ≤ l.syncs.next;
   leaves : LeavesFront g.P.Pool l.fn.syncs.next l.fn.pool l.pool;
-  used : WasInUse g.D.CacheDev l.fn.device l.device;
+  used : WasInUse g.D.CacheDev l.trace.ops l.fn.device l.device;
   device : MayBeFed g.D.CacheDev l.arcs.config l.device;
 }
 

@@ -65,3 +65,17 @@ returns-in_err-reported-clause-pool g c = elim c.if-trace-eq1.branch [
   | then-trace-eq1+in_ok-ran w ↦ rw w.pool-is (leaves-declared g.P.Pool c.args.trace.now.blocks c.args.pool.now w.run_alone.new.pool (let k = w.run_alone.ensures.pool in record { size = k.size; told = k.told; faults = omega (arith, k.faults) }))
   | else-trace-eq1+in_ok-ran-2 w ↦ rw w.pool-is w.run_together.ensures.pool
 ]
+
+-- ---- the device
+
+pub returns-clause-device : goal.returns-clause-device
+returns-clause-device g c = elim c.if-trace-eq1.branch [
+  | then-trace-eq1+in_ok-ran w ↦ rw w.device-is (lent-in-use g.D.CacheDev c.args.trace.now.ops c.args.device.now w.run_alone.new.device w.run_alone.ensures.device)
+  | else-trace-eq1+in_ok-ran-2 w ↦ rw w.device-is w.run_together.ensures.device
+]
+
+pub returns-in_err-reported-clause-device : goal.returns-in_err-reported-clause-device
+returns-in_err-reported-clause-device g c = elim c.if-trace-eq1.branch [
+  | then-trace-eq1+in_ok-ran w ↦ rw w.device-is (lent-in-use g.D.CacheDev c.args.trace.now.ops c.args.device.now w.run_alone.new.device w.run_alone.ensures.device)
+  | else-trace-eq1+in_ok-ran-2 w ↦ rw w.device-is w.run_together.ensures.device
+]

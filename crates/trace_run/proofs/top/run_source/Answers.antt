@@ -1,20 +1,22 @@
 use Rattle.std.proofs.Common.{rules, ◌≡◌, Option, inl, inr, refl, sym, ap, ◌∙◌, subst}
+use Rattle.std.specs.List.{list_any}
+use Rattle.arc_lists.proofs.Tables.{cases_true}
 use Rattle.trace_text.specs.declared.trace.Trace.{Trace}
 use Rattle.trace_run.specs.Bounded.{device_len, with_bound}
 use Rattle.trace_run.specs.callers.Beside.{WasInUse}
 use Rattle.trace_run.specs.callers.Group.{LeavesDeclared}
 use Rattle.trace_run.specs.DeviceUse.{WasUsed}
-use Rattle.trace_run.specs.Devices.{Finds, MayLose, cursor_in, device_of, lent_in, usable}
+use Rattle.trace_run.specs.Devices.{Finds, MayLose, MayLoseUnfed, cursor_in, device_of, lent_in, usable}
 use Rattle.trace_run.specs.declared.device.Device.{Device}
 use Rattle.trace_text.specs.declared.rebuilt.Rebuilt.{Rebuilt}
 use Rattle.trace_run.specs.FeedSeries.{WasFedFrom}
-use Rattle.trace_run.specs.Feeds.{IsOpenedAt, MayBeFed}
+use Rattle.trace_run.specs.Feeds.{IsOpenedAt, MayBeFed, is_feed}
 use Rattle.trace_run.specs.Outcome.{HasRun}
 use Rattle.trace_run.specs.Restores.{found_keys}
 use Rattle.trace_run.proofs.DeviceLemmas.{nothing-lost, usable-lent}
 use Rattle.trace_run.proofs.feeds.LeftLemmas.{left-from}
 use Rattle.trace_run.proofs.feeds.StartLemmas.{opened-fed}
-use Rattle.trace_run.proofs.theorem.DeviceUsed.{found-kept, usable-kept, was-used}
+use Rattle.trace_run.proofs.theorem.DeviceUsed.{found-kept, lent-unfed, nothing-fed, usable-kept, was-used}
 use Rattle.trace_run.proofs.theorem.OutcomeLemmas.{reported-so}
 use Rattle.trace_run.proofs.top.run_source.Goals as goal
 
@@ -24,6 +26,7 @@ returns-in-Err-clause-does g c = record {
   took = search rules;
   unrun = search rules;
   cache = nothing-lost g.D.CacheDev c.args.cache.now;
+  unfed = inl (nothing-fed g.D.CacheDev c.args.cache.now);
   told = inl refl;
   reported = search rules;
   sink = search rules;
@@ -38,7 +41,8 @@ returns-in-Ok-ran-clause-does g c =
     let first = cursor_in begun in
     let found : Finds g.D.CacheDev c.args.cache.now (device_of begun) first c.in-Ok-begin.begun.rebuilt =
     subst (λ (o : Option g.row.D.Denot). Finds g.D.CacheDev o (device_of begun) first c.in-Ok-begin.begun.rebuilt) c.take.ensures.value c.in-Ok-begin.ensures.found in
-    let lent : WasInUse g.D.CacheDev begun c.run_trace-ran.new.device = c.run_trace-ran.ensures.device in
+    let in_use : WasInUse g.D.CacheDev c.with_bound-trace.result.ops begun c.run_trace-ran.new.device = c.run_trace-ran.ensures.device in
+    let lent = in_use.kind in
     let kind = c.in-Ok-begin.ensures.kind in
     let before : lent_in begun ≡ usable g.D.CacheDev (device_of begun) = sym (usable-lent g.D.CacheDev begun kind) in
     let after : lent_in c.run_trace-ran.new.device ≡ usable g.D.CacheDev c.back.result = sym (usable-kept g.D.CacheDev begun c.run_trace-ran.new.device lent kind) ∙ ap (usable g.D.CacheDev) (sym c.back.ensures) in
@@ -58,6 +62,11 @@ returns-in-Ok-ran-clause-does g c =
       took = search rules;
       unrun = search rules;
       cache = subst (MayLose g.D.CacheDev c.args.cache.now) (sym c.back.ensures) (found-kept g.D.CacheDev c.args.cache.now begun c.run_trace-ran.new.device first c.in-Ok-begin.begun.rebuilt found lent);
+      unfed = elim (cases_true (list_any is_feed trace.ops)) [
+        | inl feeds ↦ inr (trace, c.in-Ok.ensures.read, feeds)
+        | inr none ↦ inl (subst (MayLoseUnfed g.D.CacheDev c.args.cache.now) (sym c.back.ensures) (lent-unfed g.D.CacheDev c.args.cache.now begun c.run_trace-ran.new.device first c.in-Ok-begin.begun.rebuilt found
+            (in_use.unfed (ap (λ (t : Trace). list_any is_feed t.ops) bounded ∙ none))))
+      ];
       told = inr (trace, c.in-Ok.ensures.read, subst (λ (t : Trace). LeavesDeclared g.P.Pool t.blocks c.args.pool.now c.run_trace-ran.new.pool) bounded c.run_trace-ran.ensures.pool);
       reported = reported-so g.P.Pool g.D.CacheDev _ _ _ told.report told.closed c.deliver.result.report c.deliver.result.closed c.deliver.ensures.same (record {
         trace = trace;
