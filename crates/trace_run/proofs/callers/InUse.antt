@@ -1,5 +1,5 @@
 -- The cache device while groups are done: it has its length and its kind, and no fewer faults are counted; where no line asks for a feed it is only lent.
-use Rattle.std.proofs.Common.{◌≡◌, ◌-◌, ◌≤◌, ℕ, zero, suc, min, Bool, false, List, [], ◌∷◌, drop, take, refl, sym, subst, ◌∙◌, inl, inr, arith}
+use Rattle.std.proofs.Common.{◌≡◌, ◌-◌, ◌≤◌, ℕ, zero, suc, min, Bool, false, List, [], ◌∷◌, drop, take, refl, sym, ap, subst, ◌∙◌, inl, inr, arith}
 use Rattle.std.specs.Prelude.{slice_range}
 use Rattle.std.specs.List.{list_any}
 use Rattle.std.proofs.lemmas.Bool.{cases_lt, false≢true}
@@ -126,10 +126,10 @@ module _ {C D : Type 0} (m : Meanings C) (devices : Ghosts D) (cache : Cache) wh
   fed-kind fs (device.Ready a) (device.Short b) p q made = absurd made
 
   -- those of these lines that were done
-  pub tried-in-use : (ops : List Op) (first end : ℕ) (a b : Device D) (p q : Place (Known C)) → TriesBeside m devices cache (slice_range ops first end) a b p q → WasInUse devices ops a b
-  tried-in-use ops first end a b p q tried =
+  pub tried-in-use : (ops os : List Op) → os ≡ ops → (first end : ℕ) (a b : Device D) (p q : Place (Known C)) → TriesBeside m devices cache (slice_range os first end) a b p q → WasInUse devices ops a b
+  tried-in-use ops os is first end a b p q tried =
       let u = tried.used in
       record {
         kind = kind-then devices a u.lent b (lent-kind devices a u.lent u.gave) (kind-then devices u.lent u.later b (fed-kind tried.feeds u.lent u.later p q u.made) (lent-kind devices u.later b u.took));
-        unfed = λ none. unasked-lent m devices cache (slice_range ops first end) a b p q (none-within ops first end none) tried;
+        unfed = λ none. unasked-lent m devices cache (slice_range os first end) a b p q (none-within os first end (ap (list_any is_feed) is ∙ none)) tried;
       }

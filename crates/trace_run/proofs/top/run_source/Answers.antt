@@ -33,6 +33,31 @@ returns-in-Err-clause-does g c = record {
   present = search rules;
 }
 
+pub returns-in-Err-ran-clause-does : goal.returns-in-Err-ran-clause-does
+returns-in-Err-ran-clause-does g c =
+    let trace : Trace = c.in-Ok.trace in
+    let bounded : c.with_bound-trace.result ≡ with_bound trace (device_len g.D.CacheDev.size c.args.cache.now) = c.with_bound-trace.ensures.bounded ∙ ap (with_bound trace) c.device_len.ensures in
+    let begun : Device g.row.D.Denot = c.in-Ok-begin.begun.device in
+    let first = cursor_in begun in
+    let found : Finds g.D.CacheDev c.args.cache.now (device_of begun) first c.in-Ok-begin.begun.rebuilt =
+    subst (λ (o : Option g.row.D.Denot). Finds g.D.CacheDev o (device_of begun) first c.in-Ok-begin.begun.rebuilt) c.take.ensures.value c.in-Ok-begin.ensures.found in
+    let in_use : WasInUse g.D.CacheDev c.with_bound-trace.result.ops begun c.run_trace-ran.new.device = c.run_trace-ran.ensures.device in
+    record {
+      source = search rules;
+      took = search rules;
+      unrun = search rules;
+      cache = subst (MayLose g.D.CacheDev c.args.cache.now) (sym c.back.ensures) (found-kept g.D.CacheDev c.args.cache.now begun c.run_trace-ran.new.device first c.in-Ok-begin.begun.rebuilt found in_use.kind);
+      unfed = elim (cases_true (list_any is_feed trace.ops)) [
+        | inl feeds ↦ inr (trace, c.in-Ok.ensures.read, feeds)
+        | inr none ↦ inl (subst (MayLoseUnfed g.D.CacheDev c.args.cache.now) (sym c.back.ensures) (lent-unfed g.D.CacheDev c.args.cache.now begun c.run_trace-ran.new.device first c.in-Ok-begin.begun.rebuilt found
+            (in_use.unfed (ap (λ (t : Trace). list_any is_feed t.ops) bounded ∙ none))))
+      ];
+      told = inr (trace, c.in-Ok.ensures.read, subst (λ (t : Trace). LeavesDeclared g.P.Pool t.blocks c.args.pool.now c.run_trace-ran.new.pool) bounded c.run_trace-ran.ensures.pool);
+      reported = search rules;
+      sink = search rules;
+      present = search rules;
+    }
+
 pub returns-in-Ok-ran-clause-does : goal.returns-in-Ok-ran-clause-does
 returns-in-Ok-ran-clause-does g c =
     let trace : Trace = c.in-Ok.trace in
@@ -49,14 +74,14 @@ returns-in-Ok-ran-clause-does g c =
     let run = c.in-Ok-ran.ensures.run.0 in
     let told = c.in-Ok-ran.reported in
     let feeds_left = left-from g.D.CacheDev c.with_bound-trace.result.config c.args.cache.now begun c.run_trace-ran.new.device c.in-Ok-begin.begun.rebuilt run.work.feeds told.report.histories kind found c.in-Ok-ran.ensures.run.1 in
-    let in_use = was-used g.D.CacheDev c.with_bound-trace.result told.ending run.work begun c.run_trace-ran.new.device c.back.result c.back.ensures kind lent run.used run.unfed run.answered in
+    let handed = was-used g.D.CacheDev c.with_bound-trace.result told.ending run.work begun c.run_trace-ran.new.device c.back.result c.back.ensures kind lent run.used run.unfed run.answered in
     let did : (r : HasRun g.P.Pool g.D.CacheDev c.args.pool.now c.run_trace-ran.new.pool (usable g.D.CacheDev (device_of begun)) (usable g.D.CacheDev c.back.result) (with_bound trace (device_len g.D.CacheDev.size c.args.cache.now)) told.ending told.closed told.report)
-        × WasUsed g.D.CacheDev (with_bound trace (device_len g.D.CacheDev.size c.args.cache.now)) told.ending r.work (device_of begun) c.back.result
-        × WasFedFrom g.D.CacheDev (with_bound trace (device_len g.D.CacheDev.size c.args.cache.now)).config c.args.cache.now (device_of begun) c.back.result first told.report.rebuilt r.work.feeds told.report.histories =
+    × WasUsed g.D.CacheDev (with_bound trace (device_len g.D.CacheDev.size c.args.cache.now)) told.ending r.work (device_of begun) c.back.result
+    × WasFedFrom g.D.CacheDev (with_bound trace (device_len g.D.CacheDev.size c.args.cache.now)).config c.args.cache.now (device_of begun) c.back.result first told.report.rebuilt r.work.feeds told.report.histories =
     subst (λ (x : Trace × Option g.row.D.Denot × Option g.row.D.Denot × Option g.row.D.Denot × Option Rebuilt).
-        (r : HasRun g.P.Pool g.D.CacheDev c.args.pool.now c.run_trace-ran.new.pool x.1 x.2 x.0 told.ending told.closed told.report) × WasUsed g.D.CacheDev x.0 told.ending r.work (device_of begun) c.back.result
-        × WasFedFrom g.D.CacheDev x.0.config c.args.cache.now (device_of begun) x.3 first x.4 r.work.feeds told.report.histories)
-    (λ i. (bounded i, before i, after i, sym c.back.ensures i, sym c.in-Ok-ran.ensures.rebuilt i)) (run, in_use, feeds_left) in
+    (r : HasRun g.P.Pool g.D.CacheDev c.args.pool.now c.run_trace-ran.new.pool x.1 x.2 x.0 told.ending told.closed told.report) × WasUsed g.D.CacheDev x.0 told.ending r.work (device_of begun) c.back.result
+    × WasFedFrom g.D.CacheDev x.0.config c.args.cache.now (device_of begun) x.3 first x.4 r.work.feeds told.report.histories)
+    (λ i. (bounded i, before i, after i, sym c.back.ensures i, sym c.in-Ok-ran.ensures.rebuilt i)) (run, handed, feeds_left) in
     record {
       source = search rules;
       took = search rules;
