@@ -88,7 +88,7 @@ module _ {D : Type 0} (devices : Ghosts D) where
   -- one that isn't touched is none that is lost
   pub nothing-lost : (cache : Option D) → MayLose devices cache cache
   nothing-lost None = tt
-  nothing-lost (Some d) = (refl, refl)
+  nothing-lost (Some d) = (refl, refl, omega arith)
 
   -- ---- forks, one after another
 

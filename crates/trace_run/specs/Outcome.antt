@@ -1,7 +1,7 @@
 -- What a run answers, status by status.
 use Rattle.std.specs.Prelude.{◌≡◌, ◌⊎◌, ℕ, ◌+◌, ◌*◌, ◌^◌, ◌<◌, ◌≤◌, List, [], Option, Some, None, filter, is_some, map, replicate, sum_by, Bool, true, false}
 use Rattle.std.specs.Bool.{OnFalse}
-use Rattle.std.specs.List.{range_with_len}
+use Rattle.std.specs.List.{list_any, range_with_len}
 use Rattle.std.specs.Io.KnownBytes.{Appends}
 use Rattle.trace_text.specs.Grammar.{IsTraceText, IsFirstFault, longest_text}
 use Rattle.trace_text.specs.Pages.{IsFirstPageFault, IsPageText}
@@ -36,7 +36,7 @@ use Rattle.trace_run.specs.CellEnds.{AreCellsOf, AreEndedSo}
 use Rattle.trace_run.specs.RunWork.{IsRunWork, RunWork, noted_by, only_ended, plain_work}
 use Rattle.trace_run.specs.CheckText.{check_text}
 use Rattle.trace_run.specs.DeviceUse.{WasUsed}
-use Rattle.trace_run.specs.Devices.{Finds, IsHandedBack, MayLose, usable}
+use Rattle.trace_run.specs.Devices.{Finds, IsHandedBack, MayLose, MayLoseUnfed, usable}
 use Rattle.trace_run.specs.Explaining.{Explain, RunsAlone}
 use Rattle.trace_run.specs.FeedSeries.{WasFedFrom}
 use Rattle.trace_run.specs.Feeds.{AreFedReplies, is_feed}
@@ -368,6 +368,8 @@ pub record DoesRun {P D : Type 0} (pool : Ghosts P) (device : Devices D) (events
   pub took : TakesAtMost before.source.told after.source.told (longest_text + 1)
   pub unrun : OnFalse (ran status) ((after.pool ≡ before.pool) × (after.cache ≡ before.cache))
   pub cache : MayLose device before.cache after.cache
+  -- where no line of the trace asks for a feed it was only read, or it is lost
+  pub unfed : MayLoseUnfed device before.cache after.cache ⊎ ((trace : Trace) × WasRead before.source after.source trace × (list_any is_feed trace.ops ≡ true))
   -- what the pool tells is as it was, but for what syncs of the trace that was read, where it asks for some, wrote behind its declared blocks
   pub told : (pool.told after.pool ≡ pool.told before.pool) ⊎ ((trace : Trace) × WasRead before.source after.source trace × (has_sync trace.ops ≡ true) × LeavesDeclared pool trace.blocks before.pool after.pool)
   pub reported : IfReported report closed (IsReport pool device before after status)

@@ -335,7 +335,7 @@ fn next_group<R: Threads + Wait + Sync, P: Pool, D: CacheDev, G: Gate>(
     ensures later { IfOk result (λ done. syncs.next ≤ done.1.next) }
     ensures pool { LeavesFront P.Pool syncs.next pool.old pool.new }
     ensures still { has_sync trace.now.ops ≡ false → LeavesPool P.Pool pool.old pool.new }
-    ensures used { WasInUse D.CacheDev device.old device.new }
+    ensures used { WasInUse D.CacheDev trace.now.ops device.old device.new }
     ensures device { MayBeFed D.CacheDev arcs.now.config device.new }
 {
     let blocks = trace.blocks.as_slice();
@@ -407,7 +407,7 @@ pub(crate) fn all_groups<R: Threads + Wait + Sync, P: Pool, D: CacheDev, G: Gate
         → IfOk result (λ came. (all : RunWork) × AreDone arcs.now restored P.Pool D.CacheDev trace.now (between_groups pool.old syncs.group syncs.next) pool.new device.old device.new came.ending came.replies.items all came.crew) }
     ensures pool { LeavesFront P.Pool syncs.next pool.old pool.new }
     ensures still { has_sync trace.now.ops ≡ false → LeavesPool P.Pool pool.old pool.new }
-    ensures used { WasInUse D.CacheDev device.old device.new }
+    ensures used { WasInUse D.CacheDev trace.now.ops device.old device.new }
 {
     let mut crew = crew;
     let mut syncs = syncs;

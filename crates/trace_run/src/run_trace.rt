@@ -58,7 +58,7 @@ pub(crate) fn run_trace<R: Threads + Wait + Sync, P: Pool, D: CacheDev, G: Gate>
     ensures whole { IfOk result (λ told. told.report.short ≡ false) }
     ensures pool { LeavesDeclared P.Pool trace.now.blocks pool.old pool.new }
     ensures still { has_sync trace.now.ops ≡ false → P.told pool.new ≡ P.told pool.old }
-    ensures device { WasInUse D.CacheDev device.old device.new }
+    ensures device { WasInUse D.CacheDev trace.now.ops device.old device.new }
 {
     let ran = if trace.config.callers == 1 {
         run_alone(alloc, rt, trace, found_keys(&rebuilt), pool, device, gate)?

@@ -112,7 +112,7 @@ pub(crate) fn run_together<R: Threads + Wait + Sync, P: Pool, D: CacheDev, G: Ga
         × LeavesFed D.CacheDev trace.now.config restored.now work.feeds device.old device.new (histories_of ran.closed)) }
     ensures pool { LeavesDeclared P.Pool trace.now.blocks pool.old pool.new }
     ensures still { has_sync trace.now.ops ≡ false → LeavesPool P.Pool pool.old pool.new }
-    ensures device { WasInUse D.CacheDev device.old device.new }
+    ensures device { WasInUse D.CacheDev trace.now.ops device.old device.new }
 {
     let (arcs, parties) = open_cache(alloc, trace)?;
     let crew = crew_of(alloc, parties)?;

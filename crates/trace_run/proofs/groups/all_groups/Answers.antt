@@ -17,7 +17,7 @@ loop-alloc-init g c = record {
   later = omega arith;
   leaves = front-same g.P.Pool c.args.syncs.next c.args.pool.now;
   still = λ none. leaves-same g.P.Pool c.args.pool.now;
-  used = in-use-same g.D.CacheDev c.args.device.now;
+  used = in-use-same g.D.CacheDev c.args.trace.now.ops c.args.device.now;
   device = c.requires.device;
 }
 
@@ -56,7 +56,7 @@ loop-alloc-preserved g c = record {
   leaves = front-then g.P.Pool c.args.syncs.next c.args.pool.now c.loop-alloc.pool c.next_group.new.pool c.loop-alloc.invariant.leaves
       (front-before g.P.Pool c.args.syncs.next c.loop-alloc.syncs.next c.loop-alloc.pool c.next_group.new.pool c.loop-alloc.invariant.later c.in_ok-after.ensures.pool);
   still = λ none. leaves-then g.P.Pool c.args.pool.now c.loop-alloc.pool c.next_group.new.pool (c.loop-alloc.invariant.still none) (c.in_ok-after.ensures.still none);
-  used = in-use-then g.D.CacheDev c.args.device.now c.loop-alloc.device c.next_group.new.device c.loop-alloc.invariant.used c.in_ok-after.ensures.used;
+  used = in-use-then g.D.CacheDev c.args.trace.now.ops c.args.device.now c.loop-alloc.device c.next_group.new.device c.loop-alloc.invariant.used c.in_ok-after.ensures.used;
   device = c.in_ok-after.ensures.device;
 }
 

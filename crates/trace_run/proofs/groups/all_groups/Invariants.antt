@@ -17,7 +17,7 @@ invariant-loop-alloc g l = record {
   later : l.fn.syncs.next ≤ l.syncs.next;
   leaves : LeavesFront g.P.Pool l.fn.syncs.next l.fn.pool l.pool;
   still : has_sync l.trace.ops ≡ false → LeavesPool g.P.Pool l.fn.pool l.pool;
-  used : WasInUse g.D.CacheDev l.fn.device l.device;
+  used : WasInUse g.D.CacheDev l.trace.ops l.fn.device l.device;
   device : MayBeFed g.D.CacheDev l.arcs.config l.device;
 }
 

@@ -115,37 +115,37 @@ returns-in-Err-Failed-clause-did g c = λ start restored was work between.
 pub returns-in_err-crew-clause-used : goal.returns-in_err-crew-clause-used
 returns-in_err-crew-clause-used g c =
     let tried = c.lines_at_once.ensures.tried in
-    tried-in-use dbuf_meanings g.D.CacheDev c.args.arcs.now _ c.args.device.now c.lines_at_once.new.device c.args.crew.feeder tried.0 tried.1
+    tried-in-use dbuf_meanings g.D.CacheDev c.args.arcs.now c.args.trace.now.ops c.as_slice-ops.result.now c.as_slice-ops.ensures c.len-first.result c.group_end-to.result c.args.device.now c.lines_at_once.new.device c.args.crew.feeder tried.0 tried.1
 
 pub returns-in_err-append-clause-used : goal.returns-in_err-append-clause-used
 returns-in_err-append-clause-used g c =
     let tried = c.lines_at_once.ensures.tried in
-    tried-in-use dbuf_meanings g.D.CacheDev c.args.arcs.now _ c.args.device.now c.lines_at_once.new.device c.args.crew.feeder tried.0 tried.1
+    tried-in-use dbuf_meanings g.D.CacheDev c.args.arcs.now c.args.trace.now.ops c.as_slice-ops.result.now c.as_slice-ops.ensures c.len-first.result c.group_end-to.result c.args.device.now c.lines_at_once.new.device c.args.crew.feeder tried.0 tried.1
 
 pub returns-in_default-clause-used : goal.returns-in_default-clause-used
 returns-in_default-clause-used g c =
     let tried = c.lines_at_once.ensures.tried in
-    tried-in-use dbuf_meanings g.D.CacheDev c.args.arcs.now _ c.args.device.now c.lines_at_once.new.device c.args.crew.feeder tried.0 tried.1
+    tried-in-use dbuf_meanings g.D.CacheDev c.args.arcs.now c.args.trace.now.ops c.as_slice-ops.result.now c.as_slice-ops.ensures c.len-first.result c.group_end-to.result c.args.device.now c.lines_at_once.new.device c.args.crew.feeder tried.0 tried.1
 
 pub returns-in_err-crew-2-clause-used : goal.returns-in_err-crew-2-clause-used
 returns-in_err-crew-2-clause-used g c =
     let tried = c.lines_at_once.ensures.tried in
-    tried-in-use dbuf_meanings g.D.CacheDev c.args.arcs.now _ c.args.device.now c.lines_at_once.new.device c.args.crew.feeder tried.0 tried.1
+    tried-in-use dbuf_meanings g.D.CacheDev c.args.arcs.now c.args.trace.now.ops c.as_slice-ops.result.now c.as_slice-ops.ensures c.len-first.result c.group_end-to.result c.args.device.now c.lines_at_once.new.device c.args.crew.feeder tried.0 tried.1
 
 pub returns-in_err-push-in-Ok-came-clause-used : goal.returns-in_err-push-in-Ok-came-clause-used
 returns-in_err-push-in-Ok-came-clause-used g c =
     let tried = c.lines_at_once.ensures.tried in
-    tried-in-use dbuf_meanings g.D.CacheDev c.args.arcs.now _ c.args.device.now c.lines_at_once.new.device c.args.crew.feeder tried.0 tried.1
+    tried-in-use dbuf_meanings g.D.CacheDev c.args.arcs.now c.args.trace.now.ops c.as_slice-ops.result.now c.as_slice-ops.ensures c.len-first.result c.group_end-to.result c.args.device.now c.lines_at_once.new.device c.args.crew.feeder tried.0 tried.1
 
 pub returns-in_ok-push-in-Ok-came-clause-used : goal.returns-in_ok-push-in-Ok-came-clause-used
 returns-in_ok-push-in-Ok-came-clause-used g c =
     let tried = c.lines_at_once.ensures.tried in
-    tried-in-use dbuf_meanings g.D.CacheDev c.args.arcs.now _ c.args.device.now c.lines_at_once.new.device c.args.crew.feeder tried.0 tried.1
+    tried-in-use dbuf_meanings g.D.CacheDev c.args.arcs.now c.args.trace.now.ops c.as_slice-ops.result.now c.as_slice-ops.ensures c.len-first.result c.group_end-to.result c.args.device.now c.lines_at_once.new.device c.args.crew.feeder tried.0 tried.1
 
 pub returns-in-Err-clause-used : goal.returns-in-Err-clause-used
 returns-in-Err-clause-used g c =
     let tried = c.lines_at_once.ensures.tried in
-    tried-in-use dbuf_meanings g.D.CacheDev c.args.arcs.now _ c.args.device.now c.lines_at_once.new.device c.args.crew.feeder tried.0 tried.1
+    tried-in-use dbuf_meanings g.D.CacheDev c.args.arcs.now c.args.trace.now.ops c.as_slice-ops.result.now c.as_slice-ops.ensures c.len-first.result c.group_end-to.result c.args.device.now c.lines_at_once.new.device c.args.crew.feeder tried.0 tried.1
 
 -- ---- the pool, where no sync is asked for
 

@@ -74,3 +74,17 @@ returns-in_err-reported-clause-still g c = elim c.if-trace-eq1.branch [
   | then-trace-eq1+in_ok-ran w ↦ rw w.pool-is (λ none. w.run_alone.ensures.pool.told)
   | else-trace-eq1+in_ok-ran-2 w ↦ rw w.pool-is (λ none. (w.run_together.ensures.still none).told)
 ]
+
+-- ---- the device
+
+pub returns-clause-device : goal.returns-clause-device
+returns-clause-device g c = elim c.if-trace-eq1.branch [
+  | then-trace-eq1+in_ok-ran w ↦ rw w.device-is (lent-in-use g.D.CacheDev c.args.trace.now.ops c.args.device.now w.run_alone.new.device w.run_alone.ensures.device)
+  | else-trace-eq1+in_ok-ran-2 w ↦ rw w.device-is w.run_together.ensures.device
+]
+
+pub returns-in_err-reported-clause-device : goal.returns-in_err-reported-clause-device
+returns-in_err-reported-clause-device g c = elim c.if-trace-eq1.branch [
+  | then-trace-eq1+in_ok-ran w ↦ rw w.device-is (lent-in-use g.D.CacheDev c.args.trace.now.ops c.args.device.now w.run_alone.new.device w.run_alone.ensures.device)
+  | else-trace-eq1+in_ok-ran-2 w ↦ rw w.device-is w.run_together.ensures.device
+]
