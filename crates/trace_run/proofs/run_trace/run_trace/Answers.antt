@@ -1,4 +1,7 @@
-use Rattle.std.proofs.Common.{◌≡◌, List, sym, ap, subst, arith}
+use Rattle.trace_run.proofs.callers.InUse.{lent-in-use}
+use Rattle.trace_run.specs.callers.Group.{LeavesDeclared}
+use Rattle.trace_run.specs.callers.Beside.{WasInUse}
+use Rattle.std.proofs.Common.{◌≡◌, List, sym, ap, subst, arith, refl, inl}
 use Rattle.arc_core.specs.declared.served.Restored.{Restored}
 use Rattle.trace_run.specs.one_caller.Alone.{RanAlone, ends_in, histories_of}
 use Rattle.trace_run.specs.FeedSeries.{LeavesFed}
