@@ -40,7 +40,7 @@ use Rattle.trace_run.specs.Deeds.{SameMade}
 use Rattle.trace_run.specs.Making.{AreEventsSeen}
 use Rattle.trace_run.proofs.deeds.MakesLemmas.{grown-same, same-none, same-then}
 use Rattle.trace_run.proofs.feeds.PickedLemmas.{resize-picked, roomy-picks}
-use Rattle.trace_run.proofs.callers.MeetLemmas.{HaveJoined, all-parted, are-last, joined-front, joined_of, left_alone, parted-then, parted_from, starts-events, starts-then}
+use Rattle.trace_run.proofs.callers.MeetLemmas.{HaveJoined, have-met, all-parted, are-last, joined-front, joined_of, left_alone, parted-then, parted_from, starts-events, starts-then}
 use Rattle.trace_run.proofs.callers.TurnLemmas.{joined, joined-all, joined-stands}
 
 module _ {C : Type 0} (m : Meanings C) (cache : Cache) (c : ℕ) where
@@ -311,6 +311,7 @@ module _ {C : Type 0} (m : Meanings C) (cache : Cache) (p : Place (Known C)) (ot
         about = given.stays.about ∙ have.about;
         alone = refl;
         stands = last-stands;
+        met = have-met cache q r (leaves-grow g q r given.left) p others have.self.cells have.all;
         front = λ shard. seen_of g shard q;
         seen = given.seen;
         own = have.self.own;

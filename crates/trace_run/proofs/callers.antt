@@ -2,7 +2,6 @@ pub mod AbsorbLemmas
 pub mod AfterEnds
 pub mod BesideLemmas
 pub mod CallerActLemmas
-pub mod DeviceSteps
 pub mod EndLineLemmas
 pub mod EndedLemmas
 pub mod FrontLemmas
@@ -14,12 +13,13 @@ pub mod GroupsLemmas
 pub mod InOrderLemmas
 pub mod InUse
 pub mod LineLists
+pub mod LookedLemmas
+pub mod LookingLemmas
 pub mod MeetLemmas
 pub mod MergedLines
 pub mod MoreLemmas
 pub mod PlaceLemmas
 pub mod StepLemmas
 pub mod SyncRun
-pub mod TogetherLemmas
 pub mod TurnLemmas
 pub mod TurningLemmas

@@ -43,11 +43,17 @@ module _ {D : Type 0} (devices : Ghosts D) where
     pub time : LeavesNothingNew (devices.moment before) (devices.moment after) (devices.left_since before) (devices.left_since after)
     pub faults : min (devices.faults before) last_count ≤ devices.faults after
 
-  -- The device has its length and its kind, or it is lost; and none is made up.
+  -- The device has its length and its kind, and its count of faults has not fallen, as far as a count goes; or it is lost. None is made up.
   abbrev pub MayLose : Option D → Option D → Type 0
   MayLose before None = Unit {0}
   MayLose None (Some after) = ⊥
-  MayLose (Some before) (Some after) = (devices.size after ≡ devices.size before) × (devices.has_sectors after ≡ devices.has_sectors before)
+  MayLose (Some before) (Some after) = (devices.size after ≡ devices.size before) × (devices.has_sectors after ≡ devices.has_sectors before) × (min (devices.faults before) last_count ≤ devices.faults after)
+
+  -- it was only read, or it is lost
+  abbrev pub MayLoseUnfed : Option D → Option D → Type 0
+  MayLoseUnfed before None = Unit {0}
+  MayLoseUnfed None (Some after) = ⊥
+  MayLoseUnfed (Some before) (Some after) = WasOnlyRead before after
 
   -- one that was only read is not lost
   abbrev pub IsHandedBack : Option D → Option D → Type 0

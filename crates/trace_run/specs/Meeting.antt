@@ -223,6 +223,10 @@ abbrev pub resizes_in : (shards n c : ℕ) → (shard : ℕ) → List Event
 resizes_in shards n c shard = if nat_lt shard shards then (Resize n c ∷ []) else []
 
 module _ {C : Type 0} where
+  -- Of each cell these have all seen the same now, which goes on from what each of those had seen.
+  abbrev pub HaveMet : Config → (olds news : List (Place (Known C))) → Type 0
+  HaveMet g olds news = (i : ℕ) → IsCell g i → (all : List Line) × AllByRecursion (λ o. StartsWith all (front_of i o.own.seen)) olds × AllByRecursion (λ x. front_of i x.own.seen ≡ all) news
+
   -- While all others had joined it, the party made these events of each shard; then they parted. They stand behind all that anybody had done there,
   -- and all have seen them.
   pub record MadeJoined (cache : Cache) (more : (shard : ℕ) → List Event) (p : Place (Known C)) (olds : List (Place (Known C))) (q : Place (Known C)) (news : List (Place (Known C))) : Type 0 where
@@ -233,6 +237,7 @@ module _ {C : Type 0} where
     pub about : q.own.about ≡ p.own.about
     pub alone : q.joined ≡ []
     pub stands : Stands cache q []
+    pub met : HaveMet cache.config (p ∷ olds) (q ∷ news)
     pub front : ℕ → List Event
     pub seen : (shard : ℕ) → seen_of cache.config shard q ≡ front shard ++ more shard
     -- the front has of each just what it had done

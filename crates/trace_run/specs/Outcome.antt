@@ -1,7 +1,7 @@
 -- What a run answers, status by status.
-use Rattle.std.specs.Prelude.{◌≡◌, ◌⊎◌, ℕ, ◌+◌, ◌*◌, ◌^◌, ◌<◌, ◌≤◌, List, [], Option, Some, None, is_some, map, replicate, sum_by, Bool, true, false}
+use Rattle.std.specs.Prelude.{◌≡◌, ◌⊎◌, ℕ, ◌+◌, ◌*◌, ◌^◌, ◌<◌, ◌≤◌, List, [], Option, Some, None, filter, is_some, map, replicate, sum_by, Bool, true, false}
 use Rattle.std.specs.Bool.{OnFalse}
-use Rattle.std.specs.List.{AllByRecursion, range_with_len}
+use Rattle.std.specs.List.{list_any, range_with_len, AllByRecursion}
 use Rattle.std.specs.Io.KnownBytes.{Appends}
 use Rattle.trace_text.specs.Grammar.{IsTraceText, IsFirstFault, longest_text}
 use Rattle.trace_text.specs.Pages.{IsFirstPageFault, IsPageText}
@@ -36,9 +36,13 @@ use Rattle.trace_run.specs.CellEnds.{AreCellsOf, AreEndedSo}
 use Rattle.trace_run.specs.RunWork.{IsRunWork, RunWork, noted_by, only_ended, plain_work}
 use Rattle.trace_run.specs.CheckText.{check_text}
 use Rattle.trace_run.specs.DeviceUse.{WasUsed}
-use Rattle.trace_run.specs.Devices.{Finds, IsHandedBack, MayLose, usable}
+use Rattle.trace_run.specs.Devices.{Finds, IsHandedBack, MayLose, MayLoseUnfed, usable}
+use Rattle.trace_run.specs.one_caller.InTurn.{RunsInTurn}
 use Rattle.trace_run.specs.Explaining.{Explain, RunsAlone}
-use Rattle.trace_run.specs.Lines.{has_undone}
+use Rattle.trace_run.specs.FeedSeries.{WasFedFrom}
+use Rattle.trace_run.specs.Feeds.{AreFedReplies, is_feed}
+use Rattle.trace_run.specs.Lines.{has_further, has_sync, replies_where}
+use Rattle.trace_run.specs.Objects.{ops_of, replies_of}
 use Rattle.trace_run.specs.ObjectAnswers.{AreAnsweredByCells}
 use Rattle.trace_run.specs.one_caller.PlainRun.{images, report_of}
 use Rattle.l2_dev.specs.Cursor.{CursorState}
@@ -71,20 +75,12 @@ pub record WasRead (before after : StreamState) (trace : Trace) : Type 0 where
   pub unfailed : NoneFailed before after
   pub is_trace : IsTraceText text trace
 
--- The text is a trace, and it has an operation that the program does not do yet: that is told as an unknown word is.
-pub record IsUndone (text : List ℕ) (kind : Kind) : Type 0 where
-  pub trace : Trace
-  pub is_trace : IsTraceText text trace
-  pub undone : has_undone trace ≡ true
-  pub unknown : kind ≡ kinds.Word
-
--- The source was read, to its end or past the longest text, by calls of which none failed, and this is the first fault of what it gave, or
--- what it gave is not done yet.
+-- The source was read, to its end or past the longest text, by calls of which none failed, and this is the first fault of what it gave.
 pub record IsBadTrace (before after : StreamState) (line : ℕ) (kind : Kind) : Type 0 where
   pub text : List ℕ
   pub given : Gives before.told after.told longest_text text
   pub unfailed : NoneFailed before after
-  pub fault : IsFirstFault text line kind ⊎ IsUndone text kind
+  pub fault : IsFirstFault text line kind
 
 -- Each operation that was answered has its answer, and the histories, which are those of the closed cache, explain the replies, with this work beside them, and the
 -- reads of the pool; its faults rose by one for each reply that says so, and by one more where a fork failed, where each count had room. With one
@@ -99,12 +95,14 @@ pub record IsRun {P D : Type 0} (pool : Ghosts P) (device : Devices D) (before a
   pub no_workers : report.io ≡ None
   pub reads : pool.reads before < 2 ^ 63 → pool.reads after ≡ pool.reads before + sum_by pool_reads report.histories
   pub faults : pool.faults before < 2 ^ 63 → pool.faults after ≡ pool.faults before + faults_told ending report.replies
-  pub alone : trace.config.callers ≡ 1 → (ending ≡ Whole) × RunsAlone pool device before after lent back trace report
+  pub alone : trace.config.callers ≡ 1 → has_further trace.ops ≡ false → (ending ≡ Whole) × RunsAlone pool device before after lent back trace report
   -- syncs write from this place on
   pub place : ℕ
   pub first : IsFirstPlace (pool.size before) trace.blocks place
   -- a line on an object is answered by its cell
   pub objects : AreAnsweredByCells trace.config (pool.size before) (pool.told before) place closed.cells work.lines
+  -- one caller whose lines are on objects too, or whose trace has syncs or feeds, does them one after another
+  pub in_turn : trace.config.callers ≡ 1 → has_further trace.ops ≡ true → RunsInTurn pool device before after lent back place trace ending work closed.cells report
   pub together : 2 ≤ trace.config.callers → RunsTogether pool before after place trace ending work closed.cells report
   -- a trace without an operation has no work: no fork is made for it, and the pool is as it was
   pub idle : trace.ops ≡ [] → (ending ≡ Whole) × (after ≡ before)
@@ -122,7 +120,8 @@ pub record HasRun {P D : Type 0} (pool : Ghosts P) (device : Devices D) (before 
   pub kept : AreEndedSo trace.config 0 closed.cells work.ended
   pub used : 2 ≤ trace.config.callers → UsedInGroups device trace.blocks trace.config.callers (groups_done ending work.lines) work.feeds lent back
   pub unfed : work.feeds ≡ [] → IsHandedBack device lent back
-  pub plain : trace.config.callers ≡ 1 → work ≡ plain_work trace.ops report.replies
+  pub answered : AreFedReplies lent (filter is_feed (ops_of work.lines)) work.feeds (replies_where is_feed (ops_of work.lines) (replies_of work.lines))
+  pub plain : trace.config.callers ≡ 1 → has_further trace.ops ≡ false → work ≡ plain_work trace.ops report.replies
   pub status : report.status ≡ report_status ending report.replies
 
 -- Room is told as missing with the numbers of the sync that stopped for it, and of no other end.
@@ -138,12 +137,11 @@ TellsEnding statuses.PoolFault ending = Unit {0}
 TellsEnding statuses.NoMemory ending = Unit {0}
 TellsEnding (statuses.Illegal shard index) ending = Unit {0}
 
--- The report is that of a run of the trace that the source gave, all of whose lines the program does. The trace's bound of one feed is at most half of
+-- The report is that of a run of the trace that the source gave. The trace's bound of one feed is at most half of
 -- the device's ring. What is reported of the device is what its start found; callers had forks of it, and it is handed back.
 pub record IsReport {P D : Type 0} (pool : Ghosts P) (device : Devices D) (before after : Handed P D) (answer : Status) (closed : Ended OnHeap) (report : Report) : Type 0 where
   pub trace : Trace
   pub read : WasRead before.source after.source trace
-  pub done : has_undone trace ≡ false
   -- the device behind its start
   pub started : Option D
   -- where it is written from then on
@@ -152,6 +150,8 @@ pub record IsReport {P D : Type 0} (pool : Ghosts P) (device : Devices D) (befor
   pub ending : Ending
   pub run : HasRun pool device before.pool after.pool (usable device started) (usable device after.cache) (with_bound trace (device_len device.size before.cache)) ending closed report
   pub used : WasUsed device (with_bound trace (device_len device.size before.cache)) ending run.work started after.cache
+  -- what its feeds left of it: where each was written, the faults that were counted, and what each crash restores
+  pub fed : WasFedFrom device (with_bound trace (device_len device.size before.cache)).config before.cache started after.cache first report.rebuilt run.work.feeds report.histories
   pub told : TellsEnding answer ending
   pub whole : report.short ≡ false
 
@@ -362,8 +362,10 @@ pub record DoesRun {P D : Type 0} (pool : Ghosts P) (device : Devices D) (events
   pub took : TakesAtMost before.source.told after.source.told (longest_text + 1)
   pub unrun : OnFalse (ran status) ((after.pool ≡ before.pool) × (after.cache ≡ before.cache))
   pub cache : MayLose device before.cache after.cache
-  -- what the pool tells is as it was, but for what syncs of the trace that was read wrote behind its declared blocks
-  pub told : (pool.told after.pool ≡ pool.told before.pool) ⊎ ((trace : Trace) × WasRead before.source after.source trace × LeavesDeclared pool trace.blocks before.pool after.pool)
+  -- where no line of the trace asks for a feed it was only read, or it is lost
+  pub unfed : MayLoseUnfed device before.cache after.cache ⊎ ((trace : Trace) × WasRead before.source after.source trace × (list_any is_feed trace.ops ≡ true))
+  -- what the pool tells is as it was, but for what syncs of the trace that was read, where it asks for some, wrote behind its declared blocks
+  pub told : (pool.told after.pool ≡ pool.told before.pool) ⊎ ((trace : Trace) × WasRead before.source after.source trace × (has_sync trace.ops ≡ true) × LeavesDeclared pool trace.blocks before.pool after.pool)
   pub reported : IfReported report closed (IsReport pool device before after status)
   pub sink : AnswersSink events before.sink after.sink status report
   pub present : is_some report ≡ has_report status

@@ -34,7 +34,7 @@ use Rattle.trace_run.specs.Deeds.{HasToldOthers, Noted, acts_of_events, events_o
 use Rattle.trace_run.specs.KeptBlocks.{Stands}
 use Rattle.trace_run.specs.MadeLines.{made_of}
 use Rattle.trace_run.specs.Making.{AreEventsSeen, AreNoEntries}
-use Rattle.trace_run.specs.Meeting.{HasSettled, HaveParted, IsLevel}
+use Rattle.trace_run.specs.Meeting.{HasSettled, HaveMet, HaveParted, IsLevel}
 
 -- the event that takes a block in, under its cell's number
 abbrev pub insert_of : Config → (tick : ℕ) → SyncItem → Event
@@ -112,6 +112,7 @@ pub record SyncsJoined (cache : Cache) (tick : ℕ) (p : PartyPlace) (olds : Lis
   pub sound : (i : ℕ) (c : OnHeap) → slice_get cells i ≡ Some c → IsSound c.value
   pub began : (i : ℕ) (c : OnHeap) → slice_get cells i ≡ Some c → opening_numbers c.value.limit c.value.opening ≡ slice_index_or p.own.about.openings i []
   pub noted : (i : ℕ) (c : OnHeap) → slice_get cells i ≡ Some c → front_of i q.own.seen ≡ lines_of c.value.history ++ lines_of (synced_in p.number i xs)
+  pub met : HaveMet cache.config (p ∷ olds) (q ∷ news)
   -- it has seen of each cell what it had
   pub grown : (i : ℕ) → IsCell cache.config i → StartsWith (front_of i q.own.seen) (front_of i p.own.seen)
   -- and each had done just what is noted of it

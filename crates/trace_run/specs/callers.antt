@@ -6,5 +6,6 @@ pub mod Group
 pub mod GroupRun
 pub mod Groups
 pub mod InOrder
+pub mod Looking
 pub mod Together
 pub mod WorkLines

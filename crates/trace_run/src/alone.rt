@@ -40,22 +40,6 @@ use std::sync::Wait;
 use trace_text::{Op, Reply, Trace};
 use vdev_io::{CacheDev, Gate, NoCache, Pool};
 
-/// Whether these lines are reads, drops and capacities alone.
-pub(crate) fn is_plain(ops: &[Op]) -> bool {
-    ops.iter().all(|op| is_plain_line(op))
-}
-
-/// Whether a line reads, drops or gives a capacity.
-fn is_plain_line(op: &Op) -> bool {
-    match *op {
-        Op::Read { .. } | Op::Hold { .. } | Op::Drop { .. } | Op::Cap { .. } => true,
-        Op::Get { .. } | Op::Put { .. } | Op::Patch { .. } | Op::Pin { .. } | Op::Unpin { .. } => {
-            false
-        }
-        Op::Feed | Op::Txg { .. } => false,
-    }
-}
-
 /// The party of the one caller, which the feeder's has joined.
 fn only_party(arcs: &Cells, mut parties: Vec<Party<HeapCell>>) -> Party<HeapCell>
     requires one { arcs.now.config.callers ≡ 1 }

@@ -1,5 +1,5 @@
 //! One caller and every line: its own lines on the pool and the cache device that were handed in, and between them those that the feeder does.
-ghost use Rattle.std.specs.Prelude.{◌≡◌, ◌≢◌, ◌⊎◌, ℕ, ◌<◌, ◌≤◌, ◌+◌, ◌^◌, ◌∷◌, [], IfOk, List, None, Option, Some, filter, length, map, slice_get, vec_len};
+ghost use Rattle.std.specs.Prelude.{◌≡◌, ◌≢◌, ◌⊎◌, ℕ, ◌<◌, ◌≤◌, ◌+◌, ◌^◌, ◌∷◌, [], IfOk, List, None, Option, Some, false, filter, length, map, slice_get, vec_len};
 ghost use Rattle.vdev_io.specs.Calls.{KeepsPool};
 ghost use Rattle.arc_core.specs.declared.served.Restored.{Restored};
 ghost use Rattle.arc_table.specs.Geometry.{parties_of};
@@ -13,7 +13,7 @@ ghost use Rattle.trace_run.specs.Devices.{WasLent, lent_in};
 ghost use Rattle.trace_run.specs.FeedSeries.{LeavesFed};
 ghost use Rattle.trace_run.specs.Feeds.{DoesFeeds, IsIdleFeeder, MayBeFed};
 ghost use Rattle.trace_run.specs.KeptBlocks.{Stands, read_of};
-ghost use Rattle.trace_run.specs.Lines.{caller_of, is_of_caller};
+ghost use Rattle.trace_run.specs.Lines.{caller_of, has_sync, is_of_caller, is_sync};
 ghost use Rattle.trace_run.specs.Meeting.{MayGoOn};
 ghost use Rattle.trace_run.specs.Restores.{found_keys};
 ghost use Rattle.trace_run.specs.RunWork.{RunWork};
@@ -21,7 +21,7 @@ ghost use Rattle.trace_run.specs.Tally.{AreDeclared};
 ghost use Rattle.trace_run.specs.callers.Beside.{WasInUse};
 ghost use Rattle.trace_run.specs.callers.CallerLines.{at};
 ghost use Rattle.trace_run.specs.callers.Callers.{AreAtStart, CameTo};
-ghost use Rattle.trace_run.specs.callers.Group.{LeavesDeclared, LeavesFront};
+ghost use Rattle.trace_run.specs.callers.Group.{LeavesDeclared, LeavesFront, LeavesPool};
 ghost use Rattle.trace_run.specs.callers.GroupRun.{RanTogether};
 ghost use Rattle.trace_run.specs.callers.Groups.{MaySync};
 ghost use Rattle.trace_run.specs.callers.Together.{BetweenGroups, between_groups, report_of_closed};
@@ -210,7 +210,8 @@ fn other_line<P: Pool, D: CacheDev>(
     ensures did { IfOk result (λ done. DidOtherLine arcs.now P.Pool D.CacheDev op.now (between_groups pool.old syncs.group syncs.next) (between_groups pool.new done.1.group done.1.next) device.old device.new crew done.0 done.2) }
     ensures later { IfOk result (λ done. syncs.next ≤ done.1.next) }
     ensures pool { LeavesFront P.Pool syncs.next pool.old pool.new }
-    ensures used { WasInUse D.CacheDev device.old device.new }
+    ensures still { is_sync op.now ≡ false → LeavesPool P.Pool pool.old pool.new }
+    ensures used { WasInUse D.CacheDev (op.now ∷ []) device.old device.new }
     ensures device { MayBeFed D.CacheDev arcs.now.config device.new }
 {
     match op {
@@ -252,7 +253,8 @@ fn next_lines<P: Pool, D: CacheDev, G: Gate>(
         → IfOk result (λ done. StepsInTurn arcs.now restored P.Pool D.CacheDev trace.now start (between_groups pool.new done.1.group done.1.next) was device.new replies.old.items replies.new.items done.2 done.0) }
     ensures later { IfOk result (λ done. syncs.next ≤ done.1.next) }
     ensures pool { LeavesFront P.Pool syncs.next pool.old pool.new }
-    ensures used { WasInUse D.CacheDev device.old device.new }
+    ensures still { has_sync trace.now.ops ≡ false → LeavesPool P.Pool pool.old pool.new }
+    ensures used { WasInUse D.CacheDev trace.now.ops device.old device.new }
     ensures device { MayBeFed D.CacheDev arcs.now.config device.new }
 {
     let ops = trace.ops.as_slice();
@@ -309,7 +311,8 @@ fn all_in_turn<P: Pool, D: CacheDev, G: Gate>(
         → AreInTurn arcs.now restored P.Pool D.CacheDev trace.now (between_groups pool.old syncs.group syncs.next) (between_groups pool.old syncs.group syncs.next) device.old device.old [] work crew
         → IfOk result (λ came. (all : RunWork) × AreDoneInTurn arcs.now restored P.Pool D.CacheDev trace.now (between_groups pool.old syncs.group syncs.next) pool.new device.old device.new came.ending came.replies.items all came.crew) }
     ensures pool { LeavesFront P.Pool syncs.next pool.old pool.new }
-    ensures used { WasInUse D.CacheDev device.old device.new }
+    ensures still { has_sync trace.now.ops ≡ false → LeavesPool P.Pool pool.old pool.new }
+    ensures used { WasInUse D.CacheDev trace.now.ops device.old device.new }
 {
     let mut crew = crew;
     let mut syncs = syncs;
@@ -364,7 +367,8 @@ pub(crate) fn run_one<P: Pool, D: CacheDev, G: Gate>(
         → RunsInTurn P.Pool D.CacheDev pool.old pool.new (lent_in device.old) (lent_in device.new) together.place trace.now ran.ending work ran.closed.cells (report_of_closed ran.ending rebuilt ran.replies.items ran.closed))
         × LeavesFed D.CacheDev trace.now.config restored.now work.feeds device.old device.new (histories_of ran.closed)) }
     ensures pool { LeavesDeclared P.Pool trace.now.blocks pool.old pool.new }
-    ensures device { WasInUse D.CacheDev device.old device.new }
+    ensures still { has_sync trace.now.ops ≡ false → LeavesPool P.Pool pool.old pool.new }
+    ensures device { WasInUse D.CacheDev trace.now.ops device.old device.new }
 {
     let (arcs, parties) = open_cache(alloc, trace)?;
     let crew = crew_of(alloc, parties)?;

@@ -4,8 +4,9 @@ ghost use Rattle.l2_dev.specs.Rebuilding.{HaveKeys};
 ghost use Rattle.trace_text.specs.Grammar.{IsFormed};
 ghost use Rattle.trace_run.specs.Outcome.{HasRun, IsGenReport};
 ghost use Rattle.trace_run.specs.Devices.{lent_in};
+ghost use Rattle.trace_run.specs.FeedSeries.{LeavesFed};
 ghost use Rattle.trace_run.specs.Feeds.{MayBeFed};
-ghost use Rattle.trace_run.specs.Lines.{has_undone};
+ghost use Rattle.trace_run.specs.Lines.{has_sync, has_undone};
 ghost use Rattle.trace_run.specs.callers.Beside.{WasInUse};
 ghost use Rattle.trace_run.specs.callers.Group.{LeavesDeclared};
 ghost use Rattle.trace_run.specs.callers.Together.{report_status};
@@ -13,9 +14,8 @@ ghost use Rattle.trace_run.specs.Restores.{found_keys};
 ghost use Rattle.trace_run.specs.Words.{IsInRange};
 ghost use Rattle.trace_run.specs.declared.words.Command.TheVariants as command;
 
-use crate::alone::{is_plain, run_alone};
+use crate::alone::run_alone;
 use crate::device::Device;
-use crate::in_turn::run_one;
 use crate::ran::Reported;
 use crate::together::run_together;
 use crate::zero_pool::ZeroPool;
@@ -52,19 +52,18 @@ pub(crate) fn run_trace<R: Threads + Wait + Sync, P: Pool, D: CacheDev, G: Gate>
     requires done { has_undone trace.now ≡ false }
     requires keys { HaveKeys (found_keys rebuilt) }
     requires device { MayBeFed D.CacheDev trace.now.config device.old }
-    ensures run { IfOk result (λ told. HasRun P.Pool D.CacheDev pool.old pool.new (lent_in device.old) (lent_in device.new) trace.now told.ending told.closed told.report) }
+    ensures run { IfOk result (λ told. (run : HasRun P.Pool D.CacheDev pool.old pool.new (lent_in device.old) (lent_in device.new) trace.now told.ending told.closed told.report)
+        × LeavesFed D.CacheDev trace.now.config (found_keys rebuilt) run.work.feeds device.old device.new told.report.histories) }
     ensures rebuilt { IfOk result (λ told. told.report.rebuilt ≡ rebuilt) }
     ensures whole { IfOk result (λ told. told.report.short ≡ false) }
     ensures pool { LeavesDeclared P.Pool trace.now.blocks pool.old pool.new }
-    ensures device { WasInUse D.CacheDev device.old device.new }
+    ensures still { has_sync trace.now.ops ≡ false → P.told pool.new ≡ P.told pool.old }
+    ensures device { WasInUse D.CacheDev trace.now.ops device.old device.new }
 {
-    let restored = found_keys(&rebuilt);
-    let ran = if trace.config.callers > 1 {
-        run_together(alloc, rt, trace, restored, pool, device, gate)?
-    } else if is_plain(trace.ops.as_slice()) {
-        run_alone(alloc, rt, trace, restored, pool, device, gate)?
+    let ran = if trace.config.callers == 1 {
+        run_alone(alloc, rt, trace, found_keys(&rebuilt), pool, device, gate)?
     } else {
-        run_one(alloc, rt, trace, restored, pool, device, gate)?
+        run_together(alloc, rt, trace, found_keys(&rebuilt), pool, device, gate)?
     };
     let reported = ran.report(alloc, rebuilt)?;
     Ok(reported)

@@ -1,7 +1,6 @@
 //! The top call: from the words and the source to the report on the sink.
 ghost use Rattle.std.specs.Prelude.{◌≡◌, ◌<◌, ◌^◌, IfOk, IfErr, None, false, is_some, ◌+◌};
 ghost use Rattle.trace_text.specs.Grammar.{IsFormed, longest_text};
-ghost use Rattle.trace_run.specs.Lines.{has_undone};
 ghost use Rattle.vdev_io.specs.Streams.{TakesAtMost};
 ghost use Rattle.trace_run.specs.Outcome.{AnswersWords, AnswersSource, AnswersSink, DoesCommand, DoesRun, IfReported, IfUsage, IsDelivered, IsGenReport, IsGenStatus, IsReadStatus, TellsEnding, WasRead, has_report};
 ghost use Rattle.trace_run.specs.callers.Group.{StaysPool};
@@ -18,7 +17,6 @@ use crate::paper::run_paper;
 use crate::ran::{Ending, Reported};
 use crate::run_trace::{run_generated_trace, run_trace};
 use crate::status::{Outcome, Status};
-use crate::undone::{first_undone, has_undone};
 use crate::words::Command;
 use blk_ptr::NoMemory;
 use std::alloc::Global;
@@ -147,7 +145,6 @@ fn read_source<S: Source>(alloc: Global, source: &mut S) -> Result<Trace, Status
     ensures took { TakesAtMost (S.left source.old) (S.left source.new) (longest_text + 1) }
     ensures read { IfOk result (WasRead (source_state S.Source source.old) (source_state S.Source source.new)) }
     ensures formed { IfOk result IsFormed }
-    ensures done { IfOk result (λ trace. has_undone trace ≡ false) }
     ensures err { IfErr result (AnswersSource (source_state S.Source source.old) (source_state S.Source source.new)) }
     ensures which { IfErr result IsReadStatus }
 {
@@ -157,10 +154,6 @@ fn read_source<S: Source>(alloc: Global, source: &mut S) -> Result<Trace, Status
         Err(ReadAllFault::NoMemory) => return Err(Status::NoMemory),
     };
     match read_trace(alloc, &text) {
-        Ok(trace) if has_undone(&trace) => Err(Status::BadTrace {
-            line: first_undone(trace.config.callers, &text),
-            kind: Kind::Word,
-        }),
         Ok(trace) => Ok(trace),
         Err(TraceFault::Bad { line, kind }) => Err(Status::BadTrace { line, kind }),
         Err(TraceFault::NoMemory) => Err(Status::NoMemory),

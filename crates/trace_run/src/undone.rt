@@ -5,11 +5,8 @@ ghost use Rattle.trace_run.specs.Lines.{has_undone, is_undone};
 
 use trace_text::{Op, Trace};
 
-/// The words of lines that no trace may have yet.
-const UNDONE: [&[u8]; 6] = [b"get", b"put", b"patch", b"pin", b"unpin", b"feed"];
-
-/// The word of a line that a trace of one caller may not have yet.
-const UNDONE_ALONE: &[u8] = b"txg";
+/// The words of lines that a trace of one caller may not have yet.
+const UNDONE: [&[u8]; 7] = [b"get", b"put", b"patch", b"pin", b"unpin", b"feed", b"txg"];
 
 /// Whether a line of the trace is not done yet.
 pub(crate) fn has_undone(trace: &Trace) -> bool
@@ -30,22 +27,21 @@ fn is_undone(callers: u32, op: &Op) -> bool
     ensures { result ≡ is_undone callers op.now }
 {
     match op {
-        Op::Read { .. } | Op::Hold { .. } | Op::Drop { .. } => false,
+        Op::Read { .. } | Op::Hold { .. } | Op::Drop { .. } | Op::Cap { .. } => false,
         Op::Get { .. } | Op::Put { .. } | Op::Patch { .. } | Op::Pin { .. } | Op::Unpin { .. } => {
-            false
+            callers == 1
         }
-        Op::Feed | Op::Txg { .. } | Op::Cap { .. } => false,
+        Op::Feed | Op::Txg { .. } => callers == 1,
     }
 }
 
-/// The number of the first line behind the first of the text of a trace of so many callers that begins with the word of such a line, counted
-/// from 1.
-pub(crate) fn first_undone(callers: u32, text: &[u8]) -> u32 {
+/// The number of the first line behind the first of a trace's text that begins with the word of such a line, counted from 1.
+pub(crate) fn first_undone(text: &[u8]) -> u32 {
     let mut line: u32 = 1;
     for place in 0..text.len() {
         if text[place] == b'\n' {
             line = line.saturating_add(1);
-            if begins_undone(callers, &text[place + 1..]) {
+            if begins_undone(&text[place + 1..]) {
                 return line;
             }
         }
@@ -54,7 +50,6 @@ pub(crate) fn first_undone(callers: u32, text: &[u8]) -> u32 {
 }
 
 /// Whether a text begins with the word of such a line.
-fn begins_undone(callers: u32, text: &[u8]) -> bool {
+fn begins_undone(text: &[u8]) -> bool {
     UNDONE.iter().any(|word| text.starts_with(word))
-        || callers == 1 && text.starts_with(UNDONE_ALONE)
 }

@@ -1,6 +1,6 @@
 -- Several callers behind what the feeder did for the line that ends their group, while all had joined it: the line is answered, or a sync stopped there.
-use Rattle.std.proofs.Common.{◌≡◌, ℕ, zero, suc, ◌+◌, ◌-◌, ◌==◌, ◌<◌, ◌≤◌, nat_lt, Bool, true, false, if◌then◌else◌, List, [], ◌∷◌, ◌++◌, Option, Some, None, length, map, take, refl, sym, ap, ◌∙◌, subst, inl, inr, arith, append-nil, append_assoc, length-append, eq-eqb}
-use Rattle.std.specs.Prelude.{filter, slice_get}
+use Rattle.std.proofs.Common.{◌≡◌, ℕ, zero, suc, ◌==◌, ◌<◌, ◌≤◌, nat_lt, Bool, true, false, if◌then◌else◌, List, [], ◌∷◌, ◌++◌, Option, None, length, take, refl, sym, ap, ◌∙◌, subst, inl, inr, arith, append-nil, append_assoc, length-append, eq-eqb, ◌+◌, ◌-◌, Some, map}
+use Rattle.std.specs.Prelude.{slice_get, filter}
 use Rattle.std.specs.List.{AllByRecursion}
 use Rattle.std.proofs.lemmas.Bool.{cases_lt, false≢true}
 use Rattle.std.proofs.lemmas.Bool.Decides.{nat_tests}
@@ -42,15 +42,15 @@ use Rattle.trace_run.specs.Feeds.{FeedDone, is_feed}
 use Rattle.trace_run.specs.KeptBlocks.{Stands}
 use Rattle.trace_run.specs.KeptReads.{KeptRead}
 use Rattle.trace_run.specs.Lines.{caller_of, is_of_caller}
-use Rattle.trace_run.specs.Meeting.{HasSettled, HaveParted, IsFed, Resized, Waits, resizes_in}
+use Rattle.trace_run.specs.Meeting.{HasSettled, HaveMet, HaveParted, IsFed, Resized, Waits, resizes_in}
 use Rattle.trace_run.specs.Objects.{Line, Work, no_work, ops_of, replies_of}
 use Rattle.trace_run.specs.Restores.{events_by_feeder, restores_in}
-use Rattle.trace_run.specs.RunWork.{AllFit, FitsBy, FitsFeeder, IsRunWork, IsSyncWork, RunWork, acts_of_syncs, lines_of_caller, lines_of_feeder, noted_of_syncs}
+use Rattle.trace_run.specs.RunWork.{FitsBy, FitsFeeder, IsSyncWork, RunWork, acts_of_syncs, lines_of_caller, lines_of_feeder, noted_of_syncs, AllFit, IsRunWork}
 use Rattle.trace_run.specs.Syncing.{inserts_noted}
 use Rattle.trace_run.specs.callers.Groups.{AreEndLines, ComesAt, HaveCome, IsEndLine}
 use Rattle.trace_run.specs.callers.Together.{AreCut, IsCut, IsCutLast, ends_group, events_at_end}
-use Rattle.trace_run.specs.callers.WorkLines.{AreLinesOf, acts_of_work, acts_with, acts_with_op, noted_of_work}
-use Rattle.trace_run.proofs.callers.GroupLists.{Cuts, cut-before, cuts-more, get-right, some-same}
+use Rattle.trace_run.specs.callers.WorkLines.{acts_of_work, acts_with, acts_with_op, noted_of_work, AreLinesOf}
+use Rattle.trace_run.proofs.callers.GroupLists.{cut-before, cuts-more, get-right, some-same, Cuts}
 use Rattle.trace_run.proofs.callers.GroupsLemmas.{parted-at, parted-length}
 use Rattle.trace_run.proofs.callers.LineLists.{acts-lines, are-append, ends-nobody, is_of_feeder, lines-long, nobody-callers, nobody-feeders, noted-append}
 use Rattle.trace_run.proofs.callers.MeetLemmas.{parted-waits, same-own-events, starts-then}
@@ -90,6 +90,8 @@ pub record MadeWork (cache : Cache) (work : Work) (more : (shard : ℕ) → List
       → AllByRecursion (λ o. own_moments o.number (moments (opening_of cache.config) (front shard)) ≡ own_moments o.number (moments (opening_of cache.config) (seen_of cache.config shard o))) old.parties.items
   pub since : (shard : ℕ) → StartsWith (front shard) (seen_of cache.config shard old.feeder)
   pub told : (acts : List Act) (noted : List Noted) → HasToldOthers cache.config acts noted old.feeder → HasToldOthers cache.config (acts ++ work.acts) (noted ++ work.noted) new.feeder
+  -- of each cell all have seen the same
+  pub met : HaveMet cache.config (old.feeder ∷ old.parties.items) (new.feeder ∷ new.parties.items)
   -- it has seen of each cell what it had, and its acts with the numbers of cells are those of these events
   pub cells : (i : ℕ) → IsCell cache.config i → StartsWith (front_of i new.feeder.own.seen) (front_of i old.feeder.own.seen)
   pub inserted : (shard i : ℕ) → IsCell cache.config i → acts_in (shard_of cache.config.shards) shard (cell_number cache.config i) work.acts ≡ acts_of_events (with_number (cell_number cache.config i) (more shard))
@@ -138,7 +140,7 @@ made-sees cache work more old new number made shard asked is none =
 
 -- ---- small steps
 
-all-at : {X : Type 0} (P : X → Type 0) (xs : List X) (n : ℕ) (x : X) → AllByRecursion P xs → get_elem? xs n ≡ some x → P x
+pub all-at : {X : Type 0} (P : X → Type 0) (xs : List X) (n : ℕ) (x : X) → AllByRecursion P xs → get_elem? xs n ≡ some x → P x
 all-at P [] n x all at = absurd (some-ne-none x (sym at))
 all-at P (y ∷ ys) zero x all at = subst P (some-injective y x at) all.0
 all-at P (y ∷ ys) (suc n) x all at = all-at P ys n x all.1 at
@@ -390,6 +392,7 @@ cap-ends cache c old new number resized kept = record {
     since = resized.since;
     told = λ acts noted told. subst (λ (x : List Act × List Noted). HasToldOthers cache.config x.0 x.1 new.feeder) (λ i. (sym (append-nil acts) i, sym (append-nil noted) i))
         (others-still cache.config acts noted old.feeder new.feeder resized.made told);
+    met = resized.met;
     cells = resized.made.keeps.fronts;
     inserted = λ shard i range. sym (none-inserted cache.config.callers c (cell_number cache.config i) (nat_lt shard cache.config.shards));
   };

@@ -24,7 +24,7 @@ use Rattle.trace_run.specs.callers.CallerLines.{At, DidLines, at}
 use Rattle.trace_run.specs.callers.Callers.{AbsorbsAll, AllReplied, AreAtStart, AreEnlisted, CameTo, HasDone, HasTried, HaveComeBack, IsReady, Replied}
 use Rattle.trace_run.specs.callers.DeviceForks.{AllAsk}
 use Rattle.trace_run.specs.callers.Group.{HasWorked, HaveWorked, IsFork, RepliedAt}
-use Rattle.trace_run.specs.callers.WorkLines.{AnswersLines, AreLinesOf, AsksGiven, IsWorkOf}
+use Rattle.trace_run.specs.callers.WorkLines.{AnswersLines, AreLinesOf, AsksGiven, IsWorkOf, LooksLines}
 use Rattle.trace_run.specs.KeptBlocks.{Stands, read_of}
 use Rattle.trace_run.specs.Lines.{caller_of, is_of_caller}
 use Rattle.trace_run.specs.Objects.{Line}
@@ -33,8 +33,6 @@ use Rattle.trace_run.specs.one_caller.OverShards.{AreNamed}
 use Rattle.trace_run.specs.Tally.{AreAnswered}
 use Rattle.trace_run.specs.callers.Together.{over_callers}
 use Rattle.trace_run.proofs.callers.AbsorbLemmas.{absorbed-leaves, over-sum, sum-of-faults, sum-of-reads}
-use Rattle.trace_run.proofs.callers.CallerActLemmas.{own-lines}
-use Rattle.trace_run.proofs.LinesLemmas.{lines-calls, lines-kept, lines-told}
 
 -- ---- lists, place by place
 
@@ -106,6 +104,7 @@ module _ {C P D : Type 0} (cache : Cache) (pools : Ghosts P) (devices : DeviceGh
     told = came.told;
     cells = came.cells;
     answers = came.answers;
+    looks = came.looks;
     calls = came.calls;
     asked = came.asked;
   }
@@ -138,6 +137,8 @@ module _ {C P D : Type 0} (cache : Cache) (pools : Ghosts P) (devices : DeviceGh
         cells = done.cells;
         answers = λ acts noted told place. subst
             (λ (m : ℕ). AnswersLines cache.config (pools.size old.pool) (pools.told old.pool) place blocks old.party.own.about.openings new.party.own.seen m noted (map read_of old.kept) done.lines) his (done.answers acts noted told place);
+        looks = λ acts noted told. subst
+            (λ (m : ℕ). LooksLines cache.config (pools.size old.pool) (pools.told old.pool) old.party.own.about.openings old.party.own.seen new.party.own.seen m noted done.lines) his (done.looks acts noted told);
         calls = done.calls;
       }
 

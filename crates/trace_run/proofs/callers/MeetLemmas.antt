@@ -37,7 +37,7 @@ use Rattle.arc_table.proofs.SeenLemmas.{events-append, get-behind}
 use Rattle.arc_table.specs.declared.about.About.{About}
 use Rattle.trace_run.specs.declared.kept_blocks.KeptBlock.{KeptBlock}
 use Rattle.trace_run.specs.Deeds.{Noted}
-use Rattle.trace_run.specs.Meeting.{AreLast, HasLearned, HasParted, HasSameOwn, IsFed, IsLevel, JoinAll, Joins, MayJoin, PartAll, Waits}
+use Rattle.trace_run.specs.Meeting.{AreLast, HasLearned, HasParted, HaveMet, HasSameOwn, IsFed, IsLevel, JoinAll, Joins, MayJoin, PartAll, Waits}
 use Rattle.trace_run.proofs.CellsLeft.{CellsGrow, all-entries-more, entries-more}
 use Rattle.trace_run.proofs.deeds.DeedLemmas.{others-still, told-still}
 use Rattle.trace_run.proofs.deeds.MakesLemmas.{grown-same}
@@ -472,6 +472,29 @@ module _ {C : Type 0} (cache : Cache) (q r o : Place (Known C)) (learned : HasLe
     only = λ only. record { events = own-seen-more cache.config o.number o.own.mine o.own.seen parting.own.seen x-starts only.events; entries = only.entries };
     same = λ kept stands. grown-same cache.config o parting refl refl refl x-starts x-cells stands.seen stands.cells;
   }
+
+-- ---- what all have seen of cells, once they have parted from r
+
+module _ {C : Type 0} (cache : Cache) (q r : Place (Known C)) (of_cells : CellsGrow cache.config q.own.seen r.own.seen) where
+  module _ (i : ℕ) (in_range : IsCell cache.config i) where
+    goes-on : (o : Place (Known C)) → HasLearned cache.config o q → StartsWith (front_of i r.own.seen) (front_of i o.own.seen)
+    goes-on o learned = starts-then (front_of i r.own.seen) (front_of i q.own.seen) (front_of i o.own.seen) (of_cells i in_range) (learned.cells i in_range)
+
+    all-go-on : (os : List (Place (Known C))) → AllByRecursion (λ o. HasLearned cache.config o q) os → AllByRecursion (λ o. StartsWith (front_of i r.own.seen) (front_of i o.own.seen)) os
+    all-go-on [] learned = tt
+    all-go-on (o ∷ os) learned = (goes-on o learned.0, all-go-on os learned.1)
+
+    all-same : (os : List (Place (Known C))) → AllByRecursion (λ o. HasLearned cache.config o q) os → AllByRecursion (λ x. front_of i x.own.seen ≡ front_of i r.own.seen) (map (parted_from r) os)
+    all-same [] learned = tt
+    all-same (o ∷ os) learned = (parted-front i o.own.seen r.own.seen (goes-on o learned.0), all-same os learned.1)
+
+  pub have-met : (p : Place (Known C)) (os : List (Place (Known C))) → ((i : ℕ) → IsCell cache.config i → StartsWith (front_of i q.own.seen) (front_of i p.own.seen)) → AllByRecursion (λ o. HasLearned cache.config o q) os
+      → HaveMet cache.config (p ∷ os) (left_alone r ∷ map (parted_from r) os)
+  have-met p os self learned i in_range = (
+    front_of i r.own.seen,
+    (starts-then (front_of i r.own.seen) (front_of i q.own.seen) (front_of i p.own.seen) (of_cells i in_range) (self i in_range), all-go-on i in_range os learned),
+    (refl, all-same i in_range os learned),
+  )
 
 -- a party that waits still does once it has parted
 pub parted-waits : {C : Type 0} (cache : Cache) (lines : ℕ → List Line) (old new : Place (Known C)) → HasParted cache lines old new → (n : ℕ) (acts : List Act) (noted : List Noted) (kept : List KeptBlock) → Waits cache n acts noted kept old → Waits cache n acts noted kept new

@@ -1,5 +1,5 @@
 -- One group more of several callers: what their pool counts then, which groups were done, and what stands before the next one, or how the lines end.
-use Rattle.std.proofs.Common.{◌≡◌, ◌⊎◌, ℕ, zero, suc, ◌+◌, ◌%◌, ◌^◌, ◌<◌, ◌≤◌, Bool, true, false, Option, List, [], ◌∷◌, ◌++◌, Some, None, Result, Ok, Err, length, map, take, drop, refl, sym, ap, ◌∙◌, subst, arith, append_assoc, append-nil, length-append, ◌-◌, inl, inr, if◌then◌else◌}
+use Rattle.std.proofs.Common.{◌≡◌, ◌⊎◌, ℕ, zero, suc, ◌+◌, ◌%◌, ◌^◌, ◌<◌, ◌≤◌, Bool, true, false, Option, List, [], ◌∷◌, ◌++◌, Some, None, Result, Ok, Err, length, take, drop, refl, sym, ap, ◌∙◌, subst, arith, append_assoc, append-nil, length-append, ◌-◌, inl, inr, if◌then◌else◌, ◌||◌, map}
 use Rattle.std.specs.Prelude.{count_by, filter, slice_get, slice_range}
 use Rattle.std.specs.Option.{option_map}
 use Rattle.std.proofs.lemmas.Bool.{false≢true}
@@ -34,7 +34,7 @@ use Rattle.trace_run.specs.Devices.{lent_in}
 use Rattle.trace_run.specs.Acts.{events_of_feeder}
 use Rattle.trace_run.specs.FeedSeries.{AreMadeSoFar}
 use Rattle.trace_run.specs.Feeds.{AreFedReplies, IsIdleFeeder, is_feed}
-use Rattle.trace_run.specs.Lines.{caller_of, is_of_caller, replies_where}
+use Rattle.trace_run.specs.Lines.{caller_of, is_of_caller, replies_where, has_sync, is_sync}
 use Rattle.trace_run.specs.Meeting.{MadeJoined, MayGoOn}
 use Rattle.trace_run.specs.Objects.{Line, ops_of, replies_of, Work, no_work}
 use Rattle.trace_run.specs.Opened.{AreOpened}
@@ -44,9 +44,10 @@ use Rattle.trace_run.specs.RunWork.{RunWork, lines_of_caller, plain_work, lines_
 use Rattle.trace_run.specs.Tally.{AreDeclared}
 use Rattle.trace_run.specs.callers.Beside.{WorksBeside}
 use Rattle.trace_run.specs.callers.DeviceForks.{HaveRead, UsedAtOnce, UsedInGroups}
-use Rattle.trace_run.specs.callers.Group.{HaveWorked, LeavesFront, LeavesPool}
+use Rattle.trace_run.specs.callers.Group.{AllWorked, HaveWorked, LeavesFront, LeavesPool}
 use Rattle.trace_run.specs.callers.Groups.{AreBetween, AreDone, DidEndLine, DidLines, DidLinesAtOnce, ForkFailed, HaveCome, HaveCounted, HaveReached, KeepNothing, MaySync, StepsOn, StoodSo, goes_on}
 use Rattle.trace_run.specs.callers.InOrder.{AreInGroup}
+use Rattle.trace_run.specs.callers.Looking.{HaveLooked}
 use Rattle.trace_run.specs.callers.Together.{BeginsGroup, EndsGroup, GroupLines, IsFirstPlace, OfCells, BetweenGroups, WorkAtOnce, WorkInGroups, between_groups, ends_group, groups_done, groups_of, over_callers, IsCutLast, lines_with_end, with_first}
 use Rattle.trace_run.specs.callers.WorkLines.{HasFront, calls_of_lines, noted_of_work}
 use Rattle.trace_run.proofs.callers.AbsorbLemmas.{over-few}
@@ -58,8 +59,10 @@ use Rattle.trace_run.proofs.callers.FrontLemmas.{front-before, front-same, front
 use Rattle.trace_run.proofs.callers.GroupCounts.{over-add, over-same, over-zero}
 use Rattle.trace_run.proofs.callers.GroupLists.{EndsWhole, begun-append, group-begun, group-ended, group-last, groups-append, whole-of}
 use Rattle.trace_run.proofs.callers.GroupRunLemmas.{all-callers, all-declared, may-resize}
-use Rattle.trace_run.proofs.callers.GroupsLemmas.{have-restored, have-started, restores-seen}
+use Rattle.trace_run.proofs.callers.GroupsLemmas.{have-restored, have-started, parted-length, restores-seen}
 use Rattle.trace_run.proofs.callers.LineLists.{AreInside, all-inside, calls-append, calls-few, ends-nobody, lines-failed, lines-long, nobody-callers}
+use Rattle.trace_run.proofs.callers.LookedLemmas.{answered-looked, lines-looked, stopped-looked}
+use Rattle.trace_run.proofs.callers.LookingLemmas.{none-looked}
 use Rattle.trace_run.proofs.callers.MoreLemmas.{fed-about, have-come-more, lines-of, with_lines}
 use Rattle.trace_run.proofs.feeds.FedLemmas.{ops-are, used-more, used-once, fed-beside}
 use Rattle.trace_run.proofs.feeds.SeriesLemmas.{group-so-far, moved-so-far, none-so-far}
@@ -107,6 +110,12 @@ module _ (ls ms : List Line) (callers : ℕ) where
   failed-more = over-same callers (failed (ls ++ ms)) (λ n. failed ls n + failed ms n) (λ n below. failed-one n) ∙ over-add callers (failed ls) (failed ms)
 
 -- ---- the pool
+
+pub leaves-same : {P : Type 0} (pools : Ghosts P) (a : P) → LeavesPool pools a a
+leaves-same pools a = record { size = refl; told = refl; faults = omega arith }
+
+pub leaves-then : {P : Type 0} (pools : Ghosts P) (a b c : P) → LeavesPool pools a b → LeavesPool pools b c → LeavesPool pools a c
+leaves-then pools a b c first second = record { size = second.size ∙ first.size; told = second.told ∙ first.told; faults = omega (arith, first.faults, second.faults) }
 
 pub unused-leaves : {P : Type 0} (pools : Ghosts P) (a b c : P) → IsUnused pools a b → LeavesPool pools b c → LeavesPool pools a c
 unused-leaves pools a b c first second = record { size = second.size ∙ first.size; told = second.told ∙ first.told; faults = omega (arith, first.faults, second.faults) }
@@ -239,6 +248,7 @@ between-none cache restored pools devices trace start was crew come knows place 
     groups = λ several. refl;
     used = λ several. (refl, refl);
     fed = none-so-far dbuf_meanings devices cache restored was crew.feeder seen;
+    looked = none-looked cache.config (pools.size start.pool) (pools.told start.pool) start.next crew.parties.items;
   };
   begins = λ more. tt;
   goes_on = refl;
@@ -353,6 +363,14 @@ module _ {P D : Type 0} (cache : Cache) (restored : List Restored) (pools : Ghos
   fed-lines : AreMadeSoFar dbuf_meanings devices cache restored done.feeds begun b new.feeder
   fed-lines = group-so-far dbuf_meanings devices cache restored w.feeds did.beside.feeds begun a b old.feeder new.feeder reached.come.feeder.stands reached.fed did.beside.used
 
+  all-worked : AllWorked cache pools trace.blocks callers from (λ n. lines_of_caller n ms) old.kept.items old.parties.items new.kept.items new.parties.items
+  all-worked = subst (λ (k : ℕ). AllWorked cache pools trace.blocks k from (λ n. lines_of_caller n ms) old.kept.items old.parties.items new.kept.items new.parties.items) reached.come.parties did-lines.worked
+
+  -- how its lines on objects looked at cells
+  looked-lines : HaveLooked cache.config (pools.size start.pool) (pools.told start.pool) start.next done.lines new.parties.items
+  looked-lines =
+      lines-looked pools cache restored (pools.size start.pool) (pools.told start.pool) start.next trace.blocks os rs w old new reached.come reached.looked ms inside-these from all-worked (unused.size ∙ reached.counted.keeps.size) from-front
+
   pub knows-new : Knows (openings_of trace) new.feeder
   knows-new = same ∙ reached.knows
     where
@@ -387,6 +405,7 @@ module _ {P D : Type 0} (cache : Cache) (restored : List Restored) (pools : Ghos
           (in-groups-more pools cache.config (Cells new.feeder) [] (groups_of w.lines) alone-group start was (between_groups to was.group was.next) to (groups-so-far several) (once None) refl);
       used = λ several. subst (λ (gs : List GroupLines). UsedInGroups devices trace.blocks callers gs done.feeds (lent_in begun) (lent_in b)) (sym groups-are) (used-lines several alone-group refl);
       fed = fed-lines;
+      looked = looked-lines;
     };
     begins = λ less. absurd (omega (arith, both-long, all, less));
     goes_on = refl;
@@ -420,6 +439,8 @@ module _ {P D : Type 0} (cache : Cache) (restored : List Restored) (pools : Ghos
       used = λ several. subst (λ (gs : List GroupLines). UsedInGroups devices trace.blocks callers gs done.feeds (lent_in begun) (lent_in b)) (sym groups-are) (used-lines several alone-group refl);
       fed = moved-so-far dbuf_meanings devices cache restored done.feeds begun b new.feeder last.feeder fed-lines
           (λ shard below. made-sees cache h.work h.more new last come-lines.feeder.number h.so.made shard [] (h.so.none shard below) tt);
+      looked = stopped-looked pools cache restored (pools.size start.pool) (pools.told start.pool) start.next trace.blocks (os ++ qs) (rs ++ ss) done new last come-lines looked-lines h.work h.more h.so.made
+          (parted-length cache h.so.made.lines new.parties.items last.parties.items h.so.made.parted ∙ come-lines.parties);
     };
     ended = h.ended;
     last = λ t stopped shard below. subst (λ (tick : ℕ). IsCutLast cache.config restored trace.blocks shard tick (with_stop done h.work) (seen_of cache.config shard last.feeder)) (sym (h.ticks t stopped))
@@ -487,6 +508,8 @@ module _ {P D : Type 0} (cache : Cache) (restored : List Restored) (pools : Ghos
         used = λ several. subst (λ (gs : List GroupLines). UsedInGroups devices trace.blocks callers gs done.feeds (lent_in begun) (lent_in b)) (sym groups-ended) (used-lines several ended-group refl);
         fed = moved-so-far dbuf_meanings devices cache restored done.feeds begun b new.feeder last.feeder fed-lines
             (λ shard below. made-sees cache turn.work turn.more new last come-lines.feeder.number turn.so.made shard (events_of_feeder callers op) (turn.so.feeds shard below) (asked-gives callers op));
+        looked = answered-looked pools cache restored (pools.size start.pool) (pools.told start.pool) start.next trace.blocks (os ++ qs) (rs ++ ss) done new last come-lines looked-lines turn.work turn.more turn.so.made
+            (parted-length cache turn.so.made.lines new.parties.items last.parties.items turn.so.made.parted ∙ come-lines.parties) l (ends-nobody op turn.so.ends).0;
       };
       begins = λ less. subst (BeginsGroup trace.ops) (sym all-long) (op, at, turn.so.ends);
       goes_on = refl;
@@ -511,7 +534,7 @@ stops-on cache restored pools devices trace start after begun is replied replies
 -- where a fork failed, the groups are those before it
 as-forked : {P D : Type 0} (cache : Cache) (restored : List Restored) (pools : Ghosts P) (devices : Devices D) (trace : Trace) (start was : BetweenGroups P) (begun is : Device D) (rs : List Reply) (w : RunWork) (crew : Crew OnHeap)
     → HaveReached cache restored pools devices trace start was begun is Whole rs w crew → HaveReached cache restored pools devices trace start was begun is Fork rs w crew
-as-forked cache restored pools devices trace start was begun is rs w crew h = record { few = h.few; come = h.come; knows = h.knows; first = h.first; behind = h.behind; counted = h.counted; groups = h.groups; used = h.used; fed = h.fed }
+as-forked cache restored pools devices trace start was begun is rs w crew h = record { few = h.few; come = h.come; knows = h.knows; first = h.first; behind = h.behind; counted = h.counted; groups = h.groups; used = h.used; fed = h.fed; looked = h.looked }
 
 feed-left : (op : Op) → caller_of op ≡ None → ends_group op ≡ false → is_feed op ≡ true
 feed-left (ops.Read n t x window) none inside = cc
@@ -684,6 +707,25 @@ next-forked cache restored pools devices trace start was begun is after rs w cre
     last = λ t never. absurd never;
   },
 )
+
+-- ---- where no line asks for a sync
+
+pub none-at : (os : List Op) (k : ℕ) (op : Op) → has_sync os ≡ false → slice_get os k ≡ Some op → is_sync op ≡ false
+none-at [] k op none at = cc
+none-at (o ∷ os) zero op none at = elim (cases_true (is_sync o)) [
+  | inl is ↦ absurd (false≢true (sym none ∙ (λ i. is i || has_sync os)))
+  | inr not_it ↦ (let same : o ≡ op = cc in ap is_sync (sym same) ∙ not_it)
+]
+none-at (o ∷ os) (suc k) op none at = elim (cases_true (is_sync o)) [
+  | inl is ↦ absurd (false≢true (sym none ∙ (λ i. is i || has_sync os)))
+  | inr not_it ↦ none-at os k op ((λ i. sym not_it i || has_sync os) ∙ none) at
+]
+
+-- the pool tells what it told behind the next group
+pub next-still : {P : Type 0} (pools : Ghosts P) (trace : Trace) (os : List Op) → os ≡ trace.ops → (was from to fin : P) (end : ℕ) (op : Op) → slice_get os end ≡ Some op → IsUnused pools was from → LeavesPool pools from to
+    → (is_sync op ≡ false → LeavesPool pools to fin) → has_sync trace.ops ≡ false → LeavesPool pools was fin
+next-still pools trace os is_os was from to fin end op at unused leaves still none =
+    leaves-then pools was to fin (unused-leaves pools was from to unused leaves) (still (none-at os end op (ap has_sync is_os ∙ none) at))
 
 -- ---- all steps
 

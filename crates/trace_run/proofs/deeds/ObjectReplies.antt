@@ -25,7 +25,7 @@ use Rattle.trace_text.specs.declared.reply.Reply.{Reply}
 use Rattle.trace_run.specs.CellEnds.{done_by}
 use Rattle.trace_run.specs.Deeds.{HasToldAll, Noted, acts_of_events, events_of_cell, noted_in}
 use Rattle.trace_run.specs.ObjectLines.{Did, DidNot, EndsInside, FindsCell, IsBrought, ReleasesFor, SpentOn, WasToBring, cell_lines}
-use Rattle.trace_run.specs.ObjectReplies.{ActsAt, ActsFor, AnswersFrom, AnswersObject, BringsAt}
+use Rattle.trace_run.specs.ObjectReplies.{ActsAt, ActsFor, AnswersObject, BringsAt, LooksFrom}
 use Rattle.trace_run.specs.Objects.{AnswersKey, AnswersNoBlock, AnswersRange, Brought, Line, Loaded, NotesNothing, Nothing, Refused, Work, loads_of, own_event}
 use Rattle.trace_run.proofs.deeds.ClosedDeeds.{entries-read}
 use Rattle.trace_run.proofs.deeds.OperatesDone.{cell-there}
@@ -122,7 +122,7 @@ module _ {P D : Type 0} (pools : PoolGhosts P) (devices : DeviceGhosts D) (g : C
 
   -- whatever the party has told, where the numbers are a configuration
   abbrev pub From : Oid → Line → Type 0
-  From at l = IsConfig g → (did : List Act) (had : List Noted) → HasToldAll g did had p → AnswersFrom g len image p.own.about.openings q.own.seen p.number had at l
+  From at l = IsConfig g → (did : List Act) (had : List Noted) → HasToldAll g did had p → LooksFrom g len image p.own.about.openings p.own.seen q.own.seen p.number had at l
 
   abbrev pub By : OnHeap → Brought → Op → Reply → Type 0
   By cell brought op reply = AnswersObject len image cell.value.limit cell.value.opening cell.value.history brought op reply
@@ -142,26 +142,32 @@ module _ {P D : Type 0} (pools : PoolGhosts P) (devices : DeviceGhosts D) (g : C
       → (ActsAt g p.number (record { at = at; event = own }) (found_outline d.cell) (did-work g at t p q own brought Fits d) → ActsFor g p.number (own_event op) (found_outline d.cell) (did-work g at t p q own brought Fits d) reply)
       → BringsAt len at (found_outline d.cell) brought → By d.cell brought op reply → From at (record { op = op; reply = reply; work = did-work g at t p q own brought Fits d })
   from-done at t own brought Fits op reply d so brings answer = λ valid did had told_all. record {
-    cell = d.cell;
-    sound = d.found.sound;
-    opening = d.found.opening;
-    mine = told-is valid at d.cell d.found did had told_all;
-    front = d.placed;
-    brought = brings;
-    acts = so (acts-at g at t p q own brought Fits d);
-    answer = answer;
+    from = record {
+      cell = d.cell;
+      sound = d.found.sound;
+      opening = d.found.opening;
+      mine = told-is valid at d.cell d.found did had told_all;
+      front = d.placed;
+      brought = brings;
+      acts = so (acts-at g at t p q own brought Fits d);
+      answer = answer;
+    };
+    since = d.found.had;
   }
 
   pub from-not : (at : Oid) (t : ℕ) (brought : Brought) (Why : OnHeap → Type 0) (op : Op) (reply : Reply) (d : DidNot g at t p q brought Why)
       → (NotesNothing (tried brought) → ActsFor g p.number (own_event op) (found_outline d.cell) (tried brought) reply) → BringsAt len at (found_outline d.cell) brought → By d.cell brought op reply
       → From at (record { op = op; reply = reply; work = tried brought })
   from-not at t brought Why op reply d so brings answer = λ valid did had told_all. record {
-    cell = d.cell;
-    sound = d.found.sound;
-    opening = d.found.opening;
-    mine = told-is valid at d.cell d.found did had told_all;
-    front = (d.found.seen.0, d.found.seen.1 ∙ ap (λ (l : List Seen). l ++ d.found.seen.0) (sym (append-nil (cell_lines d.cell))));
-    brought = brings;
-    acts = so (refl, refl);
-    answer = answer;
+    from = record {
+      cell = d.cell;
+      sound = d.found.sound;
+      opening = d.found.opening;
+      mine = told-is valid at d.cell d.found did had told_all;
+      front = (d.found.seen.0, d.found.seen.1 ∙ ap (λ (l : List Seen). l ++ d.found.seen.0) (sym (append-nil (cell_lines d.cell))));
+      brought = brings;
+      acts = so (refl, refl);
+      answer = answer;
+    };
+    since = d.found.had;
   }

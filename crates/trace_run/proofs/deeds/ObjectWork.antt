@@ -1,5 +1,5 @@
 -- A line on an object, with what it did beside its reply: by what the contract of its call says it came to.
-use Rattle.std.proofs.Common.{◌≡◌, ℕ, ◌+◌, true, List, [], ◌∷◌, ◌++◌, length, map, refl, sym, ap, ◌∙◌, subst}
+use Rattle.std.proofs.Common.{◌≡◌, ℕ, ◌+◌, true, List, [], ◌++◌, length, map, refl, sym, ap, ◌∙◌, subst}
 use Rattle.std.specs.Prelude.{IfSome, IsSome}
 use Rattle.std.proofs.lemmas.Bool.{eqb-true, false≢true}
 use Rattle.std.specs.List.{AllByRecursion}
@@ -33,7 +33,7 @@ use Rattle.trace_run.specs.Effects.{Effect, NoEffect, calls_of, effect_of}
 use Rattle.trace_run.specs.KeptReads.{KeptRead}
 use Rattle.trace_run.specs.Lines.{is_of_caller}
 use Rattle.trace_run.specs.ObjectLines.{Did, DidGet, DidNot, DidObjectLine, DidPatch, DidPin, DidPut, DidUnpin, DidWork, IsBrought, RefusesBlock, RefusesBytes, RefusesUnpin, ReleasesFor, SpentOn, its_number, on_object}
-use Rattle.trace_run.specs.ObjectReplies.{ActsFor, AnswersFrom, BringsAt, RefusesAt}
+use Rattle.trace_run.specs.ObjectReplies.{ActsFor, BringsAt, LooksFrom, RefusesAt}
 use Rattle.trace_run.specs.Objects.{Brought, IsAnswered, IsRefusedWith, Loaded, NotesNothing, NotesOwn, Nothing, Refused, Work, own_event}
 use Rattle.trace_run.proofs.deeds.ObjectReplies.{By, From, bad-key, brings-so, dbufs-so, did-work, found_outline, from-done, from-not, inside-it, no-block, past-it, same-pin, to-bring, tried}
 use Rattle.trace_run.proofs.deeds.OperatesDone.{AreOfCell, both-of, evictions-of, release-of}
@@ -92,7 +92,7 @@ module _ {P D : Type 0} (pools : PoolGhosts P) (devices : DeviceGhosts D) (g : C
   -- what a line that has this work was answered, by the cell that was found
   abbrev AnswersSo : Op → Reply → Work → Type 0
   AnswersSo op reply work = IsConfig g → (did : List Act) (had : List Noted) → HasToldAll g did had p
-      → IfSome (on_object op) (λ on. AnswersFrom g (pools.size before.pool) (pools.told before.pool) p.own.about.openings q.own.seen p.number had on.at (record { op = op; reply = reply; work = work }))
+      → IfSome (on_object op) (λ on. LooksFrom g (pools.size before.pool) (pools.told before.pool) p.own.about.openings p.own.seen q.own.seen p.number had on.at (record { op = op; reply = reply; work = work }))
 
   -- a line that was answered, and one that was refused
   done-line : (op : Op) (reply : Reply) (at : Oid) (t : ℕ) (own : CellEvent) (brought : Brought) (Fits : OnHeap → Type 0) (d : Did g at t p q own brought Fits) → DidObjectLine pools devices g before now p q op reply → Spent brought reply

@@ -1,5 +1,5 @@
 -- What the feeds of a run leave of the cache device: from the histories of the closed cache, also where none was made; and from what a start found.
-use Rattle.std.proofs.Common.{◌≡◌, ◌≢◌, ◌+◌, ◌*◌, ◌<◌, ◌≤◌, ℕ, zero, suc, ◌==◌, true, false, IsTrue, if◌then◌else◌, List, [], ◌∷◌, ◌++◌, Option, Some, None, length, map, refl, sym, ap, ◌∙◌, subst, inl, inr, arith, append-nil, append_assoc, ne_eqb}
+use Rattle.std.proofs.Common.{◌≡◌, ◌≢◌, ◌<◌, ◌≤◌, ℕ, zero, suc, IsTrue, List, [], ◌∷◌, ◌++◌, Option, Some, None, length, map, refl, sym, ap, ◌∙◌, subst, inl, inr, arith, append-nil}
 use Rattle.std.specs.Prelude.{slice_index_or}
 use Rattle.std.specs.List.{AllByRecursion}
 use Rattle.std.proofs.lemmas.Bool.{cases_lt}
@@ -26,18 +26,19 @@ use Rattle.arc_table.specs.Views.{newcomer}
 use Rattle.arc_table.proofs.SeenLemmas.{events-map}
 use Rattle.dbuf_cells.specs.Turns.{OnHeap, dbuf_meanings}
 use Rattle.l2_dev.specs.Cursor.{CursorState}
-use Rattle.l2_dev.specs.Rebuilding.{HaveKeys, IsOpened, ring_end_of}
+use Rattle.l2_dev.specs.Rebuilding.{IsOpened, ring_end_of}
 use Rattle.l2_feed.specs.Series.{GivesNone}
 use Rattle.trace_text.specs.declared.op.Op.{Op}
 use Rattle.trace_text.specs.declared.rebuilt.Rebuilt.{Rebuilt}
 use Rattle.trace_text.specs.declared.reply.Reply.{Reply}
+use Rattle.trace_text.specs.declared.ends.ShardEnd.{ShardEnd}
 use Rattle.trace_text.specs.declared.trace.Trace.{Trace}
 use Rattle.trace_run.specs.declared.device.Device.{Device}
 use Rattle.trace_run.specs.declared.device.Device.TheVariants as device
 use Rattle.trace_run.specs.Acts.{events_of_feeder}
-use Rattle.trace_run.specs.Devices.{Finds, IsFoundOn, IsRightKind, WasLent, cursor_in, device_of}
+use Rattle.trace_run.specs.Devices.{Finds, IsRightKind, WasLent, cursor_in, device_of}
 use Rattle.trace_run.specs.Explaining.{Explain}
-use Rattle.trace_run.specs.FeedEvents.{events_of_line, events_of_lines, feeds_behind, was_fed}
+use Rattle.trace_run.specs.FeedEvents.{events_of_lines, was_fed}
 use Rattle.trace_run.specs.FeedSeries.{AreInTurnOf, AreMadeSoFar, LeavesFed, SeesMore, WasFedFrom}
 use Rattle.trace_run.specs.Feeds.{FeedDone}
 use Rattle.trace_run.specs.Restores.{events_by_feeder, found_keys, restores_in}
@@ -89,10 +90,12 @@ module _ (g : Config) (restored : List Restored) where
   apart j n differs same = differs (omega (arith, same))
 
   front-far : (n j : ℕ) → n ≤ j → front_of (turn_of g j) (fronts n) ≡ []
+  unfolding fronts
   front-far zero j far = refl
   front-far (suc n) j far = front_else (turn_of g n) (turn_of g j) (map line.Event (restores_in g restored n)) (fronts n) (apart j n (λ same. absurd (omega (arith, same, far)))) ∙ front-far n j (omega (arith, far))
 
   front-in : (n j : ℕ) → j < n → front_of (turn_of g j) (fronts n) ≡ map line.Event (restores_in g restored j)
+  unfolding fronts
   front-in zero j below = absurd (omega (arith, below))
   front-in (suc n) j below = elim (cases_lt j n) [
     | inl less ↦ front_else (turn_of g n) (turn_of g j) (map line.Event (restores_in g restored n)) (fronts n) (apart j n (λ same. absurd (omega (arith, same, less)))) ∙ front-in n j less

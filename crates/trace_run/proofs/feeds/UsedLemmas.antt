@@ -1,5 +1,5 @@
 -- How the lines `feed` of a run are answered, over all its groups; and a cache device that no line feeds was only lent.
-use Rattle.std.proofs.Common.{◌≡◌, ◌≤◌, ℕ, true, false, Bool, if◌then◌else◌, List, [], ◌∷◌, ◌++◌, Option, Some, None, length, map, refl, sym, ap, ◌∙◌, subst, inl, inr, arith}
+use Rattle.std.proofs.Common.{◌≡◌, ◌≤◌, ℕ, true, false, Bool, if◌then◌else◌, List, [], ◌∷◌, ◌++◌, Option, Some, None, length, refl, sym, ap, ◌∙◌, subst, inl, inr, arith}
 use Rattle.std.specs.Prelude.{◌⊎◌, filter}
 use Rattle.std.specs.List.{list_any}
 use Rattle.std.proofs.lemmas.Bool.{false≢true}
@@ -8,7 +8,6 @@ use Rattle.std.proofs.lemmas.List.Elements.{filter-append}
 use Rattle.arc_lists.proofs.Tables.{cases_true}
 use Rattle.blk_ptr.specs.declared.ptr.Ptr.{Ptr}
 use Rattle.vdev_io.specs.declared.device.CacheDev.{Ghosts}
-use Rattle.vdev_io.specs.Calls.{DeviceCall, MakesDeviceCalls}
 use Rattle.turn_table.specs.Places.{Place}
 use Rattle.arc_table.specs.declared.view.Known.{Known}
 use Rattle.arc_table.specs.Cache.{Cache}
@@ -21,30 +20,32 @@ use Rattle.trace_run.specs.declared.device.Device.TheVariants as device
 use Rattle.trace_run.specs.declared.ran.Ending.{Ending}
 use Rattle.trace_run.specs.declared.ran.Ending.TheVariants.{Fork, Full, Sync, Whole}
 use Rattle.trace_run.specs.Devices.{WasLent}
-use Rattle.trace_run.specs.Feeds.{AreFedReplies, AsksForFeeds, AsksOfFeeds, FeedDone, MadeFeedsOf, is_feed}
-use Rattle.trace_run.specs.Lines.{replies_where}
+use Rattle.trace_run.specs.Feeds.{AreFedReplies, AsksOfFeeds, FeedDone, MadeFeedsOf, is_feed}
+use Rattle.trace_run.specs.Lines.{is_further, replies_where}
 use Rattle.trace_run.specs.Objects.{Line, ops_of, replies_of}
+use Rattle.trace_run.specs.RunWork.{plain_lines}
 use Rattle.trace_run.specs.callers.Beside.{TriesBeside}
 use Rattle.trace_run.specs.callers.DeviceForks.{GivesFork, GivesForks, TakesForkBack, TakesForksBack, UsedAtOnce, UsedInGroups}
 use Rattle.trace_run.specs.callers.Together.{GroupLines, ends_group, groups_begun, groups_done, groups_of, with_first}
 use Rattle.trace_run.proofs.DeviceLemmas.{lent-same, lent-then}
 use Rattle.trace_run.proofs.callers.BesideLemmas.{none-found}
 use Rattle.trace_run.proofs.feeds.FeedLemmas.{answered-then, none-answered}
+use Rattle.trace_run.proofs.theorem.WorkLemmas.{first-done, no-feed}
 
 -- ---- the lines among others
 
 -- those that ask for a feed
-abbrev feed_lines : List Line → List Line
+abbrev pub feed_lines : List Line → List Line
 feed_lines = filter (λ l. is_feed l.op)
 
-ops-fed : (ls : List Line) → ops_of (feed_lines ls) ≡ filter is_feed (ops_of ls)
+pub ops-fed : (ls : List Line) → ops_of (feed_lines ls) ≡ filter is_feed (ops_of ls)
 ops-fed [] = refl
 ops-fed (l ∷ ls) = elim (cases_true (is_feed l.op)) [
   | inl asks ↦ rw asks (ap (λ (os : List Op). l.op ∷ os) (ops-fed ls))
   | inr other ↦ rw other (ops-fed ls)
 ]
 
-replies-fed : (ls : List Line) → replies_of (feed_lines ls) ≡ replies_where is_feed (ops_of ls) (replies_of ls)
+pub replies-fed : (ls : List Line) → replies_of (feed_lines ls) ≡ replies_where is_feed (ops_of ls) (replies_of ls)
 replies-fed [] = refl
 replies-fed (l ∷ ls) = elim (cases_true (is_feed l.op)) [
   | inl asks ↦ rw asks (ap (λ (rs : List Reply). l.reply ∷ rs) (replies-fed ls))
@@ -109,19 +110,19 @@ inside-done (Full need left) ls = inside-begun ls
 
 module _ {D : Type 0} (devices : Ghosts D) where
   -- both are there, or none is
-  abbrev IsAlso : Option D → Option D → Type 0
+  abbrev pub IsAlso : Option D → Option D → Type 0
   IsAlso None None = Unit {0}
   IsAlso None (Some b) = ⊥
   IsAlso (Some a) None = ⊥
   IsAlso (Some a) (Some b) = Unit {0}
 
-  also-same : (a b : Option D) → b ≡ a → IsAlso a b
+  pub also-same : (a b : Option D) → b ≡ a → IsAlso a b
   also-same None None is = tt
   also-same None (Some b) is = cc
   also-same (Some a) None is = cc
   also-same (Some a) (Some b) is = tt
 
-  also-then : (a b c : Option D) → IsAlso a b → IsAlso b c → IsAlso a c
+  pub also-then : (a b c : Option D) → IsAlso a b → IsAlso b c → IsAlso a c
   also-then None None None first second = tt
   also-then None None (Some c) first second = absurd second
   also-then None (Some b) c first second = absurd first
@@ -149,7 +150,7 @@ module _ {D : Type 0} (devices : Ghosts D) where
       one f (Some x) None once = absurd once
       one f (Some x) (Some y) once = tt
 
-  asks-also : (fs : List FeedDone) (a b : Option D) → AsksOfFeeds devices fs a b → IsAlso a b
+  pub asks-also : (fs : List FeedDone) (a b : Option D) → AsksOfFeeds devices fs a b → IsAlso a b
   asks-also fs None None asked = tt
   asks-also fs None (Some b) asked = absurd asked
   asks-also fs (Some a) None asked = absurd asked
@@ -159,7 +160,7 @@ module _ {D : Type 0} (devices : Ghosts D) where
   once-also blocks callers lines fs a b once =
       also-then a once.lent b (gives-also once.read.forks a once.lent once.read.given) (also-then once.lent once.later b (asks-also fs once.lent once.later once.fed) (takes-also once.read.done once.later b once.read.back))
 
-  also-answered : (a b : Option D) (ls : List Op) (fs : List FeedDone) (rs : List Reply) → IsAlso a b → AreFedReplies b ls fs rs → AreFedReplies a ls fs rs
+  pub also-answered : (a b : Option D) (ls : List Op) (fs : List FeedDone) (rs : List Reply) → IsAlso a b → AreFedReplies b ls fs rs → AreFedReplies a ls fs rs
   also-answered None None ls fs rs also so = so
   also-answered None (Some b) ls fs rs also so = absurd also
   also-answered (Some a) None ls fs rs also so = absurd also
@@ -205,6 +206,18 @@ unasked-answered a os rs none = subst (λ (x : List Op × List Reply). AreFedRep
       | inl asks ↦ absurd (false≢true (sym none ∙ rw asks refl))
       | inr other ↦ rw other (no-replies os rs (rw other at none))
     ]
+
+-- and so where one caller's lines did nothing beside their replies: none of them asks for a feed
+pub plain-answered : {D : Type 0} (a : Option D) (os : List Op) (rs : List Reply) → list_any is_further os ≡ false
+    → AreFedReplies a (filter is_feed (ops_of (plain_lines os rs))) [] (replies_where is_feed (ops_of (plain_lines os rs)) (replies_of (plain_lines os rs)))
+plain-answered a os rs done =
+    subst (λ (x : List Op × List Reply). AreFedReplies a x.0 [] x.1) (λ i. (ops-fed (plain_lines os rs) i, replies-fed (plain_lines os rs) i))
+    (subst (λ (ls : List Line). AreFedReplies a (ops_of ls) [] (replies_of ls)) (sym (none-left os rs done)) (none-answered a))
+  where
+    none-left : (os : List Op) (rs : List Reply) → list_any is_further os ≡ false → feed_lines (plain_lines os rs) ≡ []
+    none-left [] rs done = refl
+    none-left (o ∷ os) [] done = refl
+    none-left (o ∷ os) (r ∷ rs) done = let h = first-done is_further o os done in rw (no-feed o h.0) (none-left os rs h.1)
 
 -- ---- a device that is fed by no line
 

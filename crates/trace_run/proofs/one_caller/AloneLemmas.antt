@@ -1,5 +1,5 @@
 -- The run of one caller over the shared cache: what its lines and the drops at the end made of each shard, and that this explains the replies.
-use Rattle.std.proofs.Common.{◌≡◌, ◌≢◌, ℕ, zero, suc, ◌+◌, ◌<◌, ◌≤◌, ◌==◌, ◌&&◌, cond, Bool, true, false, IsTrue, IfSome, List, [], ◌∷◌, ◌++◌, length, map, get_or, Some, refl, sym, ap, ◌∙◌, subst, inl, inr, eq-eqb, arith, append_assoc}
+use Rattle.std.proofs.Common.{◌≡◌, ◌≢◌, ℕ, zero, suc, ◌+◌, ◌<◌, ◌≤◌, ◌==◌, ◌&&◌, cond, Bool, true, false, IsTrue, IfSome, List, [], ◌∷◌, ◌++◌, length, map, get_or, Option, Some, refl, sym, ap, ◌∙◌, subst, inl, inr, eq-eqb, arith, append_assoc}
 use Rattle.std.specs.Prelude.{filter, slice_get, sum_by}
 use Rattle.std.specs.List.{AllByRecursion, range_with_len}
 use Rattle.std.proofs.lemmas.Bool.{eqb-true}
@@ -50,13 +50,16 @@ use Rattle.trace_run.specs.one_caller.OverShards.{AllLinesOver, AreNamed, events
 use Rattle.trace_run.specs.Reads.{now_of}
 use Rattle.trace_run.specs.Restores.{events_by_feeder, restored_shard, restores_in}
 use Rattle.arc_table.specs.Seen.{HasAll, seen_of}
-use Rattle.trace_run.specs.Tally.{AreAnswered, IsOfCaller}
+use Rattle.trace_run.specs.FeedEvents.{feeds_told, is_fed}
+use Rattle.trace_run.specs.Feeds.{is_feed}
+use Rattle.trace_run.specs.Tally.{AnswersNow, AreAnswered, IsOfCaller}
 use Rattle.arc_table.specs.Told.{IsTold}
 use Rattle.trace_run.specs.Deeds.{HasToldAll}
 use Rattle.trace_run.specs.Making.{AreNoEntries, MadeItsOwn}
 use Rattle.trace_run.proofs.MappedLemmas.{ran-mapped}
 use Rattle.trace_run.proofs.callers.CallerActLemmas.{callers-none, own-lines}
 use Rattle.trace_run.proofs.deeds.OwnAlone.{own-alone}
+use Rattle.trace_run.proofs.feeds.FedLemmas.{lines-unfed}
 use Rattle.trace_run.proofs.FeederLemmas.{given-unread, own-restores, restores-given}
 use Rattle.trace_run.proofs.GiveLemmas.{all-alone, all-keep, all-number, all-told}
 use Rattle.trace_run.proofs.callers.GroupCounts.{caller-reads, reads_by}
@@ -194,6 +197,27 @@ alone-read : (callers : ℕ) → callers ≡ 1 → (e : Event) → IsAloneEvent 
 alone-read callers one e (inl his) = inl (omega (arith, his.0, one), his.1, his.2)
 alone-read callers one e (inr is) = inr (inr (is.0 ∙ sym one, is.1))
 
+-- ---- a caller's lines ask for no feed
+
+module _ (len : ℕ) (image : Option (List ℕ)) (blocks : List Ptr) where
+  not-feed : (kept : List KeptRead) (o : Op) (r : Reply) → AnswersNow len image blocks kept o r → is_feed o ≡ false
+  not-feed kept (ops.Read n t x window) r answer = refl
+  not-feed kept (ops.Hold n t x) r answer = refl
+  not-feed kept (ops.Drop n x) r answer = refl
+  not-feed kept (ops.Cap c) r answer = refl
+  not-feed kept (ops.Txg t) r answer = refl
+  not-feed kept ops.Feed r answer = absurd answer
+  not-feed kept (ops.Get n t at w) r answer = refl
+  not-feed kept (ops.Put n t at size fill) r answer = refl
+  not-feed kept (ops.Patch n t at from bytes) r answer = refl
+  not-feed kept (ops.Pin n t at) r answer = refl
+  not-feed kept (ops.Unpin n at) r answer = refl
+
+  none-fed : (kept : List KeptRead) (os : List Op) (rs : List Reply) → AreAnswered len image blocks kept os rs → replies_where is_feed os rs ≡ []
+  none-fed kept [] rs answers = refl
+  none-fed kept (o ∷ os) [] answers = refl
+  none-fed kept (o ∷ os) (r ∷ rs) answers = let other = not-feed kept o r answers.0 in rw other (none-fed (kept_after blocks o r kept) os rs answers.1)
+
 -- ---- the run
 
 module _ {C P : Type 0} (m : Meanings C) (cache : Cache) (pools : Ghosts P) (blocks : List Ptr) (os : List Op) (replies : List Reply) (before after : P)
@@ -240,6 +264,10 @@ module _ {C P : Type 0} (m : Meanings C) (cache : Cache) (pools : Ghosts P) (blo
 
   dropped : DroppedAlone g (map read_of kept) q r
   dropped = all-alone m cache kept q r between gives all-q
+
+  -- no line asks for a feed
+  unfed : feeds_told os replies ≡ 0
+  unfed = ap (λ (rs : List Reply). length (filter is_fed rs)) (none-fed (pools.size before) (pools.told before) blocks [] os replies (lines-answers g pools blocks os replies a b did))
 
   kept-is : map read_of kept ≡ kept_after_all blocks [] os replies
   kept-is = lines-kept g pools blocks os replies a b did
@@ -317,11 +345,12 @@ module _ {C P : Type 0} (m : Meanings C) (cache : Cache) (pools : Ghosts P) (blo
       reads = all-map IsAloneEvent (IsReadEvent g.callers) l.history (λ e is. alone-read g.callers one e is) mine
 
       -- the feeder made the restores and a Resize for each capacity, and nothing else
-      fed-all : i < g.shards → own_events g.callers l.history ≡ events_by_feeder g restored os replies i
+      fed-all : i < g.shards → own_events g.callers l.history ≡ events_by_feeder g restored os replies [] i
       fed-all below = subst (λ (n : ℕ). own_events n l.history ≡ begun i ++ events_of_feeds n os replies) (sym one)
           (ap (own_events only_feeder) the-history
           ∙ (own-two only_feeder (begun i) (one_caller_history blocks 0 (start i) (filter (is_in_shard g.shards blocks i) os) (replies_where (is_in_shard g.shards blocks i) os replies))
           ∙ (λ h. own-restores g only_feeder one restored i h ++ sole-fed blocks (start i) g.shards i os replies below here h)))
+          ∙ ap (λ (es : List Event). begun i ++ es) (sym (lines-unfed g i os replies unfed))
 
       numbers : AllByRecursion (λ e. IsTrue (has_its_number g.callers g.cells e)) l.history
       numbers = all-map (IsReadEvent g.callers) (λ e. IsTrue (has_its_number g.callers g.cells e)) l.history (λ e is. read-number g.callers g.cells e is) reads
@@ -369,7 +398,7 @@ module _ {C P : Type 0} (m : Meanings C) (cache : Cache) (pools : Ghosts P) (blo
     some-log : (shard : ℕ) → shard < length (histories_of closed) → (l : ShardLog) × (get_elem? closed.shards shard ≡ some l)
     some-log shard below = there closed.shards shard (subst (λ (n : ℕ). shard < n) (length-map closed.shards (λ (log : ShardLog). log.history)) below)
 
-    every-call : HoldEveryCallOnce g (shard_of g.shards) opening acts (events_by_feeder g restored os replies) (histories_of closed)
+    every-call : HoldEveryCallOnce g (shard_of g.shards) opening acts (events_by_feeder g restored os replies []) (histories_of closed)
     every-call = record {
       told = λ shard n below differs.
           let l = some-log shard below in

@@ -17,7 +17,7 @@ use Rattle.trace_run.specs.KeptBlocks.{Stands, read_of}
 use Rattle.trace_run.specs.Lines.{caller_of, is_of_caller}
 use Rattle.trace_run.specs.callers.CallerLines.{at}
 use Rattle.trace_run.specs.callers.Callers.{AreAtStart, CameTo, IsAtStart}
-use Rattle.trace_run.specs.callers.WorkLines.{AnswersLines, AreLinesOf, IsWorkOf}
+use Rattle.trace_run.specs.callers.WorkLines.{AnswersLines, AreLinesOf, IsWorkOf, LooksLines}
 use Rattle.trace_run.specs.one_caller.InTurn.{AreOwn, DidOwnLines}
 
 -- ---- the one caller of a crew
@@ -74,6 +74,7 @@ module _ {P D : Type 0} (cache : Cache) (pools : Ghosts P) (devices : Devices D)
       keeps = came.kept;
       cells = came.cells;
       answers = λ acts noted told place. subst (λ (m : ℕ). AnswersLines cache.config (pools.size before) (pools.told before) place blocks p.own.about.openings q.own.seen m noted (map read_of k) came.lines) start.number (came.answers acts noted told place);
+      looks = λ acts noted told. subst (λ (m : ℕ). LooksLines cache.config (pools.size before) (pools.told before) p.own.about.openings p.own.seen q.own.seen m noted came.lines) start.number (came.looks acts noted told);
       calls = came.calls;
     };
     asked = came.asked;

@@ -26,7 +26,10 @@ use Rattle.vdev_io.specs.Calls.{KeepsPool, MakesCalls}
 use Rattle.vdev_io.specs.Faults.{last_count}
 use Rattle.vdev_io.specs.declared.device.CacheDev.{Ghosts as Devices}
 use Rattle.vdev_io.specs.declared.pool.Pool.{Ghosts}
+use Rattle.arc_table.specs.Items.{Meanings}
+use Rattle.l2_dev.specs.declared.device.L2Dev.{L2Dev}
 use Rattle.trace_run.specs.declared.device.Device.{Device}
+use Rattle.trace_run.specs.declared.device.Device.TheVariants as device
 use Rattle.trace_run.specs.declared.groups.Crew.{Crew}
 use Rattle.trace_run.specs.declared.kept_blocks.KeptBlock.{KeptBlock}
 use Rattle.trace_run.specs.declared.ran.Ending.{Ending}
@@ -35,7 +38,7 @@ use Rattle.trace_run.specs.Acts.{events_of_feeder}
 use Rattle.trace_run.specs.Answers.{is_pool_fault}
 use Rattle.arc_core.specs.Operations.{Act}
 use Rattle.trace_run.specs.Deeds.{Noted}
-use Rattle.trace_run.specs.Devices.{WasLent, lent_in}
+use Rattle.trace_run.specs.Devices.{IsHandedBack, WasLent, lent_in}
 use Rattle.trace_run.specs.Meeting.{MayGoOn, Waits}
 use Rattle.trace_run.specs.FeedSeries.{AreMadeSoFar}
 use Rattle.trace_run.specs.Feeds.{AreFedReplies, AsksOfFeeds, DoesFeeds, FeedDone, IsIdleFeeder, MadeFeedsOf, is_feed}
@@ -58,7 +61,9 @@ use Rattle.trace_run.proofs.callers.EndedLemmas.{asked-gives, have-come-ended, h
 use Rattle.trace_run.proofs.callers.GroupCounts.{over-zero}
 use Rattle.trace_run.proofs.callers.GroupRunLemmas.{all-callers, may-resize}
 use Rattle.trace_run.proofs.callers.FrontLemmas.{front-before, front-same, pool-front}
-use Rattle.trace_run.proofs.callers.LineLists.{calls-few, ends-nobody, lines-failed, lines-long, nobody-callers}
+use Rattle.trace_run.proofs.callers.LineLists.{all-inside, calls-few, ends-nobody, lines-failed, lines-long, nobody-callers}
+use Rattle.trace_run.proofs.callers.GroupsLemmas.{parted-length}
+use Rattle.trace_run.proofs.callers.LookedLemmas.{answered-looked, lines-looked, stopped-looked}
 use Rattle.trace_run.proofs.callers.MoreLemmas.{fed-about, have-come-more, with_lines}
 use Rattle.trace_run.proofs.callers.StepLemmas.{asked, counted-more, failed, range-at, told-of}
 use Rattle.trace_run.proofs.feeds.FedLemmas.{asks-of, fed-beside, ops-are}
@@ -66,6 +71,7 @@ use Rattle.trace_run.proofs.feeds.FeedLemmas.{made-none}
 use Rattle.trace_run.proofs.feeds.SeriesLemmas.{group-so-far, moved-so-far}
 use Rattle.trace_run.proofs.one_caller.OwnLines.{own-whole}
 use Rattle.trace_run.proofs.one_caller.TurnLists.{AreMine, own-turn, own-uses, turn-append, turn-as, uses-append}
+use Rattle.trace_run.proofs.theorem.DeviceUsed.{back-same, back-then, lent-only}
 use Rattle.trace_run.proofs.syncs.SyncTurned.{AreToldOf, stood-more}
 
 -- ---- lines of the one caller
@@ -176,6 +182,26 @@ stops-in-turn cache restored pools devices trace start after begun is replied re
 stops-in-turn cache restored pools devices trace start after begun is replied replies Sync work crew stops over = (work, over)
 stops-in-turn cache restored pools devices trace start after begun is replied replies (Full need left) work crew stops over = (work, over)
 
+none-before : (fs gs : List FeedDone) → fs ++ gs ≡ [] → fs ≡ []
+none-before [] gs none = refl
+none-before (f ∷ fs) gs none = cc
+
+none-behind : (fs gs : List FeedDone) → fs ++ gs ≡ [] → gs ≡ []
+none-behind [] gs none = none
+none-behind (f ∷ fs) gs none = cc
+
+-- a feed that was not made left the device as it was
+made-back : {D : Type 0} (m : Meanings OnHeap) (devices : Devices D) (cache : Cache) (fs : List FeedDone) (a b : Device D) (p q : PartyPlace) → fs ≡ [] → MadeFeedsOf m devices cache fs a b p q → IsHandedBack devices (lent_in a) (lent_in b)
+made-back m devices cache fs device.None device.None p q none made = tt
+made-back m devices cache fs (device.Short a) (device.Short b) p q none made = tt
+made-back {D} m devices cache fs (device.Ready a) (device.Ready b) p q none made = back-same devices (Some a.dev) (Some b.dev) (ap (λ (l : L2Dev D). Some l.dev) (made.0 none))
+made-back m devices cache fs device.None (device.Short b) p q none made = absurd made
+made-back m devices cache fs device.None (device.Ready b) p q none made = absurd made
+made-back m devices cache fs (device.Short a) device.None p q none made = absurd made
+made-back m devices cache fs (device.Short a) (device.Ready b) p q none made = absurd made
+made-back m devices cache fs (device.Ready a) device.None p q none made = absurd made
+made-back m devices cache fs (device.Ready a) (device.Short b) p q none made = absurd made
+
 leaves-same : {P : Type 0} (pools : Ghosts P) (a : P) → LeavesPool pools a a
 leaves-same pools a = record { size = refl; told = refl; faults = omega arith }
 
@@ -204,7 +230,7 @@ module _ {P D : Type 0} (cache : Cache) (restored : List Restored) (pools : Ghos
       (reads : pools.reads was.pool + 16000000 ≤ last_count → pools.reads to ≡ pools.reads was.pool + over_callers cache.config.callers (asked did.lines))
       (faults : pools.faults was.pool + 16000000 ≤ last_count → pools.faults to ≡ pools.faults was.pool + over_callers cache.config.callers (failed did.lines))
       (turned : (before : List Line) → WorkInTurn pools cache.config (Cells new.feeder) before did.lines was (between_groups to was.group was.next))
-      (asks : UsedInTurn devices trace.blocks did.lines did.beside.feeds (lent_in a) (lent_in b)) where
+      (asks : UsedInTurn devices trace.blocks did.lines did.beside.feeds (lent_in a) (lent_in b)) (unfed : did.beside.feeds ≡ [] → IsHandedBack devices (lent_in a) (lent_in b)) where
     abbrev pub done : RunWork
     done = with_lines w did.lines did.beside.feeds
 
@@ -237,6 +263,8 @@ module _ {P D : Type 0} (cache : Cache) (restored : List Restored) (pools : Ghos
         groups = λ several. absurd (omega (arith, one, several));
         used = λ several. absurd (omega (arith, one, several));
         fed = group-so-far dbuf_meanings devices cache restored w.feeds did.beside.feeds begun a b old.feeder new.feeder reached.come.feeder.stands reached.fed did.beside.used;
+        looked = lines-looked pools cache restored (pools.size start.pool) (pools.told start.pool) start.next trace.blocks os rs w old new reached.come reached.looked did.lines (all-inside cache.config.callers qs ss did.lines own did.are) was.pool
+            (subst (λ (k : ℕ). AllWorked cache pools trace.blocks k was.pool (λ n. lines_of_caller n did.lines) old.kept.items old.parties.items new.kept.items new.parties.items) reached.come.parties did.worked) reached.counted.keeps.size reached.counted.keeps.told;
       };
       goes_on = refl;
       may_sync = record {
@@ -248,6 +276,7 @@ module _ {P D : Type 0} (cache : Cache) (restored : List Restored) (pools : Ghos
       steps = turn-append pools cache.config (Cells new.feeder) [] w.lines did.lines start was (between_groups to was.group was.next)
           (turn-as pools cache.config (Cells old.feeder) (Cells new.feeder) (stood-more (openings_of trace) cache.config old.feeder new.feeder grown) [] w.lines start was between.steps) (turned w.lines);
       asks = uses-append devices trace.blocks w.lines did.lines w.feeds did.beside.feeds (lent_in begun) (lent_in a) (lent_in b) between.asks asks;
+      unfed = λ none. back-then devices (lent_in begun) (lent_in a) (lent_in b) (between.unfed (none-before w.feeds did.beside.feeds none)) (unfed (none-behind w.feeds did.beside.feeds none));
     }
 
   -- ---- the caller's own lines
@@ -324,7 +353,7 @@ module _ {P D : Type 0} (cache : Cache) (restored : List Restored) (pools : Ghos
     pub own-more : AreInTurn cache restored pools devices trace start (between_groups to was.group was.next) begun b (rs ++ ss) (with_lines w ms []) new
     own-more =
         turn-more qs ss to b new own-did (subst (IsIdleFeeder cache) (sym own_lines.feeder) idle) (own-group cache.config.callers qs (omega (arith, one)) own) inside (take-add (length rs) (length qs) trace.ops ∙ ap (λ (l : List Op). os ++ l) here) (keeps-leaves pools was.pool to keeps) reads-here faults-here
-        (λ before. own-turn pools cache.config (Cells new.feeder) before ms was.pool to was.group was.next mine own_lines.worked.calls) (own-uses devices trace.blocks ms (lent_in a) (lent_in b) mine own_lines.asked)
+        (λ before. own-turn pools cache.config (Cells new.feeder) before ms was.pool to was.group was.next mine own_lines.worked.calls) (own-uses devices trace.blocks ms (lent_in a) (lent_in b) mine own_lines.asked) (λ none. lent-only devices a b lent)
 
   -- ---- a feed
 
@@ -352,6 +381,7 @@ module _ {P D : Type 0} (cache : Cache) (restored : List Restored) (pools : Ghos
             keeps = refl;
             cells = record { about = refl; fronts = λ i range. ([], sym (append-nil _)) };
             answers = λ acts noted told place. tt;
+            looks = λ acts noted told. tt;
             calls = refl;
           };
         }
@@ -383,6 +413,7 @@ module _ {P D : Type 0} (cache : Cache) (restored : List Restored) (pools : Ghos
     fed-more-turn =
         turn-more (ops.Feed ∷ []) (reply ∷ []) was.pool b new feed-did again (λ k op there. inr (feed-only k op there)) (omega (arith, room)) (ap (λ (n : ℕ). take n trace.ops) one-more ∙ taken-one) (leaves-same pools was.pool)
         (λ full. omega (arith, none-asked)) (λ full. omega (arith, none-failed)) (λ before. (was, refl, refl)) ((lent_in b), fed.feeds, [], sym (append-nil fed.feeds), (fed.answered, asks-of dbuf_meanings devices cache fed.feeds a b old.feeder new.feeder fed.made), (refl, refl))
+        (λ none. made-back dbuf_meanings devices cache fed.feeds a b old.feeder new.feeder none fed.made)
       where
         feed-only : (k : ℕ) (op : Op) → slice_get (ops.Feed ∷ []) k ≡ Some op → is_feed op ≡ true
         feed-only zero op there = cc
@@ -452,6 +483,8 @@ module _ {P D : Type 0} (cache : Cache) (restored : List Restored) (pools : Ghos
           used = λ several. absurd (omega (arith, one, several));
           fed = moved-so-far dbuf_meanings devices cache restored w.feeds begun a old.feeder last.feeder reached.fed
               (λ shard below. made-sees cache turn.work turn.more old last reached.come.feeder.number turn.so.made shard (events_of_feeder cache.config.callers op) (turn.so.feeds shard below) (asked-gives cache.config.callers op));
+          looked = answered-looked pools cache restored (pools.size start.pool) (pools.told start.pool) start.next trace.blocks os rs w old last reached.come reached.looked turn.work turn.more turn.so.made
+              (parted-length cache turn.so.made.lines old.parties.items last.parties.items turn.so.made.parted ∙ reached.come.parties) l nobody;
         };
         goes_on = refl;
         may_sync = record {
@@ -465,6 +498,7 @@ module _ {P D : Type 0} (cache : Cache) (restored : List Restored) (pools : Ghos
         asks = subst (λ (fs : List FeedDone). UsedInTurn devices trace.blocks (w.lines ++ l ∷ []) fs (lent_in begun) (lent_in a)) (append-nil w.feeds)
             (uses-append devices trace.blocks w.lines (l ∷ []) w.feeds [] (lent_in begun) (lent_in a) (lent_in a) between.asks
             ((lent_in a), [], [], refl, subst (λ (o : Option ℕ). LineUses devices trace.blocks o l [] (lent_in a) (lent_in a)) (sym nobody) (ends-uses devices trace.blocks op reply (lent_in a) turn.so.ends), (refl, refl)));
+        unfed = between.unfed;
       }
 
     pub halted-turn : (ending : Ending) (h : Halted cache pools trace rs w ending was fin.pool old last) → AreDoneInTurn cache restored pools devices trace start fin.pool begun a ending rs (with_stop w h.work) last
@@ -482,6 +516,8 @@ module _ {P D : Type 0} (cache : Cache) (restored : List Restored) (pools : Ghos
           used = λ several. absurd (omega (arith, one, several));
           fed = moved-so-far dbuf_meanings devices cache restored w.feeds begun a old.feeder last.feeder reached.fed
               (λ shard below. made-sees cache h.work h.more old last reached.come.feeder.number h.so.made shard [] (h.so.none shard below) tt);
+          looked = stopped-looked pools cache restored (pools.size start.pool) (pools.told start.pool) start.next trace.blocks os rs w old last reached.come reached.looked h.work h.more h.so.made
+              (parted-length cache h.so.made.lines old.parties.items last.parties.items h.so.made.parted ∙ reached.come.parties);
         };
         ended = h.ended;
         last = λ t stopped shard below. subst (λ (tick : ℕ). IsCutLast cache.config restored trace.blocks shard tick (with_stop w h.work) (seen_of cache.config shard last.feeder)) (sym (h.ticks t stopped))
@@ -489,6 +525,7 @@ module _ {P D : Type 0} (cache : Cache) (restored : List Restored) (pools : Ghos
       };
       steps = grown-to h.so.made.cells;
       asks = between.asks;
+      unfed = between.unfed;
     }
 
   -- ---- what a step comes to
@@ -540,7 +577,7 @@ module _ {P D : Type 0} (cache : Cache) (restored : List Restored) (pools : Ghos
 
 pub turn-begun : {P D : Type 0} (cache : Cache) (restored : List Restored) (pools : Ghosts P) (devices : Devices D) (trace : Trace) (start : BetweenGroups P) (was : Device D) (crew : Crew OnHeap)
     → AreBetween cache restored pools devices trace start start was was [] (plain_work [] []) crew → AreInTurn cache restored pools devices trace start start was was [] (plain_work [] []) crew
-turn-begun cache restored pools devices trace start was crew between = record { reached = between.reached; goes_on = refl; may_sync = between.may_sync; steps = refl; asks = (refl, refl) }
+turn-begun cache restored pools devices trace start was crew between = record { reached = between.reached; goes_on = refl; may_sync = between.may_sync; steps = refl; asks = (refl, refl); unfed = λ none. back-same devices (lent_in was) (lent_in was) refl }
 
 -- ---- all steps
 
@@ -550,6 +587,7 @@ all-in-turn cache restored pools devices trace start after begun is replies w cr
   done = record { now = after; reached = between.reached; ended = (between.goes_on, omega (arith, between.reached.few, all), refl); last = λ t never. absurd never };
   steps = between.steps;
   asks = between.asks;
+  unfed = between.unfed;
 }
 
 -- what a step says where the lines go on, and where they don't

@@ -1,27 +1,36 @@
--- The cache device behind a feed that one caller's trace asks for.
-use Rattle.std.proofs.Common.{◌≡◌, ◌≤◌, List, [], ◌∷◌, Option, None, Some, length, ap, arith}
+-- The cache device behind a line of one caller's trace that the feeder does.
+use Rattle.std.proofs.Common.{◌≡◌, ℕ, zero, suc, Bool, false, true, ◌||◌, List, [], ◌∷◌, Some, inl, inr, sym, ap, ◌∙◌}
+use Rattle.std.specs.Prelude.{slice_get}
+use Rattle.std.specs.List.{list_any}
+use Rattle.std.proofs.lemmas.Bool.{false≢true}
+use Rattle.arc_lists.proofs.Tables.{cases_true}
 use Rattle.vdev_io.specs.declared.device.CacheDev.{Ghosts}
 use Rattle.turn_table.specs.Places.{Place}
 use Rattle.arc_table.specs.Cache.{Cache}
 use Rattle.arc_table.specs.Items.{Meanings}
 use Rattle.arc_table.specs.declared.view.Known.{Known}
+use Rattle.trace_text.specs.declared.op.Op.{Op}
 use Rattle.trace_text.specs.declared.op.Op.TheVariants as ops
 use Rattle.trace_text.specs.declared.reply.Reply.{Reply}
 use Rattle.trace_run.specs.declared.device.Device.{Device}
-use Rattle.trace_run.specs.Devices.{lent_in}
-use Rattle.trace_run.specs.Feeds.{AreFedReplies, DoesFeeds, FeedDone}
+use Rattle.trace_run.specs.Feeds.{DoesFeeds, is_feed}
 use Rattle.trace_run.specs.callers.Beside.{WasInUse}
-use Rattle.trace_run.proofs.DeviceLemmas.{lent-same}
-use Rattle.trace_run.proofs.callers.InUse.{tried-in-use}
+use Rattle.trace_run.proofs.callers.InUse.{fed-kind}
 
-few-fed : {D : Type 0} (o : Option D) (fs : List FeedDone) (reply : Reply) → AreFedReplies o (ops.Feed ∷ []) fs (reply ∷ []) → length fs ≤ 1
-few-fed None fs reply fed = omega (arith, ap length fed.0)
-few-fed (Some d) fs reply fed = let n = fed.0 in omega (arith, n)
+pub fed-in-use : {C D : Type 0} (m : Meanings C) (devices : Ghosts D) (cache : Cache) (a b : Device D) (p q : Place (Known C)) (reply : Reply) → DoesFeeds m devices cache (ops.Feed ∷ []) (reply ∷ []) a b p q → WasInUse devices (ops.Feed ∷ []) a b
+fed-in-use m devices cache a b p q reply fed = record { kind = fed-kind m devices cache fed.feeds a b p q fed.made; unfed = λ none. absurd (false≢true (sym none)) }
 
-pub fed-in-use : {C D : Type 0} (m : Meanings C) (devices : Ghosts D) (cache : Cache) (a b : Device D) (p q : Place (Known C)) (reply : Reply) → DoesFeeds m devices cache (ops.Feed ∷ []) (reply ∷ []) a b p q → WasInUse devices a b
-fed-in-use m devices cache a b p q reply fed =
-    tried-in-use m devices cache (ops.Feed ∷ []) a b p q record {
-      feeds = fed.feeds;
-      few = few-fed (lent_in a) fed.feeds reply fed.answered;
-      used = record { lent = a; later = b; gave = lent-same devices a; made = fed.made; took = lent-same devices b };
-    }
+unasked-at : (os : List Op) (k : ℕ) (op : Op) → list_any is_feed os ≡ false → slice_get os k ≡ Some op → is_feed op ≡ false
+unasked-at [] k op none at = cc
+unasked-at (o ∷ os) zero op none at = elim (cases_true (is_feed o)) [
+  | inl is ↦ absurd (false≢true (sym none ∙ (λ i. is i || list_any is_feed os)))
+  | inr not_it ↦ (let same : o ≡ op = cc in ap is_feed (sym same) ∙ not_it)
+]
+unasked-at (o ∷ os) (suc k) op none at = elim (cases_true (is_feed o)) [
+  | inl is ↦ absurd (false≢true (sym none ∙ (λ i. is i || list_any is_feed os)))
+  | inr not_it ↦ unasked-at os k op ((λ i. sym not_it i || list_any is_feed os) ∙ none) at
+]
+
+-- what was so of one line is so of all
+pub line-in-use : {D : Type 0} (devices : Ghosts D) (os : List Op) (k : ℕ) (op : Op) (a b : Device D) → slice_get os k ≡ Some op → WasInUse devices (op ∷ []) a b → WasInUse devices os a b
+line-in-use devices os k op a b at use_of = record { kind = use_of.kind; unfed = λ none. use_of.unfed (ap (λ (x : Bool). x || false) (unasked-at os k op none at)) }

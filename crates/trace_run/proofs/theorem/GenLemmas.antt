@@ -26,7 +26,7 @@ use Rattle.vdev_io.specs.declared.pool.Pool.{Ghosts}
 use Rattle.dbuf_state.specs.Dbufs.{window_of}
 use Rattle.trace_run.specs.Answers.{Answers, AnswersAll, AnswersRead, is_pool_fault, is_refusal}
 use Rattle.arc_table.specs.Telling.{opening_of}
-use Rattle.trace_run.specs.Lines.{has_undone, is_undone}
+use Rattle.trace_run.specs.Lines.{has_further, is_further}
 use Rattle.trace_run.specs.Outcome.{generated}
 use Rattle.trace_run.specs.one_caller.PlainReport.{ArePlainReplies, IsPlainReply, IsPlainReport, ShowsCollision}
 use Rattle.trace_run.specs.one_caller.PlainRun.{Images, no_contents, report_of, report_with}
@@ -195,10 +195,10 @@ made-trace seed blocks ops trace made =
     ∙ ap (λ (os : List Op). record (generated seed blocks ops) { ops = os }) made.ops
 
 -- all its lines are reads, which the program does
-pub made-done : (seed blocks ops : ℕ) (trace : Trace) → IsGenerated seed blocks ops trace → has_undone trace ≡ false
-made-done seed blocks ops trace drawn = ap has_undone (made-trace seed blocks ops trace drawn) ∙ none-undone (range_with_len 0 ops)
+pub made-done : (seed blocks ops : ℕ) (trace : Trace) → IsGenerated seed blocks ops trace → has_further trace ≡ false
+made-done seed blocks ops trace drawn = ap has_further (made-trace seed blocks ops trace drawn) ∙ none-undone (range_with_len 0 ops)
   where
-    none-undone : (ns : List ℕ) → list_any (is_undone (generated seed blocks ops).config.callers) (map (generated_read seed blocks) ns) ≡ false
+    none-undone : (ns : List ℕ) → list_any (is_further (generated seed blocks ops).config.callers) (map (generated_read seed blocks) ns) ≡ false
     none-undone [] = refl
     none-undone (n ∷ ns) = none-undone ns
 

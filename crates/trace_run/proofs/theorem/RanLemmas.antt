@@ -1,6 +1,7 @@
 -- What a run over the shared cache came to is what its report has to say.
+use Rattle.std.specs.List.{list_any}
 use Rattle.std.proofs.lemmas.Option.{slice_get_within}
-use Rattle.std.proofs.Common.{◌≡◌, ℕ, ◌+◌, ◌<◌, ◌≤◌, ◌^◌, false, List, [], ◌∷◌, length, take, Option, Some, None, IfSome, refl, sym, ap, subst, ◌∙◌, arith}
+use Rattle.std.proofs.Common.{◌≡◌, ℕ, ◌+◌, ◌<◌, ◌≤◌, ◌^◌, false, List, [], ◌∷◌, length, Option, Some, None, IfSome, refl, sym, ap, subst, ◌∙◌, arith}
 use Rattle.arc_core.specs.declared.event.Event.{Event}
 use Rattle.arc_table.specs.Ended.{Ended}
 use Rattle.trace_text.specs.Grammar.{IsFormed}
@@ -22,12 +23,13 @@ use Rattle.dbuf_cells.specs.Turns.{OnHeap}
 use Rattle.trace_run.specs.callers.GroupRun.{RanTogether}
 use Rattle.trace_run.specs.CellEnds.{AreCellsOf}
 use Rattle.trace_run.specs.Devices.{IsHandedBack}
-use Rattle.trace_run.specs.Lines.{has_undone}
+use Rattle.trace_run.specs.Lines.{has_further, is_further}
 use Rattle.trace_run.specs.ObjectAnswers.{IsAnsweredBy}
 use Rattle.trace_run.specs.ObjectLines.{OnObject}
 use Rattle.trace_run.specs.Objects.{Line}
 use Rattle.trace_run.specs.RunWork.{RunWork, only_ended, plain_lines, plain_work}
 use Rattle.trace_run.specs.callers.WorkLines.{AreLinesOf}
+use Rattle.trace_run.proofs.feeds.UsedLemmas.{plain-answered, used-answered}
 use Rattle.trace_run.proofs.theorem.DeviceUsed.{groups-back}
 use Rattle.trace_run.proofs.theorem.FirstPlace.{first-place}
 use Rattle.trace_run.proofs.theorem.KeptEnds.{plain-kept}
@@ -53,8 +55,12 @@ both-told (Some x) None each is = tt
 both-told (Some x) (Some y) each is = each x y is
 
 module _ {P D : Type 0} (pools : Ghosts P) (devices : DeviceGhosts D) (before after : P) (lent back : Option D) (trace : Trace) (rebuilt : Option Rebuilt) (replies : List Reply) (closed : Ended OnHeap) where
+  -- none of its lines is one that needs more
+  only-plain : has_further trace ≡ false → trace.config.callers ≡ 1 → has_further trace.ops ≡ false
+  only-plain done one = subst (λ (n : ℕ). list_any (is_further n) trace.ops ≡ false) one done
+
   -- One caller's run, none of whose lines did anything beside its reply.
-  alone-run : (done : has_undone trace ≡ false) → IsFormed trace → trace.config.callers ≡ 1 → RanAlone pools before after trace (found_keys rebuilt) replies closed
+  alone-run : (done : has_further trace.ops ≡ false) → IsFormed trace → trace.config.callers ≡ 1 → RanAlone pools before after trace (found_keys rebuilt) replies closed
       → ReadsAlone pools devices before trace (found_keys rebuilt) replies lent back → IsRun pools devices before after lent back trace Whole (plain_work trace.ops replies) closed (report_of_closed Whole rebuilt replies closed)
   alone-run done formed one ran read =
       let report : Report = report_of_closed Whole rebuilt replies closed in
@@ -87,57 +93,62 @@ module _ {P D : Type 0} (pools : Ghosts P) (devices : DeviceGhosts D) (before af
         );
         place = place.0;
         first = place.1;
-        objects = λ k n l at his. subst (λ (o : Option OnObject). IsAnsweredBy trace.config (pools.size before) (pools.told before) place.0 closed.cells n (take k (plain_lines trace.ops replies)) o l)
+        objects = λ k n l at his. subst (λ (o : Option OnObject). IsAnsweredBy trace.config (pools.size before) (pools.told before) place.0 closed.cells n (plain_lines trace.ops replies) k o l)
             (sym (plain-off trace.config trace.ops replies done k l at)) tt;
         together = λ two. absurd (omega (arith, two, one));
         idle = λ none. (refl, subst (λ (cs : List Call). MakesCalls pools cs before after) (no-calls replies (ran.answers.all ∙ ap length none)) ran.made);
         stopped = tt;
       }
 
-  pub alone-has-run : has_undone trace ≡ false → (ending : Ending) → ending ≡ Whole → IsFormed trace → trace.config.callers ≡ 1 → RanAlone pools before after trace (found_keys rebuilt) replies closed
+  pub alone-has-run : has_further trace ≡ false → (ending : Ending) → ending ≡ Whole → IsFormed trace → trace.config.callers ≡ 1 → RanAlone pools before after trace (found_keys rebuilt) replies closed
       → ReadsAlone pools devices before trace (found_keys rebuilt) replies lent back → AreCellsOf trace (only_ended trace.config) closed → IsHandedBack devices lent back → HasRun pools devices before after lent back trace ending closed (report_of_closed ending rebuilt replies closed)
   alone-has-run done ending whole formed one ran read cells unfed =
       subst (λ (e : Ending). HasRun pools devices before after lent back trace e closed (report_of_closed e rebuilt replies closed)) (sym whole) record {
         work = plain_work trace.ops replies;
-        did = plain-is trace.config trace.ops replies ran.answers.all done;
-        run = alone-run done formed one ran read;
+        did = plain-is trace.config trace.ops replies ran.answers.all (only-plain done one);
+        run = alone-run (only-plain done one) formed one ran read;
         cells = cells-plain trace trace.config refl refl trace.ops replies closed cells;
         kept = plain-kept trace closed cells;
         used = λ two. absurd (omega (arith, two, one));
         unfed = λ _. unfed;
+        answered = plain-answered lent trace.ops replies (only-plain done one);
         plain = λ _. refl;
         status = refl;
       }
 
   -- several callers' run
   pub together-has-run : (ending : Ending) (work : RunWork) → 2 ≤ trace.config.callers → RanTogether pools devices before after lent back trace ending (found_keys rebuilt) replies work closed
-      → HasRun pools devices before after lent back trace ending closed (report_of_closed ending rebuilt replies closed)
-  together-has-run ending work two ran = record {
-    work = work;
-    did = ran.did;
-    run = record {
-      answers = ran.answers;
-      explained = ran.explained;
-      tells = record { histories = refl; ends = refl };
-      config = ran.config;
-      no_workers = refl;
-      reads = ran.reads;
-      faults = ran.faults;
-      alone = λ one. absurd (omega (arith, two, one));
-      place = ran.place;
-      first = ran.first;
-      objects = ran.objects;
-      together = λ _. told;
-      idle = λ none. let whole = all-done none ending refl ran.stopped in (whole, unworked none whole);
-      stopped = ran.stopped;
-    };
-    cells = ran.cells;
-    kept = ran.kept;
-    used = ran.used;
-    unfed = λ none. groups-back devices trace.blocks trace.config.callers (groups_done ending work.lines) work.feeds lent back none (ran.used two);
-    plain = λ one. absurd (omega (arith, two, one));
-    status = refl;
-  }
+      → (run : HasRun pools devices before after lent back trace ending closed (report_of_closed ending rebuilt replies closed)) × (run.work ≡ work)
+  together-has-run ending work two ran = (
+    record {
+      work = work;
+      did = ran.did;
+      run = record {
+        answers = ran.answers;
+        explained = ran.explained;
+        tells = record { histories = refl; ends = refl };
+        config = ran.config;
+        no_workers = refl;
+        reads = ran.reads;
+        faults = ran.faults;
+        alone = λ one. absurd (omega (arith, two, one));
+        place = ran.place;
+        first = ran.first;
+        objects = ran.objects;
+        together = λ _. told;
+        idle = λ none. let whole = all-done none ending refl ran.stopped in (whole, unworked none whole);
+        stopped = ran.stopped;
+      };
+      cells = ran.cells;
+      kept = ran.kept;
+      used = ran.used;
+      unfed = λ none. groups-back devices trace.blocks trace.config.callers (groups_done ending work.lines) work.feeds lent back none (ran.used two);
+      answered = used-answered devices trace.blocks trace.config.callers ending work.lines work.feeds lent back (ran.used two);
+      plain = λ one. absurd (omega (arith, two, one));
+      status = refl;
+    },
+    refl,
+  )
     where
       told : RunsTogether pools before after ran.place trace ending work closed.cells (report_of_closed ending rebuilt replies closed)
       told = ran.together two rebuilt refl

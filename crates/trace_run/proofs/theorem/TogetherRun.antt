@@ -1,6 +1,6 @@
 -- What the run of several callers came to, from what they were between its groups and how its cache closed.
-use Rattle.std.proofs.Common.{◌≡◌, ℕ, zero, suc, ◌+◌, ◌*◌, ◌<◌, ◌≤◌, ◌^◌, ◌==◌, Bool, true, false, cond, List, [], ◌∷◌, ◌++◌, length, length-append, map, take, drop, min, Option, Some, None, inl, inr, refl, sym, ap, ◌∙◌, subst, arith}
-use Rattle.std.specs.Prelude.{count_by, filter, slice_get, slice_index_or, sum_by}
+use Rattle.std.proofs.Common.{◌≡◌, ℕ, zero, suc, ◌+◌, ◌*◌, ◌<◌, ◌≤◌, ◌^◌, ◌==◌, Bool, false, cond, List, [], ◌∷◌, ◌++◌, length, length-append, map, take, drop, min, Option, Some, inl, inr, refl, sym, ap, ◌∙◌, subst, arith}
+use Rattle.std.specs.Prelude.{count_by, slice_get, slice_index_or, sum_by}
 use Rattle.std.specs.List.{AllByRecursion}
 use Rattle.std.specs.Option.{option_map_or}
 use Rattle.std.proofs.lemmas.Bool.{cases_lt}
@@ -15,10 +15,12 @@ use Rattle.arc_core.specs.declared.config.Config.{Config}
 use Rattle.arc_core.specs.declared.event.Event.{Event}
 use Rattle.arc_core.specs.declared.served.Restored.{Restored}
 use Rattle.arc_core.specs.declared.served.Served.TheVariants as served
-use Rattle.arc_core.specs.Operations.{pool_reads}
+use Rattle.arc_core.specs.Operations.{own_events, pool_reads}
 use Rattle.arc_core.specs.ShardLog.{ShardLog}
 use Rattle.arc_table.specs.Ended.{Ended}
 use Rattle.arc_table.specs.Cache.{Cache}
+use Rattle.arc_table.specs.Fronts.{StartsWith}
+use Rattle.arc_table.specs.Seen.{seen_of}
 use Rattle.arc_table.specs.TableLaws.{within}
 use Rattle.arc_table.proofs.TableLaws.{there}
 use Rattle.dbuf_cells.specs.Turns.{OnHeap, dbuf_meanings}
@@ -29,10 +31,14 @@ use Rattle.vdev_io.specs.Faults.{CountsOne, Rose, last_count}
 use Rattle.vdev_io.specs.declared.device.CacheDev.{Ghosts as Devices}
 use Rattle.vdev_io.specs.declared.pool.Pool.{Ghosts}
 use Rattle.trace_text.specs.declared.op.Op.{Op}
-use Rattle.trace_text.specs.declared.op.Op.TheVariants as ops
 use Rattle.trace_text.specs.declared.reply.Reply.{Reply}
 use Rattle.trace_text.specs.declared.trace.Trace.{Trace}
 use Rattle.trace_text.specs.Grammar.{IsFormed}
+use Rattle.trace_run.specs.declared.device.Device.{Device}
+use Rattle.trace_run.specs.Devices.{lent_in}
+use Rattle.trace_run.specs.Restores.{events_by_feeder, restores_in}
+use Rattle.trace_run.proofs.feeds.LeftLemmas.{left-explained}
+use Rattle.trace_run.specs.FeedSeries.{LeavesFed}
 use Rattle.trace_run.specs.declared.groups.Crew.{Crew}
 use Rattle.trace_run.specs.declared.ran.Ending.{Ending}
 use Rattle.trace_run.specs.declared.ran.Ending.TheVariants.{Fork, Full, Sync, Whole}
@@ -49,7 +55,7 @@ use Rattle.trace_run.specs.RunWork.{IsRunWork, RunWork, lines_of_caller, noted_b
 use Rattle.trace_run.specs.callers.DeviceForks.{UsedInGroups}
 use Rattle.trace_run.specs.callers.GroupRun.{HaveClosed, RanTogether}
 use Rattle.trace_run.specs.callers.Groups.{AreDone, EndsLines, HaveCome, IsEndLine, StoodSo}
-use Rattle.trace_run.specs.callers.Together.{AreCut, BetweenGroups, EndsRun, IsCutLast, GroupLines, StoodThen, StopsSo, StopsSync, WorkInGroups, answered_ops, between_groups, faults_told, groups_done, over_callers, reads_of_caller}
+use Rattle.trace_run.specs.callers.Together.{AreCut, EndsRun, IsCutLast, StoodThen, StopsSo, StopsSync, WorkInGroups, answered_ops, between_groups, faults_told, groups_done, over_callers, reads_of_caller}
 use Rattle.trace_run.specs.callers.WorkLines.{calls_of_lines, effect_with}
 use Rattle.trace_run.proofs.callers.AbsorbLemmas.{over-few}
 use Rattle.trace_run.proofs.callers.CallerActLemmas.{line-kind}
@@ -57,7 +63,7 @@ use Rattle.trace_run.proofs.callers.GroupCounts.{over-add, over-one, over-same, 
 use Rattle.trace_run.proofs.callers.GroupRunLemmas.{all-callers}
 use Rattle.trace_run.proofs.callers.SyncRun.{in-groups-as, stood-then, stops-sync-as}
 use Rattle.trace_run.proofs.theorem.LineAnswers.{EndsWell, IsOfOne, end-lines, lines-replies, own-lines-of}
-use Rattle.trace_run.proofs.theorem.RunEnds.{did-work, ended-work, feeder-begins, lines-long, run-answers, run-cells, run-counted, run-cut, run-cut-last, run-explains, run-kept, run-objects, run-reads}
+use Rattle.trace_run.proofs.theorem.RunEnds.{did-work, ended-work, feeder-begins, feeder-lines, lines-long, run-answers, run-cells, run-counted, run-cut, run-cut-last, run-explains, run-kept, run-objects, run-reads, since}
 
 -- ---- what the callers' replies tell is what all replies tell
 
@@ -142,7 +148,7 @@ one-rose before now one = elim (cases_lt before last_count) [
   | inr full ↦ let same = one.full full in omega (arith, same, full)
 ]
 
-index-history : (logs : List ShardLog) (i : ℕ) (l : ShardLog) → get_elem? logs i ≡ some l → slice_index_or (map (λ (log : ShardLog). log.history) logs) i [] ≡ l.history
+pub index-history : (logs : List ShardLog) (i : ℕ) (l : ShardLog) → get_elem? logs i ≡ some l → slice_index_or (map (λ (log : ShardLog). log.history) logs) i [] ≡ l.history
 index-history [] i l at = absurd (some-ne-none l (sym at))
 index-history (x ∷ xs) zero l at = ap (λ (log : ShardLog). log.history) (some-injective x l at)
 index-history (x ∷ xs) (suc i) l at = index-history xs i l at
@@ -250,7 +256,7 @@ module _ {P D : Type 0} (cache : Cache) (pools : Ghosts P) (devices : Devices D)
       go (Full need left) ends = ends.answer.outside.faults ∙ reached-faults room
 
   objects : AreAnsweredByCells cache.config (pools.size before) (pools.told before) place closed.cells work.lines
-  objects = run-objects cache valid restored (pools.size before) (pools.told before) place trace.blocks os more rs work crew come closed h below-all
+  objects = run-objects cache valid restored (pools.size before) (pools.told before) place trace.blocks os more rs work crew come closed h trace config d.reached.knows d.reached.looked below-all
 
   -- what its feeds leave of the cache device
   pub group-fed : LeavesFed devices trace.config restored done-work.feeds was is (histories_of closed)
@@ -265,7 +271,7 @@ module _ {P D : Type 0} (cache : Cache) (pools : Ghosts P) (devices : Devices D)
       own : (shard : ℕ) → shard < cache.config.shards → own_events cache.config.callers (seen_of cache.config shard crew.feeder) ≡ events_by_feeder cache.config restored trace.ops rs work.feeds shard
       own shard below =
           subst (λ (n : ℕ). own_events n (seen_of cache.config shard crew.feeder) ≡ events_by_feeder cache.config restored os rs work.feeds shard) come.feeder.number (come.feeder.fed shard below)
-          ∙ (ap (λ (es : List Event). restores_in cache.config restored shard ++ es) (feeder-lines cache.config shard os more rs work.feeds (lines-long os rs work.lines come.did.lines).0)
+          ∙ (ap (λ (es : List Event). restores_in cache.config restored shard ++ es) (feeder-lines cache.config shard os more rs work.feeds (lines-long os rs work.lines come.did.lines))
           ∙ ap (λ (l : List Op). events_by_feeder cache.config restored l rs work.feeds shard) whole-ops)
 
   pub group-together : RanTogether pools devices before after (lent_in was) (lent_in is) trace ending restored rs done-work closed
@@ -324,3 +330,7 @@ module _ {P D : Type 0} (cache : Cache) (pools : Ghosts P) (devices : Devices D)
       stops Fork ended = (rose-then (pools.faults before) (pools.faults d.now.pool) (pools.faults after) d.reached.counted.keeps.faults ended.3.rose, record { some = ended.1; begins = ended.2 })
       stops Sync ended = (rose-then (pools.faults before) (pools.faults d.now.pool) (pools.faults after) d.reached.counted.keeps.faults (one-rose (pools.faults d.now.pool) (pools.faults after) ended.answer.outside.faults), ended.behind)
       stops (Full need left) ended = ended.behind
+
+  pub place-is : group-together.place ≡ place
+  unfolding group-together
+  place-is = refl

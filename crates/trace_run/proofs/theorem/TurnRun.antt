@@ -1,6 +1,6 @@
 -- The run of one caller, line by line: what its report says of the pool and of the cache device.
-use Rattle.std.proofs.Common.{◌≡◌, ℕ, zero, suc, ◌+◌, ◌*◌, ◌<◌, ◌≤◌, ◌^◌, ◌==◌, Bool, true, false, cond, List, [], ◌∷◌, ◌++◌, length, length-append, map, take, drop, min, Option, Some, None, inl, inr, refl, sym, ap, ◌∙◌, subst, arith}
-use Rattle.std.specs.Prelude.{count_by, filter, slice_get, slice_index_or, sum_by}
+use Rattle.std.proofs.Common.{◌≡◌, ℕ, zero, suc, ◌+◌, ◌*◌, ◌<◌, ◌≤◌, ◌^◌, ◌==◌, Bool, false, cond, List, [], ◌∷◌, ◌++◌, length, length-append, map, take, drop, min, Option, Some, inl, inr, refl, sym, ap, ◌∙◌, subst, arith}
+use Rattle.std.specs.Prelude.{count_by, slice_get, slice_index_or, sum_by}
 use Rattle.std.specs.List.{AllByRecursion}
 use Rattle.std.specs.Option.{option_map_or}
 use Rattle.std.proofs.lemmas.Bool.{cases_lt}
@@ -15,10 +15,12 @@ use Rattle.arc_core.specs.declared.config.Config.{Config}
 use Rattle.arc_core.specs.declared.event.Event.{Event}
 use Rattle.arc_core.specs.declared.served.Restored.{Restored}
 use Rattle.arc_core.specs.declared.served.Served.TheVariants as served
-use Rattle.arc_core.specs.Operations.{pool_reads}
+use Rattle.arc_core.specs.Operations.{own_events, pool_reads}
 use Rattle.arc_core.specs.ShardLog.{ShardLog}
 use Rattle.arc_table.specs.Ended.{Ended}
 use Rattle.arc_table.specs.Cache.{Cache}
+use Rattle.arc_table.specs.Fronts.{StartsWith}
+use Rattle.arc_table.specs.Seen.{seen_of}
 use Rattle.arc_table.specs.TableLaws.{within}
 use Rattle.arc_table.proofs.TableLaws.{there}
 use Rattle.dbuf_cells.specs.Turns.{OnHeap, dbuf_meanings}
@@ -29,10 +31,14 @@ use Rattle.vdev_io.specs.Faults.{CountsOne, Rose, last_count}
 use Rattle.vdev_io.specs.declared.device.CacheDev.{Ghosts as Devices}
 use Rattle.vdev_io.specs.declared.pool.Pool.{Ghosts}
 use Rattle.trace_text.specs.declared.op.Op.{Op}
-use Rattle.trace_text.specs.declared.op.Op.TheVariants as ops
 use Rattle.trace_text.specs.declared.reply.Reply.{Reply}
 use Rattle.trace_text.specs.declared.trace.Trace.{Trace}
 use Rattle.trace_text.specs.Grammar.{IsFormed}
+use Rattle.trace_run.specs.declared.device.Device.{Device}
+use Rattle.trace_run.specs.Devices.{lent_in}
+use Rattle.trace_run.specs.Restores.{found_keys, events_by_feeder, restores_in}
+use Rattle.trace_run.proofs.feeds.LeftLemmas.{left-explained}
+use Rattle.trace_run.specs.FeedSeries.{LeavesFed}
 use Rattle.trace_run.specs.declared.groups.Crew.{Crew}
 use Rattle.trace_run.specs.declared.ran.Ending.{Ending}
 use Rattle.trace_run.specs.declared.ran.Ending.TheVariants.{Fork, Full, Sync, Whole}
@@ -49,7 +55,7 @@ use Rattle.trace_run.specs.RunWork.{IsRunWork, RunWork, lines_of_caller, noted_b
 use Rattle.trace_run.specs.callers.DeviceForks.{UsedInGroups}
 use Rattle.trace_run.specs.callers.GroupRun.{HaveClosed, RanTogether}
 use Rattle.trace_run.specs.callers.Groups.{AreDone, EndsLines, HaveCome, IsEndLine, StoodSo}
-use Rattle.trace_run.specs.callers.Together.{AreCut, BetweenGroups, EndsRun, IsCutLast, GroupLines, StoodThen, StopsSo, StopsSync, WorkInGroups, answered_ops, between_groups, faults_told, groups_done, over_callers, reads_of_caller}
+use Rattle.trace_run.specs.callers.Together.{report_of_closed, AreCut, EndsRun, IsCutLast, StoodThen, StopsSo, StopsSync, WorkInGroups, answered_ops, between_groups, faults_told, groups_done, over_callers, reads_of_caller}
 use Rattle.trace_run.specs.callers.WorkLines.{calls_of_lines, effect_with}
 use Rattle.trace_run.proofs.callers.AbsorbLemmas.{over-few}
 use Rattle.trace_run.proofs.callers.CallerActLemmas.{line-kind}
@@ -57,9 +63,11 @@ use Rattle.trace_run.proofs.callers.GroupCounts.{over-add, over-one, over-same, 
 use Rattle.trace_run.proofs.callers.GroupRunLemmas.{all-callers}
 use Rattle.trace_run.proofs.callers.SyncRun.{in-groups-as, stood-then, stops-sync-as}
 use Rattle.trace_run.proofs.theorem.LineAnswers.{EndsWell, IsOfOne, end-lines, lines-replies, own-lines-of}
-use Rattle.trace_run.proofs.theorem.RunEnds.{did-work, ended-work, feeder-begins, lines-long, run-answers, run-cells, run-counted, run-cut, run-cut-last, run-explains, run-kept, run-objects, run-reads}
+use Rattle.trace_run.proofs.theorem.RunEnds.{did-work, ended-work, feeder-begins, feeder-lines, lines-long, run-answers, run-cells, run-counted, run-cut, run-cut-last, run-explains, run-kept, run-objects, run-reads, since}
+use Rattle.trace_text.specs.declared.rebuilt.Rebuilt.{Rebuilt}
 use Rattle.trace_run.specs.one_caller.InTurn.{AreDoneInTurn, RunsInTurn, WorkInTurn}
 use Rattle.trace_run.proofs.one_caller.TurnLists.{turn-as}
+use Rattle.trace_run.proofs.theorem.TogetherRun.{group-together, index-history, place-is}
 
 module _ {P D : Type 0} (cache : Cache) (pools : Ghosts P) (devices : Devices D) (before after : P) (place : ℕ) (trace : Trace) (formed : IsFormed trace) (config : cache.config ≡ trace.config) (valid : IsConfig cache.config) (one : cache.config.callers ≡ 1)
     (was is : Device D) (ending : Ending) (restored : List Restored) (rs : List Reply) (work : RunWork) (crew : Crew OnHeap) (d : AreDoneInTurn cache restored pools devices trace (between_groups before 1 place) after was is ending rs work crew)
@@ -70,10 +78,10 @@ module _ {P D : Type 0} (cache : Cache) (pools : Ghosts P) (devices : Devices D)
   abbrev more : List Op
   more = drop (length rs) trace.ops
 
-  come : HaveCome cache restored (pools.size before) (pools.told before) place trace.blocks os rs work crew
+  abbrev come : HaveCome cache restored (pools.size before) (pools.told before) place trace.blocks os rs work crew
   come = d.done.reached.come
 
-  abbrev done-work : RunWork
+  abbrev pub done-work : RunWork
   done-work = ended-work cache valid restored (pools.size before) (pools.told before) place trace.blocks os more rs work crew come closed h
 
   cells-are : AreCellsOf trace (noted_by trace.config done-work) closed
@@ -113,3 +121,9 @@ module _ {P D : Type 0} (cache : Cache) (pools : Ghosts P) (devices : Devices D)
         subst (λ (x : Config × List Event × List Restored). IsCutLast x.0 x.2 trace.blocks shard t done-work x.1) (λ i. (config i, sym here i, sym found i))
         (run-cut-last cache valid restored (pools.size before) (pools.told before) place trace.blocks os more rs work crew come closed h shard t l.0 l.1 (d.done.last t stopped shard inside));
   }
+
+  -- with the place that the run names
+  pub runs-at : (rebuilt : Option Rebuilt) → found_keys rebuilt ≡ restored
+      → RunsInTurn pools devices before after (lent_in was) (lent_in is) (group-together cache pools devices before after place trace formed config valid was is ending restored rs work crew d.done closed h).place trace ending done-work closed.cells (report_of_closed ending rebuilt rs closed)
+  runs-at rebuilt found = subst (λ (p : ℕ). RunsInTurn pools devices before after (lent_in was) (lent_in is) p trace ending done-work closed.cells (report_of_closed ending rebuilt rs closed))
+      (sym (place-is cache pools devices before after place trace formed config valid was is ending restored rs work crew d.done closed h)) (runs-in-turn rebuilt found)

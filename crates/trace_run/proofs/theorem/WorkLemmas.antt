@@ -32,7 +32,7 @@ use Rattle.trace_run.specs.CellEnds.{AreCellsOf, ends_from}
 use Rattle.trace_run.specs.Deeds.{Noted, acts_of_events, with_number}
 use Rattle.trace_run.specs.Explaining.{EndsWith, Explain, ExplainReads, drops_at_end}
 use Rattle.trace_run.specs.KeptReads.{KeptRead}
-use Rattle.trace_run.specs.Lines.{caller_of, has_undone, is_of_caller, is_undone, replies_where}
+use Rattle.trace_run.specs.Lines.{caller_of, has_further, is_of_caller, is_further, replies_where}
 use Rattle.trace_run.specs.MadeLines.{owned_from}
 use Rattle.trace_run.specs.ObjectLines.{on_object}
 use Rattle.trace_run.specs.Objects.{Line, no_work}
@@ -267,11 +267,25 @@ module _ (trace : Trace) (restored : List Restored) (replies : List Reply) (ends
 
 -- ---- the work itself, and the cells
 
-first-done : (test : Op → Bool) (o : Op) (os : List Op) → list_any test (o ∷ os) ≡ false → (test o ≡ false) × (list_any test os ≡ false)
+pub first-done : (test : Op → Bool) (o : Op) (os : List Op) → list_any test (o ∷ os) ≡ false → (test o ≡ false) × (list_any test os ≡ false)
 first-done test o os none = elim (cases_true (test o)) [
   | inl is ↦ absurd (false≢true (sym none ∙ rw is refl))
   | inr not_it ↦ (not_it, rw not_it at none)
 ]
+
+-- no line asks for a feed
+pub no-feed : (op : Op) → is_further op ≡ false → is_feed op ≡ false
+no-feed (ops.Read n t x window) done = refl
+no-feed (ops.Hold n t x) done = refl
+no-feed (ops.Drop n x) done = refl
+no-feed (ops.Get n t at window) done = refl
+no-feed (ops.Put n t at size fill) done = refl
+no-feed (ops.Patch n t at from bytes) done = refl
+no-feed (ops.Pin n t at) done = refl
+no-feed (ops.Unpin n at) done = refl
+no-feed ops.Feed done = absurd (false≢true (sym done))
+no-feed (ops.Txg t) done = absurd (false≢true (sym done))
+no-feed (ops.Cap c) done = refl
 
 module _ (g : Config) where
   plain-are : (os : List Op) (rs : List Reply) → length rs ≡ length os → AreLinesOf os rs (plain_lines os rs)
@@ -284,26 +298,12 @@ module _ (g : Config) where
   no-sync : IsSyncWork g no_work
   no-sync = record { brought = refl; synced = tt; inserted = tt }
 
-  -- no line asks for a feed
-  no-feed : (op : Op) → is_undone g.callers op ≡ false → is_feed op ≡ false
-  no-feed (ops.Read n t x window) done = refl
-  no-feed (ops.Hold n t x) done = refl
-  no-feed (ops.Drop n x) done = refl
-  no-feed (ops.Get n t at window) done = refl
-  no-feed (ops.Put n t at size fill) done = refl
-  no-feed (ops.Patch n t at from bytes) done = refl
-  no-feed (ops.Pin n t at) done = refl
-  no-feed (ops.Unpin n at) done = refl
-  no-feed ops.Feed done = absurd (false≢true (sym done))
-  no-feed (ops.Txg t) done = refl
-  no-feed (ops.Cap c) done = refl
-
-  unfed : (os : List Op) (rs : List Reply) → list_any (is_undone g.callers) os ≡ false → replies_where is_feed os rs ≡ []
+  unfed : (os : List Op) (rs : List Reply) → list_any is_further os ≡ false → replies_where is_feed os rs ≡ []
   unfed [] rs done = refl
   unfed (o ∷ os) [] done = refl
-  unfed (o ∷ os) (r ∷ rs) done = let h = first-done (is_undone g.callers) o os done in rw (no-feed o h.0) (unfed os rs h.1)
+  unfed (o ∷ os) (r ∷ rs) done = let h = first-done is_further o os done in rw (no-feed o h.0) (unfed os rs h.1)
 
-  one-fits : (op : Op) (reply : Reply) → is_undone g.callers op ≡ false → FitsBy g (caller_of op) (record { op = op; reply = reply; work = no_work })
+  one-fits : (op : Op) (reply : Reply) → is_further op ≡ false → FitsBy g (caller_of op) (record { op = op; reply = reply; work = no_work })
   one-fits (ops.Read n t x window) reply done = record { together = refl; notes = refl }
   one-fits (ops.Hold n t x) reply done = record { together = refl; notes = refl }
   one-fits (ops.Drop n x) reply done = record { together = refl; notes = refl }
@@ -313,16 +313,16 @@ module _ (g : Config) where
   one-fits (ops.Pin n t at) reply done = absurd (false≢true (sym done))
   one-fits (ops.Unpin n at) reply done = absurd (false≢true (sym done))
   one-fits ops.Feed reply done = absurd (false≢true (sym done))
-  one-fits (ops.Txg t) reply done = no-sync
+  one-fits (ops.Txg t) reply done = absurd (false≢true (sym done))
   one-fits (ops.Cap c) reply done = refl
 
-  all-fit : (os : List Op) (rs : List Reply) → list_any (is_undone g.callers) os ≡ false → AllByRecursion (λ l. FitsBy g (caller_of l.op) l) (plain_lines os rs)
+  all-fit : (os : List Op) (rs : List Reply) → list_any is_further os ≡ false → AllByRecursion (λ l. FitsBy g (caller_of l.op) l) (plain_lines os rs)
   all-fit [] rs done = tt
   all-fit (o ∷ os) [] done = tt
-  all-fit (o ∷ os) (r ∷ rs) done = let h = first-done (is_undone g.callers) o os done in (one-fits o r h.0, all-fit os rs h.1)
+  all-fit (o ∷ os) (r ∷ rs) done = let h = first-done is_further o os done in (one-fits o r h.0, all-fit os rs h.1)
 
   -- The work of a run that did nothing to cells, of these lines that were answered among all.
-  pub plain-is : (os : List Op) (rs : List Reply) → length rs ≡ length os → list_any (is_undone g.callers) os ≡ false → IsRunWork g os rs (plain_work os rs)
+  pub plain-is : (os : List Op) (rs : List Reply) → length rs ≡ length os → list_any is_further os ≡ false → IsRunWork g os rs (plain_work os rs)
   plain-is os rs same done = record { lines = plain-are os rs same; fits = all-fit os rs done; stopped = no-sync; fed = record { told = ap (filter is_fed) (unfed os rs done); shapes = tt }; ended = tt }
 
   noted-none : (n : ℕ) (os : List Op) (rs : List Reply) → noted_of_work (plain_lines os rs) ≡ []
@@ -339,7 +339,7 @@ module _ (g : Config) where
   ]
 
   -- none is on an object
-  off : (op : Op) → is_undone g.callers op ≡ false → on_object op ≡ None
+  off : (op : Op) → is_further op ≡ false → on_object op ≡ None
   off (ops.Read n t x window) done = refl
   off (ops.Hold n t x) done = refl
   off (ops.Drop n x) done = refl
@@ -352,13 +352,13 @@ module _ (g : Config) where
   off (ops.Txg t) done = refl
   off (ops.Cap c) done = refl
 
-  pub plain-off : (os : List Op) (rs : List Reply) → list_any (is_undone g.callers) os ≡ false → (k : ℕ) (l : Line) → slice_get (plain_lines os rs) k ≡ Some l → on_object l.op ≡ None
+  pub plain-off : (os : List Op) (rs : List Reply) → list_any is_further os ≡ false → (k : ℕ) (l : Line) → slice_get (plain_lines os rs) k ≡ Some l → on_object l.op ≡ None
   plain-off [] rs done k l at = cc
   plain-off (o ∷ os) [] done k l at = cc
   plain-off (o ∷ os) (r ∷ rs) done zero l at =
       let same : record { op = o; reply = r; work = no_work } ≡ l = cc in
-      ap (λ (y : Line). on_object y.op) (sym same) ∙ off o (first-done (is_undone g.callers) o os done).0
-  plain-off (o ∷ os) (r ∷ rs) done (suc k) l at = plain-off os rs (first-done (is_undone g.callers) o os done).1 k l at
+      ap (λ (y : Line). on_object y.op) (sym same) ∙ off o (first-done is_further o os done).0
+  plain-off (o ∷ os) (r ∷ rs) done (suc k) l at = plain-off os rs (first-done is_further o os done).1 k l at
 
   pub plain-noted : (os : List Op) (rs : List Reply) (n : ℕ) → only_ended g n ≡ noted_by g (plain_work os rs) n
   plain-noted os rs n = elim (cases_true (n == g.callers)) [
@@ -379,12 +379,12 @@ front-done test zero os none = refl
 front-done test (suc k) [] none = refl
 front-done test (suc k) (o ∷ os) none = let h = first-done test o os none in rw h.0 (front-done test k os h.1)
 
-front-work : (trace : Trace) (rs : List Reply) → has_undone trace ≡ false → length rs ≡ length (take (length rs) trace.ops) → IsRunWork trace.config (take (length rs) trace.ops) rs (plain_work trace.ops rs)
+front-work : (trace : Trace) (rs : List Reply) → has_further trace.ops ≡ false → length rs ≡ length (take (length rs) trace.ops) → IsRunWork trace.config (take (length rs) trace.ops) rs (plain_work trace.ops rs)
 front-work trace rs done same =
     subst (λ (ls : List Line). IsRunWork trace.config (take (length rs) trace.ops) rs (record { lines = ls; stopped = no_work; feeds = []; ended = [] })) (sym (plain-front trace.ops rs))
-    (plain-is trace.config (take (length rs) trace.ops) rs same (front-done (is_undone trace.config.callers) (length rs) trace.ops done))
+    (plain-is trace.config (take (length rs) trace.ops) rs same (front-done is_further (length rs) trace.ops done))
 
-pub plain-work : (trace t : Trace) (ending : Ending) (rs : List Reply) → t.ops ≡ trace.ops → has_undone trace ≡ false → length rs ≡ length (answered_ops t ending rs)
+pub plain-work : (trace t : Trace) (ending : Ending) (rs : List Reply) → t.ops ≡ trace.ops → has_further trace.ops ≡ false → length rs ≡ length (answered_ops t ending rs)
     → IsRunWork trace.config (answered_ops trace ending rs) rs (plain_work trace.ops rs)
 plain-work trace t Whole rs same done long = plain-is trace.config trace.ops rs (long ∙ ap length same) done
 plain-work trace t Fork rs same done long = front-work trace rs done (long ∙ ap (λ (os : List Op). length (take (length rs) os)) same)

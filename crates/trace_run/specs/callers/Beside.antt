@@ -1,7 +1,9 @@
 -- Callers that do the lines of a group at once, and beside them the feeder, which has the cache device meanwhile.
-use Rattle.std.specs.Prelude.{◌≡◌, ◌≤◌, ℕ, List, filter, length}
+use Rattle.std.specs.Prelude.{◌≡◌, ◌≤◌, ℕ, false, List, filter, length, min}
+use Rattle.std.specs.List.{list_any}
 use Rattle.blk_ptr.specs.declared.ptr.Ptr.{Ptr}
 use Rattle.vdev_io.specs.declared.device.CacheDev.{Ghosts}
+use Rattle.vdev_io.specs.Faults.{last_count}
 use Rattle.turn_table.specs.Places.{Place}
 use Rattle.arc_table.specs.declared.view.Known.{Known}
 use Rattle.arc_table.specs.Cache.{Cache}
@@ -43,14 +45,20 @@ module _ {C D : Type 0} (m : Meanings C) (devices : Ghosts D) (cache : Cache) wh
     pub answered : AreFedReplies (lent_in old) (filter is_feed ops) feeds fed
     pub read : HaveRead devices blocks callers own (lent_in old) (lent_in used.lent) (lent_in used.later) (lent_in new)
 
--- A device while groups are done: one that was not started is as it was; any other was read and fed, so it has its length and its kind.
-abbrev pub WasInUse : {D : Type 0} → Ghosts D → (old new : Device D) → Type 0
-WasInUse devices device.None device.None = Unit {0}
-WasInUse devices (device.Short old) (device.Short new) = new ≡ old
-WasInUse devices (device.Ready old) (device.Ready new) = (devices.size new.dev ≡ devices.size old.dev) × (devices.has_sectors new.dev ≡ devices.has_sectors old.dev)
-WasInUse devices device.None (device.Short new) = ⊥
-WasInUse devices device.None (device.Ready new) = ⊥
-WasInUse devices (device.Short old) device.None = ⊥
-WasInUse devices (device.Short old) (device.Ready new) = ⊥
-WasInUse devices (device.Ready old) device.None = ⊥
-WasInUse devices (device.Ready old) (device.Short new) = ⊥
+-- A device that was in use has its length and its kind, and its count of faults has not fallen, as far as a count goes; one that was not started is as it was.
+abbrev pub HasItsKind : {D : Type 0} → Ghosts D → (old new : Device D) → Type 0
+HasItsKind devices device.None device.None = Unit {0}
+HasItsKind devices (device.Short old) (device.Short new) = new ≡ old
+HasItsKind devices (device.Ready old) (device.Ready new) =
+    (devices.size new.dev ≡ devices.size old.dev) × (devices.has_sectors new.dev ≡ devices.has_sectors old.dev) × (min (devices.faults old.dev) last_count ≤ devices.faults new.dev)
+HasItsKind devices device.None (device.Short new) = ⊥
+HasItsKind devices device.None (device.Ready new) = ⊥
+HasItsKind devices (device.Short old) device.None = ⊥
+HasItsKind devices (device.Short old) (device.Ready new) = ⊥
+HasItsKind devices (device.Ready old) device.None = ⊥
+HasItsKind devices (device.Ready old) (device.Short new) = ⊥
+
+-- A device while these lines are done. Where none of them asks for a feed it is only lent.
+pub record WasInUse {D : Type 0} (devices : Ghosts D) (ops : List Op) (old new : Device D) : Type 0 where
+  pub kind : HasItsKind devices old new
+  pub unfed : list_any is_feed ops ≡ false → WasLent devices old new

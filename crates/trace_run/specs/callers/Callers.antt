@@ -23,7 +23,7 @@ use Rattle.trace_run.specs.Lines.{is_of_caller}
 use Rattle.trace_run.specs.Objects.{Line}
 use Rattle.trace_run.specs.one_caller.OverShards.{AreNamed}
 use Rattle.trace_run.specs.RunWork.{kept_after_lines}
-use Rattle.trace_run.specs.callers.WorkLines.{AnswersLines, AreLinesOf, AsksGiven, IsWorkOf, acts_of_work, calls_of_lines, noted_of_work}
+use Rattle.trace_run.specs.callers.WorkLines.{AnswersLines, AreLinesOf, AsksGiven, IsWorkOf, LooksLines, acts_of_work, calls_of_lines, noted_of_work}
 
 -- ---- forks that are taken back
 
@@ -55,6 +55,8 @@ pub record CameTo {C P D : Type 0} (pools : Ghosts P) (devices : Devices D) (g :
   pub told : (did : List Act) (had : List Noted) → HasToldAll g did had old.party → HasToldAll g (did ++ acts_of_work g blocks old.kept lines) (had ++ noted_of_work lines) new.party
   pub answers : (did : List Act) (had : List Noted) → HasToldAll g did had old.party
       → (place : ℕ) → AnswersLines g (pools.size old.pool) (pools.told old.pool) place blocks old.party.own.about.openings new.party.own.seen old.party.number had old.kept lines
+  pub looks : (did : List Act) (had : List Noted) → HasToldAll g did had old.party
+      → LooksLines g (pools.size old.pool) (pools.told old.pool) old.party.own.about.openings old.party.own.seen new.party.own.seen old.party.number had lines
   pub calls : MakesCalls pools (calls_of_lines lines) old.pool new.pool
   pub asked : AsksGiven devices blocks lines was now
 
@@ -109,6 +111,8 @@ module _ {C P D : Type 0} where
     pub cells : KeepsCells cache.config old.party new.party
     pub answers : (before : List Act) (noted : List Noted) → HasToldAll cache.config before noted old.party
         → (place : ℕ) → AnswersLines cache.config (pools.size old.pool) (pools.told old.pool) place blocks old.party.own.about.openings new.party.own.seen n noted (map read_of old.kept) lines
+    pub looks : (before : List Act) (noted : List Noted) → HasToldAll cache.config before noted old.party
+        → LooksLines cache.config (pools.size old.pool) (pools.told old.pool) old.party.own.about.openings old.party.own.seen new.party.own.seen n noted lines
     pub calls : MakesCalls pools (calls_of_lines lines) old.pool new.pool
     pub asked : AsksGiven devices blocks lines old.device new.device
 

@@ -26,7 +26,7 @@ use Rattle.trace_run.specs.Objects.{Line}
 use Rattle.trace_run.specs.RunWork.{kept_after_lines}
 use Rattle.trace_run.specs.declared.kept_blocks.KeptBlock.{KeptBlock}
 use Rattle.trace_run.specs.callers.Beside.{WorksBeside}
-use Rattle.trace_run.specs.callers.WorkLines.{AnswersLines, AreLinesOf, IsWorkOf, acts_of_work, calls_of_lines, noted_of_work}
+use Rattle.trace_run.specs.callers.WorkLines.{AnswersLines, AreLinesOf, IsWorkOf, LooksLines, acts_of_work, calls_of_lines, noted_of_work}
 use Rattle.trace_run.specs.callers.Together.{IsFirstPlace, over_callers}
 
 -- A caller has done its work, where it kept these reads at first: its lines were answered, one after another, each with its work, its fork of the pool was read as they
@@ -39,6 +39,8 @@ pub record HasWorked {C P : Type 0} (cache : Cache) (pools : Ghosts P) (blocks :
   pub cells : KeepsCells cache.config p q
   pub answers : (acts : List Act) (noted : List Noted) → HasToldAll cache.config acts noted p
       → (place : ℕ) → AnswersLines cache.config (pools.size fork) (pools.told fork) place blocks p.own.about.openings q.own.seen n noted (map read_of had) lines
+  pub looks : (acts : List Act) (noted : List Noted) → HasToldAll cache.config acts noted p
+      → LooksLines cache.config (pools.size fork) (pools.told fork) p.own.about.openings p.own.seen q.own.seen n noted lines
   pub calls : MakesCalls pools (calls_of_lines lines) fork done
 
 -- what stands of the caller of a number in these lists

@@ -1,5 +1,5 @@
 -- Several callers between two groups of a trace: what all lines so far came to.
-use Rattle.std.specs.Prelude.{◌≡◌, ◌⊎◌, ◌<◌, ◌≤◌, ◌+◌, ◌%◌, ◌^◌, ℕ, suc, Bool, true, false, List, [], Result, Ok, Err, Option, Some, None, count_by, filter, length, map, slice_get, slice_index_or, take, ◌++◌}
+use Rattle.std.specs.Prelude.{◌≡◌, ◌⊎◌, ◌<◌, ◌≤◌, ◌+◌, ◌%◌, ◌^◌, ℕ, suc, Bool, true, false, List, [], Result, Ok, Err, Option, Some, None, count_by, length, map, slice_get, slice_index_or, take, ◌++◌, filter}
 use Rattle.std.specs.List.{AllByRecursion}
 use Rattle.blk_ptr.specs.Size.{sector}
 use Rattle.blk_ptr.specs.declared.ptr.Ptr.{Ptr}
@@ -50,6 +50,7 @@ use Rattle.trace_run.specs.Syncing.{SyncedJoined, lines_of, noted_of}
 use Rattle.trace_run.specs.RunWork.{AllFit, IsRunWork, RunWork, acts_of_syncs, kept_after_lines, lines_of_caller, lines_of_feeder, noted_of_syncs}
 use Rattle.trace_run.specs.callers.Beside.{FeedsBeside, WorksBeside}
 use Rattle.trace_run.specs.callers.DeviceForks.{UsedInGroups}
+use Rattle.trace_run.specs.callers.Looking.{HaveLooked}
 use Rattle.trace_run.specs.callers.WorkLines.{AnswersLines, AreLinesOf, acts_of_work, calls_of_lines, noted_of_work}
 use Rattle.trace_run.specs.callers.Together.{AreCut, BeginsGroup, BetweenGroups, IsCutLast, IsFirstPlace, StoppedAt, StopsSync, WorkInGroups, between_groups, groups_done, over_callers}
 
@@ -138,6 +139,8 @@ pub record HaveReached {P D : Type 0} (cache : Cache) (restored : List Restored)
   pub used : 2 ≤ cache.config.callers → UsedInGroups devices trace.blocks cache.config.callers (groups_done ending work.lines) work.feeds (lent_in was) (lent_in is)
   -- each feed went on where the one before it left the ring
   pub fed : AreMadeSoFar dbuf_meanings devices cache restored work.feeds was is crew.feeder
+  -- each line on an object looked behind all groups before its own, and before all behind it
+  pub looked : HaveLooked cache.config (pools.size before.pool) (pools.told before.pool) before.next work.lines crew.parties.items
 
 -- The callers stand between two groups of a trace.
 pub record AreBetween {P D : Type 0} (cache : Cache) (restored : List Restored) (pools : Ghosts P) (devices : Devices D) (trace : Trace) (before now : BetweenGroups P) (was is : Device D) (replies : List Reply) (work : RunWork) (crew : Crew OnHeap) : Type 0 where

@@ -14,7 +14,7 @@ use Rattle.arc_table.specs.declared.view.Line.{Line as Seen}
 use Rattle.arc_table.specs.Geometry.{cell_number}
 use Rattle.arc_table.specs.Reading.{KeepsDevice, Outside}
 use Rattle.dbuf_cells.specs.Places.{cell_of}
-use Rattle.dbuf_cells.specs.Turns.{OnHeap, PartyPlace}
+use Rattle.dbuf_cells.specs.Turns.{PartyPlace, OnHeap}
 use Rattle.dbuf_state.specs.declared.oid.Oid.{Oid}
 use Rattle.trace_text.specs.declared.op.Op.{Op}
 use Rattle.trace_text.specs.declared.op.Op.TheVariants as ops
@@ -27,7 +27,7 @@ use Rattle.trace_run.specs.Effects.{Effect, Answered, calls_of, effect_of}
 use Rattle.trace_run.specs.KeptReads.{KeptRead}
 use Rattle.trace_run.specs.DeviceReads.{AsksFor, LineAsks, size_asked}
 use Rattle.trace_run.specs.ObjectLines.{DidObjectLine, OnObject, on_object}
-use Rattle.trace_run.specs.ObjectReplies.{AnswersFrom}
+use Rattle.trace_run.specs.ObjectReplies.{AnswersFrom, LooksFrom}
 use Rattle.trace_run.specs.Objects.{Brought, GoesTogether, Line, Loaded, NotesNothing, NotesOwn, Nothing, OwnEvent, Refused, Work, acts_of_bringing, no_work, own_event}
 use Rattle.trace_run.specs.one_caller.OneCaller.{kept_after}
 use Rattle.trace_run.specs.Tally.{AnswersNow}
@@ -113,7 +113,7 @@ size_brought (Refused ptr) = ptr.key.size
 pub record DidWorkLine {P D : Type 0} (pools : PoolGhosts P) (devices : DeviceGhosts D) (g : Config) (blocks : List Ptr) (kept : List KeptRead) (before now : Outside P D) (p q : PartyPlace) (l : Line) : Type 0 where
   pub came : DidObjectLine pools devices g before now p q l.op l.reply
   pub answers : IsConfig g → (did : List Act) (had : List Noted) → HasToldAll g did had p
-      → IfSome (on_object l.op) (λ on. AnswersFrom g (pools.size before.pool) (pools.told before.pool) p.own.about.openings q.own.seen p.number had on.at l)
+      → IfSome (on_object l.op) (λ on. LooksFrom g (pools.size before.pool) (pools.told before.pool) p.own.about.openings p.own.seen q.own.seen p.number had on.at l)
   pub fits : IsWorkOf g p.number l
   pub number : q.number ≡ p.number
   pub told : (did : List Act) (had : List Noted) → HasToldAll g did had p → HasToldAll g (did ++ acts_with g blocks kept l) (had ++ l.work.noted) q
@@ -169,6 +169,12 @@ AnswersLines g pool_len image place blocks openings seen n had kept [] = Unit {0
 AnswersLines g pool_len image place blocks openings seen n had kept (l ∷ ls) =
     AnswersLine g pool_len image place blocks openings seen n had kept (on_object l.op) l
     × AnswersLines g pool_len image place blocks openings seen n (had ++ l.work.noted) (kept_after blocks l.op l.reply kept) ls
+
+-- Each line on an object of these looked at its cell, which goes on from what was seen at first, over what the pool told then.
+abbrev pub LooksLines : Config → (pool_len : ℕ) → Option (List ℕ) → (openings : List (List ℕ)) → (begun seen : List (List Seen)) → (n : ℕ) → List Noted → List Line → Type 0
+LooksLines g pool_len image openings begun seen n had [] = Unit {0}
+LooksLines g pool_len image openings begun seen n had (l ∷ ls) =
+    IfSome (on_object l.op) (λ on. LooksFrom g pool_len image openings begun seen n had on.at l) × LooksLines g pool_len image openings begun seen n (had ++ l.work.noted) ls
 
 -- the lines of these operations with these replies, each with some work
 abbrev pub AreLinesOf : List Op → List Reply → List Line → Type 0

@@ -18,7 +18,7 @@ use Rattle.trace_run.specs.declared.kept_blocks.KeptBlock.{KeptBlock}
 use Rattle.trace_run.specs.declared.ran.Ending.{Ending}
 use Rattle.trace_run.specs.declared.ran.Ending.TheVariants.{Fork, Full, Sync, Whole}
 use Rattle.trace_run.specs.declared.device.Device.{Device}
-use Rattle.trace_run.specs.Devices.{lent_in}
+use Rattle.trace_run.specs.Devices.{IsHandedBack, lent_in}
 use Rattle.trace_run.specs.Feeds.{AreFedReplies, AsksOfFeeds, DoesFeeds, FeedDone, IsIdleFeeder}
 use Rattle.trace_run.specs.Lines.{caller_of}
 use Rattle.trace_run.specs.Objects.{Line, Work, no_work}
@@ -113,12 +113,16 @@ pub record AreInTurn {P D : Type 0} (cache : Cache) (restored : List Restored) (
   pub may_sync : MaySync pools (length replies) now
   pub steps : WorkInTurn pools cache.config (StoodSo (openings_of trace) cache.config crew.feeder) [] work.lines before now
   pub asks : UsedInTurn devices trace.blocks work.lines work.feeds (lent_in was) (lent_in is)
+  -- where no feed was made the device was only read
+  pub unfed : work.feeds ≡ [] → IsHandedBack devices (lent_in was) (lent_in is)
 
 -- All lines are done, or a sync stopped at the line behind the last one that was answered.
 pub record AreDoneInTurn {P D : Type 0} (cache : Cache) (restored : List Restored) (pools : Ghosts P) (devices : Devices D) (trace : Trace) (before : BetweenGroups P) (after : P) (was is : Device D) (ending : Ending) (replies : List Reply) (work : RunWork) (crew : Crew OnHeap) : Type 0 where
   pub done : AreDone cache restored pools devices trace before after was is ending replies work crew
   pub steps : WorkInTurn pools cache.config (StoodSo (openings_of trace) cache.config crew.feeder) [] work.lines before done.now
   pub asks : UsedInTurn devices trace.blocks work.lines work.feeds (lent_in was) (lent_in is)
+  -- where no feed was made the device was only read
+  pub unfed : work.feeds ≡ [] → IsHandedBack devices (lent_in was) (lent_in is)
 
 -- The next lines were done, and the lines go on; or they ended so.
 abbrev pub StepsInTurn : {P D : Type 0} → Cache → List Restored → Ghosts P → Devices D → Trace → (start after : BetweenGroups P) → (was is : Device D) → (replied replies : List Reply) → Ending → Crew OnHeap → Type 0

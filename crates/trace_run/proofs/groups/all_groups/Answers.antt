@@ -1,16 +1,23 @@
-use Rattle.std.proofs.Common.{◌<◌, ◌≤◌, length, sym, ap, ◌∙◌, arith}
+use Rattle.std.proofs.Common.{◌≤◌, List, length, sym, ap, ◌∙◌, subst, arith}
+use Rattle.trace_text.specs.declared.reply.Reply.{Reply}
+use Rattle.trace_run.specs.callers.Groups.{AreBetween}
 use Rattle.trace_run.specs.callers.Together.{between_groups}
 use Rattle.trace_run.proofs.callers.FrontLemmas.{front-before, front-same, front-then}
 use Rattle.trace_run.proofs.callers.InUse.{in-use-same, in-use-then}
-use Rattle.trace_run.proofs.callers.StepLemmas.{all-stepped, not-stepped, stepped}
+use Rattle.trace_run.proofs.callers.StepLemmas.{all-stepped, leaves-same, leaves-then, not-stepped, stepped}
 use Rattle.trace_run.proofs.groups.all_groups.Goals as goal
 
 pub loop-alloc-init : goal.loop-alloc-init
 loop-alloc-init g c = record {
-  between = λ restored work between. (work, between);
+  between = λ restored work between. (
+    work,
+    subst (λ (l : List Reply). AreBetween c.args.arcs.now restored g.P.Pool g.D.CacheDev c.args.trace.now (between_groups c.args.pool.now c.args.syncs.group c.args.syncs.next) (between_groups c.args.pool.now c.args.syncs.group c.args.syncs.next) c.args.device.now c.args.device.now l work c.args.crew)
+        (sym c.new-replies.ensures.items) between,
+  );
   later = omega arith;
   leaves = front-same g.P.Pool c.args.syncs.next c.args.pool.now;
-  used = in-use-same g.D.CacheDev c.args.device.now;
+  still = λ none. leaves-same g.P.Pool c.args.pool.now;
+  used = in-use-same g.D.CacheDev c.args.trace.now.ops c.args.device.now;
   device = c.requires.device;
 }
 
@@ -48,7 +55,8 @@ loop-alloc-preserved g c = record {
   later = let a = c.loop-alloc.invariant.later in let b = c.in_ok-after.ensures.later in omega (arith, a, b);
   leaves = front-then g.P.Pool c.args.syncs.next c.args.pool.now c.loop-alloc.pool c.next_group.new.pool c.loop-alloc.invariant.leaves
       (front-before g.P.Pool c.args.syncs.next c.loop-alloc.syncs.next c.loop-alloc.pool c.next_group.new.pool c.loop-alloc.invariant.later c.in_ok-after.ensures.pool);
-  used = in-use-then g.D.CacheDev c.args.device.now c.loop-alloc.device c.next_group.new.device c.loop-alloc.invariant.used c.in_ok-after.ensures.used;
+  still = λ none. leaves-then g.P.Pool c.args.pool.now c.loop-alloc.pool c.next_group.new.pool (c.loop-alloc.invariant.still none) (c.in_ok-after.ensures.still none);
+  used = in-use-then g.D.CacheDev c.args.trace.now.ops c.args.device.now c.loop-alloc.device c.next_group.new.device c.loop-alloc.invariant.used c.in_ok-after.ensures.used;
   device = c.in_ok-after.ensures.device;
 }
 
@@ -58,3 +66,13 @@ returns-clause-done g c = λ restored work between.
     let test = c.loop-alloc-test.false in let is = c.len.ensures in let long = c.loop-alloc.replies.ok.0 in omega (arith, test, is, long, ap length c.as_slice.ensures) in
     let now = c.loop-alloc.invariant.between restored work between in
     (now.0, all-stepped c.args.arcs.now restored g.P.Pool g.D.CacheDev c.args.trace.now (between_groups c.args.pool.now c.args.syncs.group c.args.syncs.next) (between_groups c.loop-alloc.pool c.loop-alloc.syncs.group c.loop-alloc.syncs.next) c.args.device.now c.loop-alloc.device c.loop-alloc.replies.items now.0 c.loop-alloc.crew now.1 all)
+
+pub returns-in_err-after-clause-pool : goal.returns-in_err-after-clause-pool
+returns-in_err-after-clause-pool g c =
+    front-then g.P.Pool c.args.syncs.next c.args.pool.now c.loop-alloc.pool c.next_group.new.pool c.loop-alloc.invariant.leaves
+    (front-before g.P.Pool c.args.syncs.next c.loop-alloc.syncs.next c.loop-alloc.pool c.next_group.new.pool c.loop-alloc.invariant.later c.next_group.ensures.pool)
+
+pub returns-then-not-goes_on-clause-pool : goal.returns-then-not-goes_on-clause-pool
+returns-then-not-goes_on-clause-pool g c =
+    front-then g.P.Pool c.args.syncs.next c.args.pool.now c.loop-alloc.pool c.next_group.new.pool c.loop-alloc.invariant.leaves
+    (front-before g.P.Pool c.args.syncs.next c.loop-alloc.syncs.next c.loop-alloc.pool c.next_group.new.pool c.loop-alloc.invariant.later c.next_group.ensures.pool)

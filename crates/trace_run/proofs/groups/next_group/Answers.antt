@@ -1,11 +1,11 @@
-use Rattle.std.proofs.Common.{◌≡◌, ◌<◌, ◌≤◌, ℕ, List, Some, length, vec_len, refl, sym, ap, ◌∙◌, subst, arith, rules}
+use Rattle.std.proofs.Common.{◌≡◌, ℕ, List, Some, length, vec_len, refl, sym, ap, ◌∙◌, subst, arith, rules}
 use Rattle.std.specs.Prelude.{slice_get, slice_range}
 use Rattle.std.proofs.lemmas.Option.{slice_get_read}
 use Rattle.blk_ptr.specs.declared.ptr.Ptr.{Ptr}
 use Rattle.arc_core.specs.declared.config.Config.{Config}
+use Rattle.dbuf_cells.specs.Turns.{dbuf_meanings}
 use Rattle.trace_text.specs.declared.op.Op.{Op}
 use Rattle.trace_run.specs.callers.Callers.{AreAtStart}
-use Rattle.trace_run.specs.Devices.{lent_in}
 use Rattle.trace_run.specs.callers.Groups.{ForkFailed}
 use Rattle.trace_run.specs.callers.InOrder.{AreInGroup}
 use Rattle.trace_run.specs.callers.Together.{between_groups}
@@ -14,7 +14,7 @@ use Rattle.trace_run.proofs.callers.BesideLemmas.{fed-idle}
 use Rattle.trace_run.proofs.callers.EndLineLemmas.{IsUnused}
 use Rattle.trace_run.proofs.callers.GroupRunLemmas.{come-named, may-start}
 use Rattle.trace_run.proofs.callers.InUse.{tried-in-use}
-use Rattle.trace_run.proofs.callers.StepLemmas.{next-ended, next-forked, next-halted, next-last, next-may, next-number, next-sync, range-declared, range-group}
+use Rattle.trace_run.proofs.callers.StepLemmas.{next-ended, next-forked, next-halted, next-last, next-may, next-number, next-still, next-sync, range-declared, range-group}
 use Rattle.trace_run.proofs.groups.next_group.Goals as goal
 
 -- ---- the lines of the group
@@ -107,7 +107,7 @@ returns-in-Err-clause-did g c = λ start restored was work between.
 pub returns-in-Err-Failed-clause-did : goal.returns-in-Err-Failed-clause-did
 returns-in-Err-Failed-clause-did g c = λ start restored was work between.
     let failed : ForkFailed g.P.Pool c.args.pool.now c.forks.new.pool = search rules in
-    next-forked c.args.arcs.now restored g.P.Pool g.D.CacheDev c.args.trace.now start (between_groups c.args.pool.now c.args.syncs.group c.args.syncs.next) was (lent_in c.args.device.now) c.forks.new.pool c.args.replies.now.items work c.args.crew between
+    next-forked c.args.arcs.now restored g.P.Pool g.D.CacheDev c.args.trace.now start (between_groups c.args.pool.now c.args.syncs.group c.args.syncs.next) was c.args.device.now c.forks.new.pool c.args.replies.now.items work c.args.crew between
     (let more = c.requires.more in let long = c.args.replies.now.ok.0 in omega (arith, more, long)) failed
 
 -- ---- the device
@@ -115,34 +115,60 @@ returns-in-Err-Failed-clause-did g c = λ start restored was work between.
 pub returns-in_err-crew-clause-used : goal.returns-in_err-crew-clause-used
 returns-in_err-crew-clause-used g c =
     let tried = c.lines_at_once.ensures.tried in
-    tried-in-use dbuf_meanings g.D.CacheDev c.args.arcs.now _ c.args.device.now c.lines_at_once.new.device c.args.crew.feeder tried.0 tried.1
+    tried-in-use dbuf_meanings g.D.CacheDev c.args.arcs.now c.args.trace.now.ops c.as_slice-ops.result.now c.as_slice-ops.ensures c.len-first.result c.group_end-to.result c.args.device.now c.lines_at_once.new.device c.args.crew.feeder tried.0 tried.1
 
 pub returns-in_err-append-clause-used : goal.returns-in_err-append-clause-used
 returns-in_err-append-clause-used g c =
     let tried = c.lines_at_once.ensures.tried in
-    tried-in-use dbuf_meanings g.D.CacheDev c.args.arcs.now _ c.args.device.now c.lines_at_once.new.device c.args.crew.feeder tried.0 tried.1
+    tried-in-use dbuf_meanings g.D.CacheDev c.args.arcs.now c.args.trace.now.ops c.as_slice-ops.result.now c.as_slice-ops.ensures c.len-first.result c.group_end-to.result c.args.device.now c.lines_at_once.new.device c.args.crew.feeder tried.0 tried.1
 
 pub returns-in_default-clause-used : goal.returns-in_default-clause-used
 returns-in_default-clause-used g c =
     let tried = c.lines_at_once.ensures.tried in
-    tried-in-use dbuf_meanings g.D.CacheDev c.args.arcs.now _ c.args.device.now c.lines_at_once.new.device c.args.crew.feeder tried.0 tried.1
+    tried-in-use dbuf_meanings g.D.CacheDev c.args.arcs.now c.args.trace.now.ops c.as_slice-ops.result.now c.as_slice-ops.ensures c.len-first.result c.group_end-to.result c.args.device.now c.lines_at_once.new.device c.args.crew.feeder tried.0 tried.1
 
 pub returns-in_err-crew-2-clause-used : goal.returns-in_err-crew-2-clause-used
 returns-in_err-crew-2-clause-used g c =
     let tried = c.lines_at_once.ensures.tried in
-    tried-in-use dbuf_meanings g.D.CacheDev c.args.arcs.now _ c.args.device.now c.lines_at_once.new.device c.args.crew.feeder tried.0 tried.1
+    tried-in-use dbuf_meanings g.D.CacheDev c.args.arcs.now c.args.trace.now.ops c.as_slice-ops.result.now c.as_slice-ops.ensures c.len-first.result c.group_end-to.result c.args.device.now c.lines_at_once.new.device c.args.crew.feeder tried.0 tried.1
 
 pub returns-in_err-push-in-Ok-came-clause-used : goal.returns-in_err-push-in-Ok-came-clause-used
 returns-in_err-push-in-Ok-came-clause-used g c =
     let tried = c.lines_at_once.ensures.tried in
-    tried-in-use dbuf_meanings g.D.CacheDev c.args.arcs.now _ c.args.device.now c.lines_at_once.new.device c.args.crew.feeder tried.0 tried.1
+    tried-in-use dbuf_meanings g.D.CacheDev c.args.arcs.now c.args.trace.now.ops c.as_slice-ops.result.now c.as_slice-ops.ensures c.len-first.result c.group_end-to.result c.args.device.now c.lines_at_once.new.device c.args.crew.feeder tried.0 tried.1
 
 pub returns-in_ok-push-in-Ok-came-clause-used : goal.returns-in_ok-push-in-Ok-came-clause-used
 returns-in_ok-push-in-Ok-came-clause-used g c =
     let tried = c.lines_at_once.ensures.tried in
-    tried-in-use dbuf_meanings g.D.CacheDev c.args.arcs.now _ c.args.device.now c.lines_at_once.new.device c.args.crew.feeder tried.0 tried.1
+    tried-in-use dbuf_meanings g.D.CacheDev c.args.arcs.now c.args.trace.now.ops c.as_slice-ops.result.now c.as_slice-ops.ensures c.len-first.result c.group_end-to.result c.args.device.now c.lines_at_once.new.device c.args.crew.feeder tried.0 tried.1
 
 pub returns-in-Err-clause-used : goal.returns-in-Err-clause-used
 returns-in-Err-clause-used g c =
     let tried = c.lines_at_once.ensures.tried in
-    tried-in-use dbuf_meanings g.D.CacheDev c.args.arcs.now _ c.args.device.now c.lines_at_once.new.device c.args.crew.feeder tried.0 tried.1
+    tried-in-use dbuf_meanings g.D.CacheDev c.args.arcs.now c.args.trace.now.ops c.as_slice-ops.result.now c.as_slice-ops.ensures c.len-first.result c.group_end-to.result c.args.device.now c.lines_at_once.new.device c.args.crew.feeder tried.0 tried.1
+
+-- ---- the pool, where no sync is asked for
+
+pub returns-in_ok-push-in-Ok-came-clause-still : goal.returns-in_ok-push-in-Ok-came-clause-still
+returns-in_ok-push-in-Ok-came-clause-still g c =
+    let unused : IsUnused g.P.Pool c.args.pool.now c.forks.new.pool = record { size = c.in-Ok.ensures.keeps.size; told = c.in-Ok.ensures.keeps.told; reads = c.in-Ok.ensures.unread; faults = c.in-Ok.ensures.unfailed } in
+    let here : slice_get c.as_slice-ops.result.now c.group_end-to.result ≡ Some c.in-Some.op.now = slice_get_read c.as_slice-ops.result.now _ c.group_end-to.result c.in-Some.op.now refl c.in-Some.ensures.lookup.3.0 c.in-Some.ensures.lookup.1 in
+    next-still g.P.Pool c.args.trace.now c.as_slice-ops.result.now c.as_slice-ops.ensures c.args.pool.now c.forks.new.pool c.lines_at_once.new.pool c.end_line.new.pool c.group_end-to.result c.in-Some.op.now here unused c.lines_at_once.ensures.pool c.in_ok-crew-2.ensures.still
+
+pub returns-in_err-push-in-Ok-came-clause-still : goal.returns-in_err-push-in-Ok-came-clause-still
+returns-in_err-push-in-Ok-came-clause-still g c =
+    let unused : IsUnused g.P.Pool c.args.pool.now c.forks.new.pool = record { size = c.in-Ok.ensures.keeps.size; told = c.in-Ok.ensures.keeps.told; reads = c.in-Ok.ensures.unread; faults = c.in-Ok.ensures.unfailed } in
+    let here : slice_get c.as_slice-ops.result.now c.group_end-to.result ≡ Some c.in-Some.op.now = slice_get_read c.as_slice-ops.result.now _ c.group_end-to.result c.in-Some.op.now refl c.in-Some.ensures.lookup.3.0 c.in-Some.ensures.lookup.1 in
+    next-still g.P.Pool c.args.trace.now c.as_slice-ops.result.now c.as_slice-ops.ensures c.args.pool.now c.forks.new.pool c.lines_at_once.new.pool c.end_line.new.pool c.group_end-to.result c.in-Some.op.now here unused c.lines_at_once.ensures.pool c.in_ok-crew-2.ensures.still
+
+pub returns-in-Err-clause-still : goal.returns-in-Err-clause-still
+returns-in-Err-clause-still g c =
+    let unused : IsUnused g.P.Pool c.args.pool.now c.forks.new.pool = record { size = c.in-Ok.ensures.keeps.size; told = c.in-Ok.ensures.keeps.told; reads = c.in-Ok.ensures.unread; faults = c.in-Ok.ensures.unfailed } in
+    let here : slice_get c.as_slice-ops.result.now c.group_end-to.result ≡ Some c.in-Some.op.now = slice_get_read c.as_slice-ops.result.now _ c.group_end-to.result c.in-Some.op.now refl c.in-Some.ensures.lookup.3.0 c.in-Some.ensures.lookup.1 in
+    next-still g.P.Pool c.args.trace.now c.as_slice-ops.result.now c.as_slice-ops.ensures c.args.pool.now c.forks.new.pool c.lines_at_once.new.pool c.end_line.new.pool c.group_end-to.result c.in-Some.op.now here unused c.lines_at_once.ensures.pool c.in_ok-crew-2.ensures.still
+
+pub returns-in_err-crew-2-clause-still : goal.returns-in_err-crew-2-clause-still
+returns-in_err-crew-2-clause-still g c =
+    let unused : IsUnused g.P.Pool c.args.pool.now c.forks.new.pool = record { size = c.in-Ok.ensures.keeps.size; told = c.in-Ok.ensures.keeps.told; reads = c.in-Ok.ensures.unread; faults = c.in-Ok.ensures.unfailed } in
+    let here : slice_get c.as_slice-ops.result.now c.group_end-to.result ≡ Some c.in-Some.op.now = slice_get_read c.as_slice-ops.result.now _ c.group_end-to.result c.in-Some.op.now refl c.in-Some.ensures.lookup.3.0 c.in-Some.ensures.lookup.1 in
+    next-still g.P.Pool c.args.trace.now c.as_slice-ops.result.now c.as_slice-ops.ensures c.args.pool.now c.forks.new.pool c.lines_at_once.new.pool c.end_line.new.pool c.group_end-to.result c.in-Some.op.now here unused c.lines_at_once.ensures.pool c.in_err-crew-2.ensures.still

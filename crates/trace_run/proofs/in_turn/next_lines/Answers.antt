@@ -10,7 +10,8 @@ use Rattle.trace_run.specs.Devices.{lent_in}
 use Rattle.trace_run.specs.one_caller.InTurn.{AreOwn, DidOwnLines}
 use Rattle.trace_run.specs.Tally.{AreDeclared}
 use Rattle.trace_run.proofs.callers.GroupRunLemmas.{come-named, may-start}
-use Rattle.trace_run.proofs.callers.StepLemmas.{range-declared, range-here, range-length}
+use Rattle.trace_run.proofs.callers.StepLemmas.{none-at, range-declared, range-here, range-length}
+use Rattle.trace_run.proofs.one_caller.TurnUses.{line-in-use}
 use Rattle.trace_run.proofs.one_caller.TurnSteps.{range-own, step-halted, step-other, step-own, turn-may}
 use Rattle.trace_run.proofs.in_turn.next_lines.Goals as goal
 
@@ -86,3 +87,75 @@ returns-in-Err-clause-did g c = λ start restored was work between.
     let at : slice_get c.args.trace.now.ops (length c.args.replies.now.items) ≡ Some c.index-ops-first.result = subst (λ (x : List Op × ℕ). slice_get x.0 x.1 ≡ Some c.index-ops-first.result) (λ i. (c.as_slice-ops.ensures i, first i)) there in
     step-halted c.args.arcs.now restored g.P.Pool g.D.CacheDev c.args.trace.now start (between_groups c.args.pool.now c.args.syncs.group c.args.syncs.next) was c.args.device.now c.args.replies.now.items work c.args.crew c.requires.formed.few_ops c.requires.one between more
     c.index-ops-first.result at (between_groups c.other_line.new.pool c.in_ok-crew-2.syncs.group c.in_ok-crew-2.syncs.next) c.other_line.new.device c.in_ok-crew-2.crew c.in_ok-crew-2.came c.in-Err.ending c.in-Err.is c.in_ok-crew-2.ensures.did
+
+pub returns-in_ok-push-in-Ok-clause-used : goal.returns-in_ok-push-in-Ok-clause-used
+returns-in_ok-push-in-Ok-clause-used g c =
+    let more : length c.args.replies.now.items < length c.args.trace.now.ops = let m = c.requires.more in let long = c.args.replies.now.ok.0 in omega (arith, m, long) in
+    let first : c.len-first.result ≡ length c.args.replies.now.items = let is = c.len-first.ensures in let long = c.args.replies.now.ok.0 in omega (arith, is, long) in
+    let inside : c.len-first.result < length c.as_slice-ops.result.now = subst (λ (l : List Op). c.len-first.result < length l) (sym c.as_slice-ops.ensures) (omega (arith, more, first)) in
+    let there : slice_get c.as_slice-ops.result.now c.len-first.result ≡ Some c.index-ops-first.result = slice_get_read c.as_slice-ops.result.now _ c.len-first.result c.index-ops-first.result refl inside c.index-ops-first.is in
+    let at : slice_get c.args.trace.now.ops c.len-first.result ≡ Some c.index-ops-first.result = ap (λ (l : List Op). slice_get l c.len-first.result) (sym c.as_slice-ops.ensures) ∙ there in
+    line-in-use g.D.CacheDev c.args.trace.now.ops c.len-first.result c.index-ops-first.result c.args.device.now c.other_line.new.device at c.other_line.ensures.used
+
+pub returns-in_ok-push-in-Ok-clause-still : goal.returns-in_ok-push-in-Ok-clause-still
+returns-in_ok-push-in-Ok-clause-still g c = λ none.
+    let more : length c.args.replies.now.items < length c.args.trace.now.ops = let m = c.requires.more in let long = c.args.replies.now.ok.0 in omega (arith, m, long) in
+    let first : c.len-first.result ≡ length c.args.replies.now.items = let is = c.len-first.ensures in let long = c.args.replies.now.ok.0 in omega (arith, is, long) in
+    let inside : c.len-first.result < length c.as_slice-ops.result.now = subst (λ (l : List Op). c.len-first.result < length l) (sym c.as_slice-ops.ensures) (omega (arith, more, first)) in
+    let there : slice_get c.as_slice-ops.result.now c.len-first.result ≡ Some c.index-ops-first.result = slice_get_read c.as_slice-ops.result.now _ c.len-first.result c.index-ops-first.result refl inside c.index-ops-first.is in
+    let at : slice_get c.args.trace.now.ops c.len-first.result ≡ Some c.index-ops-first.result = ap (λ (l : List Op). slice_get l c.len-first.result) (sym c.as_slice-ops.ensures) ∙ there in
+    c.other_line.ensures.still (none-at c.args.trace.now.ops c.len-first.result c.index-ops-first.result none at)
+
+pub returns-in-Err-clause-used : goal.returns-in-Err-clause-used
+returns-in-Err-clause-used g c =
+    let more : length c.args.replies.now.items < length c.args.trace.now.ops = let m = c.requires.more in let long = c.args.replies.now.ok.0 in omega (arith, m, long) in
+    let first : c.len-first.result ≡ length c.args.replies.now.items = let is = c.len-first.ensures in let long = c.args.replies.now.ok.0 in omega (arith, is, long) in
+    let inside : c.len-first.result < length c.as_slice-ops.result.now = subst (λ (l : List Op). c.len-first.result < length l) (sym c.as_slice-ops.ensures) (omega (arith, more, first)) in
+    let there : slice_get c.as_slice-ops.result.now c.len-first.result ≡ Some c.index-ops-first.result = slice_get_read c.as_slice-ops.result.now _ c.len-first.result c.index-ops-first.result refl inside c.index-ops-first.is in
+    let at : slice_get c.args.trace.now.ops c.len-first.result ≡ Some c.index-ops-first.result = ap (λ (l : List Op). slice_get l c.len-first.result) (sym c.as_slice-ops.ensures) ∙ there in
+    line-in-use g.D.CacheDev c.args.trace.now.ops c.len-first.result c.index-ops-first.result c.args.device.now c.other_line.new.device at c.other_line.ensures.used
+
+pub returns-in-Err-clause-still : goal.returns-in-Err-clause-still
+returns-in-Err-clause-still g c = λ none.
+    let more : length c.args.replies.now.items < length c.args.trace.now.ops = let m = c.requires.more in let long = c.args.replies.now.ok.0 in omega (arith, m, long) in
+    let first : c.len-first.result ≡ length c.args.replies.now.items = let is = c.len-first.ensures in let long = c.args.replies.now.ok.0 in omega (arith, is, long) in
+    let inside : c.len-first.result < length c.as_slice-ops.result.now = subst (λ (l : List Op). c.len-first.result < length l) (sym c.as_slice-ops.ensures) (omega (arith, more, first)) in
+    let there : slice_get c.as_slice-ops.result.now c.len-first.result ≡ Some c.index-ops-first.result = slice_get_read c.as_slice-ops.result.now _ c.len-first.result c.index-ops-first.result refl inside c.index-ops-first.is in
+    let at : slice_get c.args.trace.now.ops c.len-first.result ≡ Some c.index-ops-first.result = ap (λ (l : List Op). slice_get l c.len-first.result) (sym c.as_slice-ops.ensures) ∙ there in
+    c.other_line.ensures.still (none-at c.args.trace.now.ops c.len-first.result c.index-ops-first.result none at)
+
+pub returns-in_err-crew-2-clause-used : goal.returns-in_err-crew-2-clause-used
+returns-in_err-crew-2-clause-used g c =
+    let more : length c.args.replies.now.items < length c.args.trace.now.ops = let m = c.requires.more in let long = c.args.replies.now.ok.0 in omega (arith, m, long) in
+    let first : c.len-first.result ≡ length c.args.replies.now.items = let is = c.len-first.ensures in let long = c.args.replies.now.ok.0 in omega (arith, is, long) in
+    let inside : c.len-first.result < length c.as_slice-ops.result.now = subst (λ (l : List Op). c.len-first.result < length l) (sym c.as_slice-ops.ensures) (omega (arith, more, first)) in
+    let there : slice_get c.as_slice-ops.result.now c.len-first.result ≡ Some c.index-ops-first.result = slice_get_read c.as_slice-ops.result.now _ c.len-first.result c.index-ops-first.result refl inside c.index-ops-first.is in
+    let at : slice_get c.args.trace.now.ops c.len-first.result ≡ Some c.index-ops-first.result = ap (λ (l : List Op). slice_get l c.len-first.result) (sym c.as_slice-ops.ensures) ∙ there in
+    line-in-use g.D.CacheDev c.args.trace.now.ops c.len-first.result c.index-ops-first.result c.args.device.now c.other_line.new.device at c.other_line.ensures.used
+
+pub returns-in_err-crew-2-clause-still : goal.returns-in_err-crew-2-clause-still
+returns-in_err-crew-2-clause-still g c = λ none.
+    let more : length c.args.replies.now.items < length c.args.trace.now.ops = let m = c.requires.more in let long = c.args.replies.now.ok.0 in omega (arith, m, long) in
+    let first : c.len-first.result ≡ length c.args.replies.now.items = let is = c.len-first.ensures in let long = c.args.replies.now.ok.0 in omega (arith, is, long) in
+    let inside : c.len-first.result < length c.as_slice-ops.result.now = subst (λ (l : List Op). c.len-first.result < length l) (sym c.as_slice-ops.ensures) (omega (arith, more, first)) in
+    let there : slice_get c.as_slice-ops.result.now c.len-first.result ≡ Some c.index-ops-first.result = slice_get_read c.as_slice-ops.result.now _ c.len-first.result c.index-ops-first.result refl inside c.index-ops-first.is in
+    let at : slice_get c.args.trace.now.ops c.len-first.result ≡ Some c.index-ops-first.result = ap (λ (l : List Op). slice_get l c.len-first.result) (sym c.as_slice-ops.ensures) ∙ there in
+    c.other_line.ensures.still (none-at c.args.trace.now.ops c.len-first.result c.index-ops-first.result none at)
+
+pub returns-in_err-push-in-Ok-clause-used : goal.returns-in_err-push-in-Ok-clause-used
+returns-in_err-push-in-Ok-clause-used g c =
+    let more : length c.args.replies.now.items < length c.args.trace.now.ops = let m = c.requires.more in let long = c.args.replies.now.ok.0 in omega (arith, m, long) in
+    let first : c.len-first.result ≡ length c.args.replies.now.items = let is = c.len-first.ensures in let long = c.args.replies.now.ok.0 in omega (arith, is, long) in
+    let inside : c.len-first.result < length c.as_slice-ops.result.now = subst (λ (l : List Op). c.len-first.result < length l) (sym c.as_slice-ops.ensures) (omega (arith, more, first)) in
+    let there : slice_get c.as_slice-ops.result.now c.len-first.result ≡ Some c.index-ops-first.result = slice_get_read c.as_slice-ops.result.now _ c.len-first.result c.index-ops-first.result refl inside c.index-ops-first.is in
+    let at : slice_get c.args.trace.now.ops c.len-first.result ≡ Some c.index-ops-first.result = ap (λ (l : List Op). slice_get l c.len-first.result) (sym c.as_slice-ops.ensures) ∙ there in
+    line-in-use g.D.CacheDev c.args.trace.now.ops c.len-first.result c.index-ops-first.result c.args.device.now c.other_line.new.device at c.other_line.ensures.used
+
+pub returns-in_err-push-in-Ok-clause-still : goal.returns-in_err-push-in-Ok-clause-still
+returns-in_err-push-in-Ok-clause-still g c = λ none.
+    let more : length c.args.replies.now.items < length c.args.trace.now.ops = let m = c.requires.more in let long = c.args.replies.now.ok.0 in omega (arith, m, long) in
+    let first : c.len-first.result ≡ length c.args.replies.now.items = let is = c.len-first.ensures in let long = c.args.replies.now.ok.0 in omega (arith, is, long) in
+    let inside : c.len-first.result < length c.as_slice-ops.result.now = subst (λ (l : List Op). c.len-first.result < length l) (sym c.as_slice-ops.ensures) (omega (arith, more, first)) in
+    let there : slice_get c.as_slice-ops.result.now c.len-first.result ≡ Some c.index-ops-first.result = slice_get_read c.as_slice-ops.result.now _ c.len-first.result c.index-ops-first.result refl inside c.index-ops-first.is in
+    let at : slice_get c.args.trace.now.ops c.len-first.result ≡ Some c.index-ops-first.result = ap (λ (l : List Op). slice_get l c.len-first.result) (sym c.as_slice-ops.ensures) ∙ there in
+    c.other_line.ensures.still (none-at c.args.trace.now.ops c.len-first.result c.index-ops-first.result none at)

@@ -1,18 +1,20 @@
 -- The run of several callers, group by group.
-use Rattle.std.proofs.Common.{◌∙◌, ◌≡◌, ◌⊎◌, ℕ, List, [], length, refl, sym, ap, subst, inl, inr, arith}
+use Rattle.std.proofs.Common.{◌∙◌, ap, ◌≡◌, ℕ, List, [], length, sym, subst, arith}
 use Rattle.arc_core.specs.Config.{IsConfig}
 use Rattle.arc_core.specs.declared.config.Config.{Config}
 use Rattle.blk_ptr.specs.declared.ptr.Ptr.{Ptr}
 use Rattle.trace_run.specs.Feeds.{MayBeFed}
 use Rattle.trace_run.specs.Openings.{AllKnow, openings_of}
 use Rattle.trace_run.specs.RunWork.{plain_work}
-use Rattle.trace_run.specs.callers.Together.{IsFirstPlace, between_groups}
+use Rattle.trace_run.specs.callers.Together.{IsFirstPlace, between_groups, report_of_closed}
 use Rattle.trace_run.proofs.OpenLemmas.{last-knows}
 use Rattle.trace_run.proofs.callers.GroupRunLemmas.{come-wait, lines-acts, lines-noted, may-resize}
 use Rattle.trace_run.proofs.callers.GroupsLemmas.{crew-rows, have-started}
 use Rattle.trace_run.proofs.callers.StepLemmas.{between-begun, first-may}
+use Rattle.trace_run.specs.Devices.{lent_in}
+use Rattle.trace_run.specs.one_caller.InTurn.{RunsInTurn}
 use Rattle.trace_run.proofs.one_caller.TurnSteps.{turn-begun}
-use Rattle.trace_run.proofs.theorem.TurnRun.{runs-in-turn}
+use Rattle.trace_run.proofs.theorem.TurnRun.{runs-at}
 use Rattle.trace_run.proofs.theorem.TogetherRun.{group-fed, group-together}
 use Rattle.trace_run.proofs.in_turn.run_one.Goals as goal
 
@@ -106,8 +108,7 @@ returns-clause-ran g c =
       _,
       group-together c.in_ok-arcs.arcs g.P.Pool g.D.CacheDev c.args.pool.now c.all_in_turn.new.pool c.first_place.result c.args.trace.now c.requires.formed config valid c.args.device.now c.all_in_turn.new.device _ c.args.restored.now _ done.0 _ done.1.done
           c.in_ok-closed.closed c.in_ok-closed.ensures,
-      λ rebuilt found. runs-in-turn c.in_ok-arcs.arcs g.P.Pool g.D.CacheDev c.args.pool.now c.all_in_turn.new.pool c.first_place.result c.args.trace.now c.requires.formed config valid one c.args.device.now c.all_in_turn.new.device _ c.args.restored.now _ done.0 _ done.1
-          c.in_ok-closed.closed c.in_ok-closed.ensures rebuilt found,
+      runs-at c.in_ok-arcs.arcs g.P.Pool g.D.CacheDev c.args.pool.now c.all_in_turn.new.pool c.first_place.result c.args.trace.now c.requires.formed config valid one c.args.device.now c.all_in_turn.new.device _ c.args.restored.now _ done.0 _ done.1 c.in_ok-closed.closed c.in_ok-closed.ensures,
       group-fed c.in_ok-arcs.arcs g.P.Pool g.D.CacheDev c.args.pool.now c.all_in_turn.new.pool c.first_place.result c.args.trace.now c.requires.formed config valid c.args.device.now c.all_in_turn.new.device _ c.args.restored.now _ done.0 _ done.1.done
           c.in_ok-closed.closed c.in_ok-closed.ensures,
     )

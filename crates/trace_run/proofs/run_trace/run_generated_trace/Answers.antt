@@ -20,7 +20,7 @@ use Rattle.trace_run.proofs.theorem.WorkLemmas.{plain-noted}
 use Rattle.trace_run.proofs.run_trace.run_generated_trace.Goals as goal
 
 pub returns-clause-status : goal.returns-clause-status
-returns-clause-status g c = c.in_ok-reported.ensures.run.status
+returns-clause-status g c = c.in_ok-reported.ensures.run.0.status
 
 pub returns-clause-generated : goal.returns-clause-generated
 returns-clause-generated g c =
@@ -29,7 +29,7 @@ returns-clause-generated g c =
     let reported = c.in_ok-reported.reported in
     let report = reported.report in
     let drawn = c.in_ok-trace.ensures.drawn in
-    let ran = c.in_ok-reported.ensures.run in
+    let ran = c.in_ok-reported.ensures.run.0 in
     let run = ran.run in
     let is : trace ≡ generated c.args.seed c.args.blocks c.args.ops = made-trace c.args.seed c.args.blocks c.args.ops trace drawn in
     let one = run.alone (ap (λ (t : Trace). t.config.callers) is) in

@@ -1,15 +1,18 @@
-use Rattle.std.proofs.Common.{◌≡◌, List, refl, subst, inl, arith}
+use Rattle.trace_run.proofs.callers.InUse.{lent-in-use}
+use Rattle.trace_run.specs.callers.Group.{LeavesDeclared}
+use Rattle.trace_run.specs.callers.Beside.{WasInUse}
+use Rattle.std.proofs.Common.{◌≡◌, List, sym, ap, subst, arith, refl, inl}
 use Rattle.arc_core.specs.declared.served.Restored.{Restored}
-use Rattle.trace_run.specs.one_caller.Alone.{RanAlone}
+use Rattle.trace_run.specs.one_caller.Alone.{RanAlone, ends_in, histories_of}
+use Rattle.trace_run.specs.FeedSeries.{LeavesFed}
+use Rattle.trace_run.specs.Restores.{found_keys}
 use Rattle.trace_run.specs.Devices.{lent_in}
 use Rattle.trace_run.specs.one_caller.Lent.{ReadsAlone}
-use Rattle.trace_run.specs.callers.Beside.{WasInUse}
-use Rattle.trace_run.specs.callers.Group.{LeavesDeclared}
 use Rattle.trace_run.specs.callers.GroupRun.{RanTogether}
 use Rattle.trace_run.specs.Outcome.{HasRun}
 use Rattle.trace_run.specs.RunWork.{RunWork}
 use Rattle.trace_run.specs.callers.Together.{report_of_closed}
-use Rattle.trace_run.proofs.callers.InUse.{lent-in-use}
+use Rattle.trace_run.proofs.feeds.LeftLemmas.{unfed-left}
 use Rattle.trace_run.proofs.theorem.DeviceUsed.{leaves-declared, lent-only}
 use Rattle.trace_run.proofs.theorem.RanLemmas.{alone-has-run, together-has-run}
 use Rattle.trace_run.proofs.run_trace.run_trace.Goals as goal
@@ -20,19 +23,71 @@ returns-clause-run g c =
     let ran = c.if-trace-eq1.ran in
     let trace = c.args.trace.now in
     let told = c.in_ok-reported.ensures in
-    let run : HasRun g.P.Pool g.D.CacheDev c.args.pool.now c.if-trace-eq1.pool (lent_in c.args.device.now) (lent_in c.if-trace-eq1.device) trace ran.ending ran.closed (report_of_closed ran.ending c.args.rebuilt ran.replies.items ran.closed) = elim c.if-trace-eq1.branch [
+    let run : (r : HasRun g.P.Pool g.D.CacheDev c.args.pool.now c.if-trace-eq1.pool (lent_in c.args.device.now) (lent_in c.if-trace-eq1.device) trace ran.ending ran.closed (report_of_closed ran.ending c.args.rebuilt ran.replies.items ran.closed))
+    × LeavesFed g.D.CacheDev trace.config (found_keys c.args.rebuilt) r.work.feeds c.args.device.now c.if-trace-eq1.device (histories_of ran.closed) = elim c.if-trace-eq1.branch [
       | then-trace-eq1+in_ok-ran w ↦
           let did = w.in_ok-ran.ran in
-          rw (w.ran-is, w.pool-is, w.device-is) (alone-has-run g.P.Pool g.D.CacheDev c.args.pool.now w.run_alone.new.pool (lent_in c.args.device.now) (lent_in w.run_alone.new.device) trace c.args.rebuilt did.replies.items did.closed
-          c.requires.done did.ending w.in_ok-ran.ensures.whole c.requires.formed (omega (arith, w.if-trace-eq1.true))
+          let one : trace.config.callers ≡ 1 = omega (arith, w.if-trace-eq1.true) in
+          let has = alone-has-run g.P.Pool g.D.CacheDev c.args.pool.now w.run_alone.new.pool (lent_in c.args.device.now) (lent_in w.run_alone.new.device) trace c.args.rebuilt did.replies.items did.closed
+          c.requires.done did.ending w.in_ok-ran.ensures.whole c.requires.formed one
           (subst (λ (l : List Restored). RanAlone g.P.Pool c.args.pool.now w.run_alone.new.pool trace l did.replies.items did.closed) w.found_keys.ensures w.in_ok-ran.ensures.ran)
           (subst (λ (l : List Restored). ReadsAlone g.P.Pool g.D.CacheDev c.args.pool.now trace l did.replies.items (lent_in c.args.device.now) (lent_in w.run_alone.new.device)) w.found_keys.ensures w.in_ok-ran.ensures.read)
-          w.in_ok-ran.ensures.cells (lent-only g.D.CacheDev c.args.device.now w.run_alone.new.device w.run_alone.ensures.device))
+          w.in_ok-ran.ensures.cells (lent-only g.D.CacheDev c.args.device.now w.run_alone.new.device w.run_alone.ensures.device) in
+          rw (w.ran-is, w.pool-is, w.device-is) (
+            has,
+            unfed-left g.D.CacheDev trace c.requires.formed.config (found_keys c.args.rebuilt) has.work did.replies.items (ends_in did.closed) (histories_of did.closed) has.run.explained (ap (λ (x : RunWork). x.feeds) (has.plain one))
+                c.args.device.now w.run_alone.new.device w.run_alone.ensures.device,
+          )
       | else-trace-eq1+in_ok-ran-2 w ↦
           let did = w.in_ok-ran-2.ran in
           let work = w.in_ok-ran-2.ensures.ran.0 in
-          rw (w.ran-is, w.pool-is, w.device-is) (together-has-run g.P.Pool g.D.CacheDev c.args.pool.now w.run_together.new.pool (lent_in c.args.device.now) (lent_in w.run_together.new.device) trace c.args.rebuilt did.replies.items did.closed did.ending work
+          let has = together-has-run g.P.Pool g.D.CacheDev c.args.pool.now w.run_together.new.pool (lent_in c.args.device.now) (lent_in w.run_together.new.device) trace c.args.rebuilt did.replies.items did.closed did.ending work
           (omega (arith, c.requires.formed.config.counts.callers.0, w.if-trace-eq1.false))
-          (subst (λ (l : List Restored). RanTogether g.P.Pool g.D.CacheDev c.args.pool.now w.run_together.new.pool (lent_in c.args.device.now) (lent_in w.run_together.new.device) trace did.ending l did.replies.items work did.closed) w.found_keys-else-trace-eq1.ensures w.in_ok-ran-2.ensures.ran.1))
+          (subst (λ (l : List Restored). RanTogether g.P.Pool g.D.CacheDev c.args.pool.now w.run_together.new.pool (lent_in c.args.device.now) (lent_in w.run_together.new.device) trace did.ending l did.replies.items work did.closed) w.found_keys-else-trace-eq1.ensures
+          w.in_ok-ran-2.ensures.ran.1) in
+          rw (w.ran-is, w.pool-is, w.device-is) (
+            has.0,
+            subst (λ (x : List Restored × RunWork). LeavesFed g.D.CacheDev trace.config x.0 x.1.feeds c.args.device.now w.run_together.new.device (histories_of did.closed)) (λ i. (w.found_keys-else-trace-eq1.ensures i, sym has.1 i)) w.in_ok-ran-2.ensures.ran.2,
+          )
     ] in
     rw (told.report, told.closed, told.ending) run
+
+-- ---- the pool
+
+pub returns-clause-pool : goal.returns-clause-pool
+returns-clause-pool g c = elim c.if-trace-eq1.branch [
+  | then-trace-eq1+in_ok-ran w ↦ rw w.pool-is (leaves-declared g.P.Pool c.args.trace.now.blocks c.args.pool.now w.run_alone.new.pool (let k = w.run_alone.ensures.pool in record { size = k.size; told = k.told; faults = omega (arith, k.faults) }))
+  | else-trace-eq1+in_ok-ran-2 w ↦ rw w.pool-is w.run_together.ensures.pool
+]
+
+pub returns-in_err-reported-clause-pool : goal.returns-in_err-reported-clause-pool
+returns-in_err-reported-clause-pool g c = elim c.if-trace-eq1.branch [
+  | then-trace-eq1+in_ok-ran w ↦ rw w.pool-is (leaves-declared g.P.Pool c.args.trace.now.blocks c.args.pool.now w.run_alone.new.pool (let k = w.run_alone.ensures.pool in record { size = k.size; told = k.told; faults = omega (arith, k.faults) }))
+  | else-trace-eq1+in_ok-ran-2 w ↦ rw w.pool-is w.run_together.ensures.pool
+]
+
+pub returns-clause-still : goal.returns-clause-still
+returns-clause-still g c = elim c.if-trace-eq1.branch [
+  | then-trace-eq1+in_ok-ran w ↦ rw w.pool-is (λ none. w.run_alone.ensures.pool.told)
+  | else-trace-eq1+in_ok-ran-2 w ↦ rw w.pool-is (λ none. (w.run_together.ensures.still none).told)
+]
+
+pub returns-in_err-reported-clause-still : goal.returns-in_err-reported-clause-still
+returns-in_err-reported-clause-still g c = elim c.if-trace-eq1.branch [
+  | then-trace-eq1+in_ok-ran w ↦ rw w.pool-is (λ none. w.run_alone.ensures.pool.told)
+  | else-trace-eq1+in_ok-ran-2 w ↦ rw w.pool-is (λ none. (w.run_together.ensures.still none).told)
+]
+
+-- ---- the device
+
+pub returns-clause-device : goal.returns-clause-device
+returns-clause-device g c = elim c.if-trace-eq1.branch [
+  | then-trace-eq1+in_ok-ran w ↦ rw w.device-is (lent-in-use g.D.CacheDev c.args.trace.now.ops c.args.device.now w.run_alone.new.device w.run_alone.ensures.device)
+  | else-trace-eq1+in_ok-ran-2 w ↦ rw w.device-is w.run_together.ensures.device
+]
+
+pub returns-in_err-reported-clause-device : goal.returns-in_err-reported-clause-device
+returns-in_err-reported-clause-device g c = elim c.if-trace-eq1.branch [
+  | then-trace-eq1+in_ok-ran w ↦ rw w.device-is (lent-in-use g.D.CacheDev c.args.trace.now.ops c.args.device.now w.run_alone.new.device w.run_alone.ensures.device)
+  | else-trace-eq1+in_ok-ran-2 w ↦ rw w.device-is w.run_together.ensures.device
+]

@@ -1,0 +1,277 @@
+-- How callers' lines on objects looked at cells, group by group: behind more lines of theirs, and behind a line that ends their group.
+use Rattle.std.proofs.Common.{◌≡◌, ◌⊎◌, ℕ, zero, suc, ◌+◌, ◌-◌, ◌<◌, ◌≤◌, nat_lt, Bool, true, false, if◌then◌else◌, List, [], ◌∷◌, ◌++◌, Option, Some, None, length, map, take, refl, sym, ap, ◌∙◌, subst, inl, inr, arith, append-nil, append_assoc, length-append}
+use Rattle.std.specs.Prelude.{IfSome, slice_get, slice_index_or}
+use Rattle.std.specs.List.{AllByRecursion}
+use Rattle.std.proofs.lemmas.Bool.{cases_lt, false≢true}
+use Rattle.std.proofs.lemmas.Bool.Decides.{nat_tests}
+use Rattle.std.proofs.lemmas.List.{take-append-le}
+use Rattle.std.proofs.lemmas.List.Elements.{filter-append}
+use Rattle.std.proofs.lemmas.Option.{slice_get_within}
+use Rattle.std.proofs.Math.Seq.{take-append-add}
+use mathlib.Core.Option.{some, some-injective, some-ne-none}
+use lib.ListN.{get_elem?}
+use Rattle.arc_lists.proofs.Tables.{cases_true}
+use Rattle.turn_table.specs.Places.{Place}
+use Rattle.arc_core.specs.Config.{IsConfig}
+use Rattle.arc_core.specs.declared.config.Config.{Config}
+use Rattle.arc_table.specs.declared.about.About.{About}
+use Rattle.arc_table.specs.declared.view.Known.{Known}
+use Rattle.arc_table.specs.declared.view.Line.{Line as Seen}
+use Rattle.arc_table.specs.Fronts.{StartsWith, front_of}
+use Rattle.arc_table.specs.Geometry.{IsCell}
+use Rattle.arc_table.specs.TableLaws.{starts_whole}
+use Rattle.dbuf_cells.specs.Places.{cell_of}
+use Rattle.dbuf_state.specs.declared.oid.Oid.{Oid}
+use Rattle.trace_run.specs.Deeds.{KeepsCells, Noted, events_of_cell, lines_of_cell}
+use Rattle.trace_run.specs.Lines.{caller_of, is_of_caller}
+use Rattle.trace_run.specs.Meeting.{HaveMet}
+use Rattle.trace_run.specs.ObjectLines.{OnObject, cell_lines, on_object}
+use Rattle.trace_run.specs.ObjectReplies.{AnswersFrom, LooksFrom}
+use Rattle.trace_run.specs.Objects.{Line}
+use Rattle.trace_run.specs.RunWork.{lines_of_caller}
+use Rattle.trace_run.specs.callers.Looking.{HaveLooked, LooksCut}
+use Rattle.trace_run.specs.callers.Together.{ends_group}
+use Rattle.trace_run.specs.callers.WorkLines.{HasFront, LooksLines, noted_of_work}
+use Rattle.trace_run.proofs.callers.GroupLists.{get-left, get-right, some-same}
+use Rattle.trace_run.proofs.callers.LineLists.{AreInside, nobody-callers, noted-append}
+use Rattle.trace_run.proofs.callers.MeetLemmas.{starts-then}
+use Rattle.trace_run.proofs.callers.MoreLemmas.{inside-at}
+use Rattle.trace_run.proofs.deeds.OperatesDone.{cell-there}
+
+-- before any line
+pub none-looked : {C : Type 0} (g : Config) (len : ℕ) (image : Option (List ℕ)) (place : ℕ) (ps : List (Place (Known C))) → HaveLooked g len image place [] ps
+none-looked g len image place ps = record {
+  level = λ k i. [];
+  reach = λ k e at ends n p party i in_range. absurd (none k e at);
+  looks = λ k n l p at his party. absurd (none k l at);
+}
+  where
+    none : (k : ℕ) (l : Line) → slice_get {X = Line} [] k ≡ Some l → ⊥
+    none k l at = cc
+
+-- ---- small steps
+
+by-some : {X : Type 0} (A B : X → Type 0) (o : Option X) → ((x : X) → A x → B x) → IfSome o A → IfSome o B
+by-some A B None so had = tt
+by-some A B (Some x) so had = so x had
+
+-- what one of a caller's lines did, behind what its earlier lines noted
+looks-at : (g : Config) (len : ℕ) (image : Option (List ℕ)) (openings : List (List ℕ)) (begun seen : List (List Seen)) (n : ℕ) (had : List Noted) (ls : List Line) (k : ℕ) (l : Line)
+    → slice_get ls k ≡ Some l → is_of_caller n l.op ≡ true → LooksLines g len image openings begun seen n had (lines_of_caller n ls)
+    → IfSome (on_object l.op) (λ on. LooksFrom g len image openings begun seen n (had ++ noted_of_work (lines_of_caller n (take k ls))) on.at l)
+looks-at g len image openings begun seen n had [] k l at his looks = cc
+looks-at g len image openings begun seen n had (x ∷ ls) zero l at his looks =
+    let same : x ≡ l = cc in
+    let own : is_of_caller n x.op ≡ true = ap (λ (y : Line). is_of_caller n y.op) same ∙ his in
+    let first = (rw own at looks).0 in
+    subst (λ (y : Line × List Noted). IfSome (on_object y.0.op) (λ on. LooksFrom g len image openings begun seen n y.1 on.at y.0)) (λ i. (same i, sym (append-nil had) i)) first
+looks-at g len image openings begun seen n had (x ∷ ls) (suc k) l at his looks = elim (cases_true (is_of_caller n x.op)) [
+  | inl own ↦
+      let rest = (rw own at looks).1 in
+      let h = looks-at g len image openings begun seen n (had ++ x.work.noted) ls k l at his rest in
+      let all : (had ++ x.work.noted) ++ noted_of_work (lines_of_caller n (take k ls)) ≡ had ++ noted_of_work (lines_of_caller n (x ∷ take k ls)) =
+      append_assoc had x.work.noted (noted_of_work (lines_of_caller n (take k ls))) ∙ ap (λ (y : List Line). had ++ noted_of_work y) (let same : x ∷ lines_of_caller n (take k ls) ≡ lines_of_caller n (x ∷ take k ls) = rw own refl in same) in
+      subst (λ (y : List Noted). IfSome (on_object l.op) (λ on. LooksFrom g len image openings begun seen n y on.at l)) all h
+  | inr other ↦
+      let rest = rw other at looks in
+      let h = looks-at g len image openings begun seen n had ls k l at his rest in
+      let all : lines_of_caller n (take k ls) ≡ lines_of_caller n (x ∷ take k ls) = rw other refl in
+      subst (λ (y : List Line). IfSome (on_object l.op) (λ on. LooksFrom g len image openings begun seen n (had ++ noted_of_work y) on.at l)) all h
+]
+
+module _ {C : Type 0} (g : Config) (valid : IsConfig g) (len : ℕ) (image : Option (List ℕ)) (place : ℕ) where
+  -- ---- one line
+
+  -- A line that looked did so behind more lines, where its party has seen more; a group more may end with what the party has seen then.
+  cut-on : (ls ms : List Line) (level next : (k i : ℕ) → List Seen) (p q : Place (Known C)) (k n : ℕ) (at : Oid) (l : Line) → KeepsCells g p q → take k ms ≡ take k ls
+      → ((x : ℕ) (e : Line) → x < k → slice_get ms x ≡ Some e → ends_group e.op ≡ true → (slice_get ls x ≡ Some e) × (next x (cell_of g.cells at) ≡ level x (cell_of g.cells at)))
+      → ((x : ℕ) (e : Line) → k < x → slice_get ms x ≡ Some e → ends_group e.op ≡ true
+      → ((slice_get ls x ≡ Some e) × (next x (cell_of g.cells at) ≡ level x (cell_of g.cells at))) ⊎ (next x (cell_of g.cells at) ≡ front_of (cell_of g.cells at) q.own.seen))
+      → LooksCut g len image place p.own.about.openings p.own.seen ls level k n at l → LooksCut g len image place q.own.about.openings q.own.seen ms next k n at l
+  cut-on ls ms level next p q k n at l keeps earlier before later cut =
+      let i : ℕ = cell_of g.cells at in
+      let lines : List Seen = cell_lines cut.from.cell in
+      let front = starts-then (front_of i q.own.seen) (front_of i p.own.seen) (lines ++ lines_of_cell i l.work.noted) (keeps.fronts i (cell-there g valid at)) cut.from.front in
+      record {
+        now = cut.now;
+        told = cut.told;
+        from = record {
+          cell = cut.from.cell;
+          sound = cut.from.sound;
+          opening = cut.from.opening ∙ ap (λ (a : About). slice_index_or a.openings i []) (sym keeps.about);
+          mine = cut.from.mine ∙ ap (λ (ys : List Line). events_of_cell i (noted_of_work (lines_of_caller n ys))) (sym earlier);
+          front = front;
+          brought = cut.from.brought;
+          acts = cut.from.acts;
+          answer = cut.from.answer;
+        };
+        since = λ x e lt there ends. let h = before x e lt there ends in subst (StartsWith lines) (sym h.1) (cut.since x e lt h.0 ends);
+        until = λ x e lt there ends. elim (later x e lt there ends) [
+          | inl h ↦ subst (λ (s : List Seen). StartsWith s (lines ++ lines_of_cell i l.work.noted)) (sym h.1) (cut.until x e lt h.0 ends)
+          | inr is ↦ subst (λ (s : List Seen). StartsWith s (lines ++ lines_of_cell i l.work.noted)) (sym is) front
+        ];
+      }
+
+  -- a line of a group behind these lines, which looked by a cell that goes on from what its party had seen as the group began
+  cut-new : (ls ms : List Line) (level : (k i : ℕ) → List Seen) (p q : Place (Known C)) (now : Option (List ℕ)) (k j n : ℕ) (at : Oid) (l : Line) → KeepsCells g p q → HasFront place image now → length ls ≤ k → k ≡ length ls + j
+      → ((x : ℕ) (e : Line) → slice_get (ls ++ ms) x ≡ Some e → ends_group e.op ≡ true → x < length ls)
+      → ((x : ℕ) (e : Line) → slice_get ls x ≡ Some e → ends_group e.op ≡ true → StartsWith (front_of (cell_of g.cells at) p.own.seen) (level x (cell_of g.cells at)))
+      → LooksFrom g len now p.own.about.openings p.own.seen q.own.seen n (noted_of_work (lines_of_caller n ls) ++ noted_of_work (lines_of_caller n (take j ms))) at l
+      → LooksCut g len image place q.own.about.openings q.own.seen (ls ++ ms) level k n at l
+  cut-new ls ms level p q now k j n at l keeps told le there inside reach f =
+      let i : ℕ = cell_of g.cells at in
+      let had : noted_of_work (lines_of_caller n (take k (ls ++ ms))) ≡ noted_of_work (lines_of_caller n ls) ++ noted_of_work (lines_of_caller n (take j ms)) =
+      ap (λ (ys : List Line). noted_of_work (lines_of_caller n ys)) (ap (λ (y : ℕ). take y (ls ++ ms)) there ∙ take-append-add ls ms j)
+      ∙ (ap noted_of_work (filter-append _ ls (take j ms)) ∙ noted-append (lines_of_caller n ls) (lines_of_caller n (take j ms))) in
+      record {
+        now = now;
+        told = told;
+        from = record {
+          cell = f.from.cell;
+          sound = f.from.sound;
+          opening = f.from.opening ∙ ap (λ (a : About). slice_index_or a.openings i []) (sym keeps.about);
+          mine = f.from.mine ∙ ap (events_of_cell i) (sym had);
+          front = f.from.front;
+          brought = f.from.brought;
+          acts = f.from.acts;
+          answer = f.from.answer;
+        };
+        since = λ x e lt is ends.
+            let early = inside x e is ends in
+            starts-then (cell_lines f.from.cell) (front_of i p.own.seen) (level x i) f.since (reach x e (sym (get-left ls ms x early) ∙ is) ends);
+        until = λ x e lt is ends. let early = inside x e is ends in absurd (omega (arith, early, lt, le));
+      }
+
+  -- ---- where nothing was done
+
+  -- the party that a caller had before it has seen this
+  abbrev pub Had : List (Place (Known C)) → (n : ℕ) → Place (Known C) → Type 0
+  Had ps n q = (p : Place (Known C)) × (get_elem? ps n ≡ some p) × KeepsCells g p q
+
+  pub kept-looked : (ls : List Line) (ps qs : List (Place (Known C))) → ((n : ℕ) (q : Place (Known C)) → get_elem? qs n ≡ some q → Had ps n q) → HaveLooked g len image place ls ps → HaveLooked g len image place ls qs
+  kept-looked ls ps qs old w = record {
+    level = w.level;
+    reach = λ k e at ends n q party i in_range. let o = old n q party in starts-then (front_of i q.own.seen) (front_of i o.0.own.seen) (w.level k i) (o.2.fronts i in_range) (w.reach k e at ends n o.0 o.1 i in_range);
+    looks = λ k n l q at his party.
+        let o = old n q party in
+        by-some (λ (on : OnObject). LooksCut g len image place o.0.own.about.openings o.0.own.seen ls w.level k n on.at l) (λ (on : OnObject). LooksCut g len image place q.own.about.openings q.own.seen ls w.level k n on.at l) (on_object l.op)
+        (λ on cut. cut-on ls ls w.level w.level o.0 q k n on.at l o.2 refl (λ x e lt there ends. (there, refl)) (λ x e lt there ends. inl (there, refl)) cut) (w.looks k n l o.0 at his o.1);
+  }
+
+  -- ---- the lines of a group
+
+  -- a caller's party behind more lines, each of which looked over what the pool told then
+  pub record LooksOn (ls ms : List Line) (ps : List (Place (Known C))) (n : ℕ) (q : Place (Known C)) : Type 0 where
+    pub from : Place (Known C)
+    pub at : get_elem? ps n ≡ some from
+    pub keeps : KeepsCells g from q
+    pub now : Option (List ℕ)
+    pub told : HasFront place image now
+    pub looks : LooksLines g len now from.own.about.openings from.own.seen q.own.seen n (noted_of_work (lines_of_caller n ls)) (lines_of_caller n ms)
+
+  module _ (ls ms : List Line) (ps qs : List (Place (Known C))) (own : AreInside ms) (on_each : (n : ℕ) (q : Place (Known C)) → get_elem? qs n ≡ some q → LooksOn ls ms ps n q) (w : HaveLooked g len image place ls ps) where
+    -- no line more ends a group
+    early-ends : (x : ℕ) (e : Line) → slice_get (ls ++ ms) x ≡ Some e → ends_group e.op ≡ true → x < length ls
+    early-ends x e at ends = elim (cases_lt x (length ls)) [
+      | inl early ↦ early
+      | inr late ↦
+          let there : x ≡ length ls + (x - length ls) = omega (arith, late) in
+          absurd (false≢true (sym (inside-at ms own (x - length ls) e (sym (get-right ls ms (x - length ls)) ∙ (ap (slice_get (ls ++ ms)) (sym there) ∙ at))) ∙ ends))
+    ]
+
+    left-at : (x : ℕ) (e : Line) → slice_get (ls ++ ms) x ≡ Some e → x < length ls → slice_get ls x ≡ Some e
+    left-at x e at early = sym (get-left ls ms x early) ∙ at
+
+    module _ (k n : ℕ) (l : Line) (q : Place (Known C)) (at : slice_get (ls ++ ms) k ≡ Some l) (his : is_of_caller n l.op ≡ true) (o : LooksOn ls ms ps n q) where
+      abbrev Then : OnObject → Type 0
+      Then on = LooksCut g len image place q.own.about.openings q.own.seen (ls ++ ms) w.level k n on.at l
+
+      old-line : k < length ls → IfSome (on_object l.op) Then
+      old-line early =
+          by-some (λ (on : OnObject). LooksCut g len image place o.from.own.about.openings o.from.own.seen ls w.level k n on.at l) Then (on_object l.op)
+          (λ on cut. cut-on ls (ls ++ ms) w.level w.level o.from q k n on.at l o.keeps (take-append-le k ls ms (omega (arith, early)))
+          (λ x e lt there ends. (left-at x e there (early-ends x e there ends), refl)) (λ x e lt there ends. inl (left-at x e there (early-ends x e there ends), refl)) cut)
+          (w.looks k n l o.from (left-at k l at early) his o.at)
+
+      new-line : (j : ℕ) → length ls ≤ k → k ≡ length ls + j → IfSome (on_object l.op) Then
+      new-line j le there =
+          by-some (λ (on : OnObject). LooksFrom g len o.now o.from.own.about.openings o.from.own.seen q.own.seen n (noted_of_work (lines_of_caller n ls) ++ noted_of_work (lines_of_caller n (take j ms))) on.at l) Then (on_object l.op)
+          (λ on from. cut-new ls ms w.level o.from q o.now k j n on.at l o.keeps o.told le there early-ends (λ x e is ends. w.reach x e is ends n o.from o.at (cell_of g.cells on.at) (cell-there g valid on.at)) from)
+          (looks-at g len o.now o.from.own.about.openings o.from.own.seen q.own.seen n (noted_of_work (lines_of_caller n ls)) ms j l (sym (get-right ls ms j) ∙ (ap (slice_get (ls ++ ms)) (sym there) ∙ at)) his o.looks)
+
+      line-looked : IfSome (on_object l.op) Then
+      line-looked = elim (cases_lt k (length ls)) [
+        | inl early ↦ old-line early
+        | inr late ↦ new-line (k - length ls) late (omega (arith, late))
+      ]
+
+    pub more-looked : HaveLooked g len image place (ls ++ ms) qs
+    more-looked = record {
+      level = w.level;
+      reach = λ k e at ends n q party i in_range.
+          let o = on_each n q party in
+          starts-then (front_of i q.own.seen) (front_of i o.from.own.seen) (w.level k i) (o.keeps.fronts i in_range) (w.reach k e (left-at k e at (early-ends k e at ends)) ends n o.from o.at i in_range);
+      looks = λ k n l q at his party. line-looked k n l q at his (on_each n q party);
+    }
+
+  -- ---- a line that ends them
+
+  -- Behind it all have seen the same of each cell, which is what this party has seen.
+  module _ (ls : List Line) (last : Line) (ps qs : List (Place (Known C))) (f : Place (Known C)) (nobody : caller_of last.op ≡ None) (old : (n : ℕ) (q : Place (Known C)) → get_elem? qs n ≡ some q → Had ps n q)
+      (same : (n : ℕ) (q : Place (Known C)) → get_elem? qs n ≡ some q → (i : ℕ) → IsCell g i → front_of i q.own.seen ≡ front_of i f.own.seen) (w : HaveLooked g len image place ls ps) where
+    abbrev level : (k i : ℕ) → List Seen
+    level k i = if nat_lt k (length ls) then w.level k i else front_of i f.own.seen
+
+    level-old : (k i : ℕ) → k < length ls → level k i ≡ w.level k i
+    level-old k i early =
+        let is : nat_lt k (length ls) ≡ true = grind (arith, nat_tests, early) in
+        ap (λ (b : Bool). if b then w.level k i else front_of i f.own.seen) is
+
+    level-new : (k i : ℕ) → length ls ≤ k → level k i ≡ front_of i f.own.seen
+    level-new k i late =
+        let is : nat_lt k (length ls) ≡ false = grind (arith, nat_tests, late) in
+        ap (λ (b : Bool). if b then w.level k i else front_of i f.own.seen) is
+
+    left-of : (x : ℕ) (e : Line) → slice_get (ls ++ last ∷ []) x ≡ Some e → x < length ls → slice_get ls x ≡ Some e
+    left-of x e at early = sym (get-left ls (last ∷ []) x early) ∙ at
+
+    -- a line that is a caller's is another
+    early-his : (k n : ℕ) (l : Line) → slice_get (ls ++ last ∷ []) k ≡ Some l → is_of_caller n l.op ≡ true → k < length ls
+    early-his k n l at his = elim (cases_lt k (length ls)) [
+      | inl early ↦ early
+      | inr late ↦
+          let inside = slice_get_within (ls ++ last ∷ []) k l at in
+          let here : k ≡ length ls = omega (arith, late, inside, length-append ls (last ∷ [])) in
+          let is : l ≡ last = some-same l last (sym at ∙ (ap (slice_get (ls ++ last ∷ [])) (here ∙ omega arith) ∙ get-right ls (last ∷ []) 0)) in
+          absurd (false≢true (sym (ap (λ (x : Line). is_of_caller n x.op) is ∙ nobody-callers n last.op nobody) ∙ his))
+    ]
+
+    ended-line : (k n : ℕ) (l : Line) (q : Place (Known C)) → slice_get (ls ++ last ∷ []) k ≡ Some l → is_of_caller n l.op ≡ true → get_elem? qs n ≡ some q
+        → IfSome (on_object l.op) (λ (on : OnObject). LooksCut g len image place q.own.about.openings q.own.seen (ls ++ last ∷ []) level k n on.at l)
+    ended-line k n l q at his party =
+        let o = old n q party in
+        let early = early-his k n l at his in
+        by-some (λ (on : OnObject). LooksCut g len image place o.0.own.about.openings o.0.own.seen ls w.level k n on.at l) (λ (on : OnObject). LooksCut g len image place q.own.about.openings q.own.seen (ls ++ last ∷ []) level k n on.at l)
+        (on_object l.op)
+        (λ on cut. cut-on ls (ls ++ last ∷ []) w.level level o.0 q k n on.at l o.2 (take-append-le k ls (last ∷ []) (omega (arith, early)))
+        (λ x e lt there ends. let before : x < length ls = omega (arith, lt, early) in (left-of x e there before, level-old x (cell_of g.cells on.at) before))
+        (λ x e lt there ends. elim (cases_lt x (length ls)) [
+          | inl before ↦ inl (left-of x e there before, level-old x (cell_of g.cells on.at) before)
+          | inr late ↦ inr (level-new x (cell_of g.cells on.at) late ∙ sym (same n q party (cell_of g.cells on.at) (cell-there g valid on.at)))
+        ])
+        cut)
+        (w.looks k n l o.0 (left-of k l at early) his o.1)
+
+    pub ended-looked : HaveLooked g len image place (ls ++ last ∷ []) qs
+    ended-looked = record {
+      level = level;
+      reach = λ k e at ends n q party i in_range.
+          let o = old n q party in
+          elim (cases_lt k (length ls)) [
+            | inl early ↦
+                subst (StartsWith (front_of i q.own.seen)) (sym (level-old k i early))
+                (starts-then (front_of i q.own.seen) (front_of i o.0.own.seen) (w.level k i) (o.2.fronts i in_range) (w.reach k e (left-of k e at early) ends n o.0 o.1 i in_range))
+            | inr late ↦ subst (StartsWith (front_of i q.own.seen)) (same n q party i in_range ∙ sym (level-new k i late)) (starts_whole (front_of i q.own.seen))
+          ];
+      looks = ended-line;
+    }
