@@ -16,6 +16,7 @@ pub mod ResidentLemmas
 pub mod RestAlone
 pub mod SoleLemmas
 pub mod TellLemmas
+pub mod TurnAnswers
 pub mod TurnLists
 pub mod TurnSteps
 pub mod TurnUses

@@ -13,8 +13,9 @@ ghost use Rattle.trace_run.specs.Devices.{WasLent, lent_in};
 ghost use Rattle.trace_run.specs.FeedSeries.{LeavesFed};
 ghost use Rattle.trace_run.specs.Feeds.{DoesFeeds, IsIdleFeeder, MayBeFed};
 ghost use Rattle.trace_run.specs.KeptBlocks.{Stands, read_of};
-ghost use Rattle.trace_run.specs.Lines.{caller_of, has_sync, is_of_caller, is_sync};
+ghost use Rattle.trace_run.specs.Lines.{caller_of, has_further, has_sync, is_further, is_of_caller, is_sync};
 ghost use Rattle.trace_run.specs.Meeting.{MayGoOn};
+ghost use Rattle.trace_run.specs.Outcome.{HasRun};
 ghost use Rattle.trace_run.specs.Restores.{found_keys};
 ghost use Rattle.trace_run.specs.RunWork.{RunWork};
 ghost use Rattle.trace_run.specs.Tally.{AreDeclared};
@@ -29,6 +30,7 @@ ghost use Rattle.trace_run.specs.one_caller.Alone.{histories_of};
 ghost use Rattle.trace_run.specs.one_caller.InTurn.{AreDoneInTurn, AreInTurn, AreOwn, DidOtherLine, DidOwnLines, RunsInTurn, StepsInTurn};
 ghost use Rattle.trace_run.specs.one_caller.OverShards.{AreNamed};
 
+use crate::alone::run_alone;
 use crate::device::Device;
 use crate::feeder::feed_line;
 use crate::groups::{Came, Crew, Syncs, append, crew_of, end_line, first_place, goes_on};
@@ -347,9 +349,29 @@ fn all_in_turn<P: Pool, D: CacheDev, G: Gate>(
     })
 }
 
+/// Whether an operation is on an object, or a sync, or a feed.
+fn is_further(op: &Op) -> bool
+    ensures { result ≡ is_further op.now }
+{
+    match op {
+        Op::Read { .. } | Op::Hold { .. } | Op::Drop { .. } | Op::Cap { .. } => false,
+        Op::Get { .. } | Op::Put { .. } | Op::Patch { .. } | Op::Pin { .. } | Op::Unpin { .. } => {
+            true
+        }
+        Op::Feed | Op::Txg { .. } => true,
+    }
+}
+
+/// Whether one of these operations is.
+fn has_further(ops: &[Op]) -> bool
+    ensures { result ≡ has_further ops.now }
+{
+    ops.iter().any(|op| is_further(op))
+}
+
 /// Runs a trace of one caller with any lines: one after another, over the pool and the cache device that are handed in, once these keys are
 /// restored. Where a sync stops, no line behind it is done.
-pub(crate) fn run_one<P: Pool, D: CacheDev, G: Gate>(
+fn run_one<P: Pool, D: CacheDev, G: Gate>(
     alloc: Global,
     rt: &impl Wait,
     trace: &Trace,
@@ -388,4 +410,33 @@ pub(crate) fn run_one<P: Pool, D: CacheDev, G: Gate>(
         closed,
         ending,
     })
+}
+
+/// Runs a trace of one caller. Where no line is on an object, and there is no sync and no feed, its report is a plain function.
+pub(crate) fn run_single<P: Pool, D: CacheDev, G: Gate>(
+    alloc: Global,
+    rt: &impl Wait,
+    trace: &Trace,
+    restored: &[Restored],
+    pool: &mut P,
+    device: &mut Device<D>,
+    gate: &G,
+) -> Result<Ran, NoMemory>
+    requires formed { IsFormed trace.now }
+    requires one { trace.now.config.callers ≡ 1 }
+    requires keys { HaveKeys restored.now }
+    requires device { MayBeFed D.CacheDev trace.now.config device.old }
+    ensures ran { IfOk result (λ ran. (rebuilt : Option Rebuilt) → found_keys rebuilt ≡ restored.now
+        → (run : HasRun P.Pool D.CacheDev pool.old pool.new (lent_in device.old) (lent_in device.new) trace.now ran.ending ran.closed (report_of_closed ran.ending rebuilt ran.replies.items ran.closed))
+        × LeavesFed D.CacheDev trace.now.config restored.now run.work.feeds device.old device.new (histories_of ran.closed)) }
+    ensures pool { LeavesDeclared P.Pool trace.now.blocks pool.old pool.new }
+    ensures still { has_sync trace.now.ops ≡ false → P.told pool.new ≡ P.told pool.old }
+    ensures device { WasInUse D.CacheDev trace.now.ops device.old device.new }
+{
+    if has_further(trace.ops.as_slice()) {
+        let ran = run_one(alloc, rt, trace, restored, pool, device, gate)?;
+        return Ok(ran);
+    }
+    let ran = run_alone(alloc, rt, trace, restored, pool, device, gate)?;
+    Ok(ran)
 }

@@ -27,7 +27,6 @@ mod status;
 mod syncing;
 mod together;
 mod top;
-mod undone;
 mod words;
 mod zero_pool;
 

@@ -6,7 +6,7 @@ ghost use Rattle.trace_run.specs.Outcome.{HasRun, IsGenReport};
 ghost use Rattle.trace_run.specs.Devices.{lent_in};
 ghost use Rattle.trace_run.specs.FeedSeries.{LeavesFed};
 ghost use Rattle.trace_run.specs.Feeds.{MayBeFed};
-ghost use Rattle.trace_run.specs.Lines.{has_sync, has_undone};
+ghost use Rattle.trace_run.specs.Lines.{has_sync};
 ghost use Rattle.trace_run.specs.callers.Beside.{WasInUse};
 ghost use Rattle.trace_run.specs.callers.Group.{LeavesDeclared};
 ghost use Rattle.trace_run.specs.callers.Together.{report_status};
@@ -14,8 +14,8 @@ ghost use Rattle.trace_run.specs.Restores.{found_keys};
 ghost use Rattle.trace_run.specs.Words.{IsInRange};
 ghost use Rattle.trace_run.specs.declared.words.Command.TheVariants as command;
 
-use crate::alone::run_alone;
 use crate::device::Device;
+use crate::in_turn::run_single;
 use crate::ran::Reported;
 use crate::together::run_together;
 use crate::zero_pool::ZeroPool;
@@ -49,7 +49,6 @@ pub(crate) fn run_trace<R: Threads + Wait + Sync, P: Pool, D: CacheDev, G: Gate>
     gate: &G,
 ) -> Result<Reported, NoMemory>
     requires formed { IsFormed trace.now }
-    requires done { has_undone trace.now ≡ false }
     requires keys { HaveKeys (found_keys rebuilt) }
     requires device { MayBeFed D.CacheDev trace.now.config device.old }
     ensures run { IfOk result (λ told. (run : HasRun P.Pool D.CacheDev pool.old pool.new (lent_in device.old) (lent_in device.new) trace.now told.ending told.closed told.report)
@@ -61,7 +60,7 @@ pub(crate) fn run_trace<R: Threads + Wait + Sync, P: Pool, D: CacheDev, G: Gate>
     ensures device { WasInUse D.CacheDev trace.now.ops device.old device.new }
 {
     let ran = if trace.config.callers == 1 {
-        run_alone(alloc, rt, trace, found_keys(&rebuilt), pool, device, gate)?
+        run_single(alloc, rt, trace, found_keys(&rebuilt), pool, device, gate)?
     } else {
         run_together(alloc, rt, trace, found_keys(&rebuilt), pool, device, gate)?
     };

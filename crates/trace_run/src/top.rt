@@ -22,7 +22,7 @@ use blk_ptr::NoMemory;
 use std::alloc::Global;
 use std::sync::Wait;
 use std::thread::Threads;
-use trace_text::{Kind, LONGEST_TEXT, Trace, TraceFault, read_trace, report_text};
+use trace_text::{LONGEST_TEXT, Trace, TraceFault, read_trace, report_text};
 use vdev_io::{CacheDev, Failed, Gate, Pool, ReadAllFault, Sink, Source, read_all, write_all};
 
 /// Does what the words ask: `run` reads a trace from the source and runs it over the pool, `gen` makes a trace and runs it

@@ -195,10 +195,10 @@ made-trace seed blocks ops trace made =
     ∙ ap (λ (os : List Op). record (generated seed blocks ops) { ops = os }) made.ops
 
 -- all its lines are reads, which the program does
-pub made-done : (seed blocks ops : ℕ) (trace : Trace) → IsGenerated seed blocks ops trace → has_further trace ≡ false
-made-done seed blocks ops trace drawn = ap has_further (made-trace seed blocks ops trace drawn) ∙ none-undone (range_with_len 0 ops)
+pub made-done : (seed blocks ops : ℕ) (trace : Trace) → IsGenerated seed blocks ops trace → has_further trace.ops ≡ false
+made-done seed blocks ops trace drawn = ap (λ (t : Trace). has_further t.ops) (made-trace seed blocks ops trace drawn) ∙ none-undone (range_with_len 0 ops)
   where
-    none-undone : (ns : List ℕ) → list_any (is_further (generated seed blocks ops).config.callers) (map (generated_read seed blocks) ns) ≡ false
+    none-undone : (ns : List ℕ) → list_any is_further (map (generated_read seed blocks) ns) ≡ false
     none-undone [] = refl
     none-undone (n ∷ ns) = none-undone ns
 

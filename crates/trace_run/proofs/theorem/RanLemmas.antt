@@ -1,7 +1,7 @@
 -- What a run over the shared cache came to is what its report has to say.
 use Rattle.std.specs.List.{list_any}
 use Rattle.std.proofs.lemmas.Option.{slice_get_within}
-use Rattle.std.proofs.Common.{◌≡◌, ℕ, ◌+◌, ◌<◌, ◌≤◌, ◌^◌, false, List, [], ◌∷◌, length, Option, Some, None, IfSome, refl, sym, ap, subst, ◌∙◌, arith}
+use Rattle.std.proofs.Common.{◌≡◌, ℕ, ◌+◌, ◌<◌, ◌≤◌, ◌^◌, false, true, List, [], ◌∷◌, length, Option, Some, None, IfSome, refl, sym, ap, subst, ◌∙◌, arith}
 use Rattle.arc_core.specs.declared.event.Event.{Event}
 use Rattle.arc_table.specs.Ended.{Ended}
 use Rattle.trace_text.specs.Grammar.{IsFormed}
@@ -23,7 +23,10 @@ use Rattle.dbuf_cells.specs.Turns.{OnHeap}
 use Rattle.trace_run.specs.callers.GroupRun.{RanTogether}
 use Rattle.trace_run.specs.CellEnds.{AreCellsOf}
 use Rattle.trace_run.specs.Devices.{IsHandedBack}
-use Rattle.trace_run.specs.Lines.{has_further, is_further}
+use Rattle.trace_run.specs.Lines.{has_further}
+use Rattle.trace_run.specs.one_caller.InTurn.{RunsInTurn}
+use Rattle.trace_run.proofs.one_caller.TurnAnswers.{turn-answered}
+use Rattle.std.proofs.lemmas.Bool.{false≢true}
 use Rattle.trace_run.specs.ObjectAnswers.{IsAnsweredBy}
 use Rattle.trace_run.specs.ObjectLines.{OnObject}
 use Rattle.trace_run.specs.Objects.{Line}
@@ -55,10 +58,6 @@ both-told (Some x) None each is = tt
 both-told (Some x) (Some y) each is = each x y is
 
 module _ {P D : Type 0} (pools : Ghosts P) (devices : DeviceGhosts D) (before after : P) (lent back : Option D) (trace : Trace) (rebuilt : Option Rebuilt) (replies : List Reply) (closed : Ended OnHeap) where
-  -- none of its lines is one that needs more
-  only-plain : has_further trace ≡ false → trace.config.callers ≡ 1 → has_further trace.ops ≡ false
-  only-plain done one = subst (λ (n : ℕ). list_any (is_further n) trace.ops ≡ false) one done
-
   -- One caller's run, none of whose lines did anything beside its reply.
   alone-run : (done : has_further trace.ops ≡ false) → IsFormed trace → trace.config.callers ≡ 1 → RanAlone pools before after trace (found_keys rebuilt) replies closed
       → ReadsAlone pools devices before trace (found_keys rebuilt) replies lent back → IsRun pools devices before after lent back trace Whole (plain_work trace.ops replies) closed (report_of_closed Whole rebuilt replies closed)
@@ -76,7 +75,7 @@ module _ {P D : Type 0} (pools : Ghosts P) (devices : DeviceGhosts D) (before af
         no_workers = refl;
         reads = λ low. calls-reads pools (calls_of_all replies) before after ran.made (omega (arith, low, few)) ∙ ap (λ (n : ℕ). pools.reads before + n) ran.counted;
         faults = λ low. omega (arith, calls-faults pools (calls_of_all replies) before after ran.made (omega (arith, low, few)), failed-all replies);
-        alone = λ _. (
+        alone = λ _ _. (
           refl,
           record {
             histories = ran.histories;
@@ -95,26 +94,63 @@ module _ {P D : Type 0} (pools : Ghosts P) (devices : DeviceGhosts D) (before af
         first = place.1;
         objects = λ k n l at his. subst (λ (o : Option OnObject). IsAnsweredBy trace.config (pools.size before) (pools.told before) place.0 closed.cells n (plain_lines trace.ops replies) k o l)
             (sym (plain-off trace.config trace.ops replies done k l at)) tt;
+        in_turn = λ _ further. absurd (false≢true (sym done ∙ further));
         together = λ two. absurd (omega (arith, two, one));
         idle = λ none. (refl, subst (λ (cs : List Call). MakesCalls pools cs before after) (no-calls replies (ran.answers.all ∙ ap length none)) ran.made);
         stopped = tt;
       }
 
-  pub alone-has-run : has_further trace ≡ false → (ending : Ending) → ending ≡ Whole → IsFormed trace → trace.config.callers ≡ 1 → RanAlone pools before after trace (found_keys rebuilt) replies closed
+  pub alone-has-run : has_further trace.ops ≡ false → (ending : Ending) → ending ≡ Whole → IsFormed trace → trace.config.callers ≡ 1 → RanAlone pools before after trace (found_keys rebuilt) replies closed
       → ReadsAlone pools devices before trace (found_keys rebuilt) replies lent back → AreCellsOf trace (only_ended trace.config) closed → IsHandedBack devices lent back → HasRun pools devices before after lent back trace ending closed (report_of_closed ending rebuilt replies closed)
   alone-has-run done ending whole formed one ran read cells unfed =
       subst (λ (e : Ending). HasRun pools devices before after lent back trace e closed (report_of_closed e rebuilt replies closed)) (sym whole) record {
         work = plain_work trace.ops replies;
-        did = plain-is trace.config trace.ops replies ran.answers.all (only-plain done one);
-        run = alone-run (only-plain done one) formed one ran read;
+        did = plain-is trace.config trace.ops replies ran.answers.all done;
+        run = alone-run done formed one ran read;
         cells = cells-plain trace trace.config refl refl trace.ops replies closed cells;
         kept = plain-kept trace closed cells;
         used = λ two. absurd (omega (arith, two, one));
         unfed = λ _. unfed;
-        answered = plain-answered lent trace.ops replies (only-plain done one);
-        plain = λ _. refl;
+        answered = plain-answered lent trace.ops replies done;
+        plain = λ _ _. refl;
         status = refl;
       }
+
+  -- one caller's run with any lines
+  pub turn-has-run : (ending : Ending) (work : RunWork) → trace.config.callers ≡ 1 → has_further trace.ops ≡ true → (ran : RanTogether pools devices before after lent back trace ending (found_keys rebuilt) replies work closed)
+      → RunsInTurn pools devices before after lent back ran.place trace ending work closed.cells (report_of_closed ending rebuilt replies closed)
+      → (run : HasRun pools devices before after lent back trace ending closed (report_of_closed ending rebuilt replies closed)) × (run.work ≡ work)
+  turn-has-run ending work one further ran runs = (
+    record {
+      work = work;
+      did = ran.did;
+      run = record {
+        answers = ran.answers;
+        explained = ran.explained;
+        tells = record { histories = refl; ends = refl };
+        config = ran.config;
+        no_workers = refl;
+        reads = ran.reads;
+        faults = ran.faults;
+        alone = λ _ done. absurd (false≢true (sym done ∙ further));
+        in_turn = λ _ _. runs;
+        place = ran.place;
+        first = ran.first;
+        objects = ran.objects;
+        together = λ two. absurd (omega (arith, two, one));
+        idle = λ none. absurd (false≢true (sym (ap has_further none) ∙ further));
+        stopped = ran.stopped;
+      };
+      cells = ran.cells;
+      kept = ran.kept;
+      used = λ two. absurd (omega (arith, two, one));
+      unfed = runs.unfed;
+      answered = turn-answered devices trace.blocks work.lines work.feeds lent back runs.used;
+      plain = λ _ done. absurd (false≢true (sym done ∙ further));
+      status = refl;
+    },
+    refl,
+  )
 
   -- several callers' run
   pub together-has-run : (ending : Ending) (work : RunWork) → 2 ≤ trace.config.callers → RanTogether pools devices before after lent back trace ending (found_keys rebuilt) replies work closed
@@ -131,7 +167,8 @@ module _ {P D : Type 0} (pools : Ghosts P) (devices : DeviceGhosts D) (before af
         no_workers = refl;
         reads = ran.reads;
         faults = ran.faults;
-        alone = λ one. absurd (omega (arith, two, one));
+        alone = λ one _. absurd (omega (arith, two, one));
+        in_turn = λ one _. absurd (omega (arith, two, one));
         place = ran.place;
         first = ran.first;
         objects = ran.objects;
@@ -144,7 +181,7 @@ module _ {P D : Type 0} (pools : Ghosts P) (devices : DeviceGhosts D) (before af
       used = ran.used;
       unfed = λ none. groups-back devices trace.blocks trace.config.callers (groups_done ending work.lines) work.feeds lent back none (ran.used two);
       answered = used-answered devices trace.blocks trace.config.callers ending work.lines work.feeds lent back (ran.used two);
-      plain = λ one. absurd (omega (arith, two, one));
+      plain = λ one _. absurd (omega (arith, two, one));
       status = refl;
     },
     refl,

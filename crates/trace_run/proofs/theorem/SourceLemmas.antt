@@ -1,26 +1,14 @@
 -- Why a source's text is not run.
-use Rattle.std.proofs.Common.{◌≡◌, true, ℕ, List, Result, Err, inl, inr, refl, ap, ◌∙◌, subst}
+use Rattle.std.proofs.Common.{◌≡◌, ℕ, List, Result, Err, ap, ◌∙◌, subst}
 use Rattle.std.specs.Prelude.{IfErr}
-use Rattle.trace_text.specs.Grammar.{IsCause, IsFirstFault, IsTraceText, longest_text}
+use Rattle.trace_text.specs.Grammar.{IsCause, IsFirstFault, longest_text}
 use Rattle.trace_text.specs.declared.fault.Kind.{Kind}
-use Rattle.trace_text.specs.declared.fault.Kind.TheVariants as kinds
 use Rattle.trace_text.specs.declared.fault.TraceFault.{TraceFault}
 use Rattle.trace_text.specs.declared.fault.TraceFault.TheVariants.{Bad}
 use Rattle.trace_text.specs.declared.trace.Trace.{Trace}
-use Rattle.trace_run.specs.Lines.{has_undone}
 use Rattle.trace_run.specs.Outcome.{IsBadTrace}
 use Rattle.vdev_io.specs.Streams.{NoneFailed, StreamState}
 use Rattle.vdev_io.specs.Streams.{Gives}
-
--- a line of its trace is not done yet
-pub undone-trace : (before after : StreamState) (text shown : List ℕ) (trace : Trace) (line : ℕ) → Gives before.told after.told longest_text text → NoneFailed before after
-    → shown ≡ text → IsTraceText shown trace → has_undone trace ≡ true → IsBadTrace before after line kinds.Word
-undone-trace before after text shown trace line given unfailed same is undone = record {
-  text = text;
-  given = given;
-  unfailed = unfailed;
-  fault = inr (record { trace = trace; is_trace = subst (λ (t : List ℕ). IsTraceText t trace) same is; undone = undone; unknown = refl });
-}
 
 -- it is no trace
 pub faulty-trace : (before after : StreamState) (text shown : List ℕ) (line : ℕ) (kind : Kind) (r : Result Trace TraceFault) (e : TraceFault) → Gives before.told after.told longest_text text
@@ -32,5 +20,5 @@ faulty-trace before after text shown line kind r e given unfailed same is bad ca
       text = text;
       given = given;
       unfailed = unfailed;
-      fault = inl (subst (λ (t : List ℕ). IsFirstFault t line kind) same first);
+      fault = subst (λ (t : List ℕ). IsFirstFault t line kind) same first;
     }

@@ -108,6 +108,7 @@ module _ {P D : Type 0} (cache : Cache) (pools : Ghosts P) (devices : Devices D)
         (subst (λ (g : Config). WorkInTurn pools g (StoodSo (openings_of trace) g crew.feeder) [] work.lines (between_groups before 1 place) d.done.now) config d.steps);
     ended = ends ending d.done.ended;
     used = d.asks;
+    unfed = d.unfed;
     counted = run-counted cache valid restored (pools.size before) (pools.told before) place trace.blocks os more rs work crew come closed h 0 (omega (arith, one));
     cut = λ shard below.
         let l = there closed.shards shard (subst (λ (n : ℕ). shard < n) (length-map closed.shards (λ (log : ShardLog). log.history)) below) in

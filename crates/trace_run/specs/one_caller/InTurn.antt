@@ -157,6 +157,7 @@ pub record RunsInTurn {P D : Type 0} (pool : Ghosts P) (device : Devices D) (bef
   pub lines : WorkInTurn pool trace.config (StoodThen trace closed) [] work.lines (between_groups before 1 place) reached
   pub ended : EndsRun pool trace.config (StoodThen trace closed) trace report.replies work.lines work.stopped ending reached after
   pub used : UsedInTurn device trace.blocks work.lines work.feeds lent back
+  pub unfed : work.feeds ≡ [] → IsHandedBack device lent back
   -- the caller's reads of the pool are those that its events stand for
   pub counted : length (calls_of_lines (lines_of_caller 0 work.lines)) ≡ reads_of_caller 0 report.histories
   -- a capacity is given to each shard, and a sync done, once all lines before it are done, and before any line behind it is begun

@@ -1,13 +1,6 @@
-use Rattle.std.proofs.Common.{sym, ◌∙◌}
 use Rattle.vdev_io.specs.Streams.{source_state}
-use Rattle.trace_run.proofs.theorem.SourceLemmas.{faulty-trace, undone-trace}
+use Rattle.trace_run.proofs.theorem.SourceLemmas.{faulty-trace}
 use Rattle.trace_run.proofs.top.read_source.Goals as goal
-
-pub returns-in-Ok-read_trace-clause-err : goal.returns-in-Ok-read_trace-clause-err
-returns-in-Ok-read_trace-clause-err g c =
-    undone-trace (source_state g.S.Source c.args.source.now) (source_state g.S.Source c.read_all.new.source) c.in-Ok.text.items c.deref.result.now c.in-Ok-read_trace.trace c.first_undone.result
-    c.in-Ok.ensures.ok c.in-Ok.ensures.faults c.deref.ensures.value c.in-Ok-read_trace.ensures.read
-    (sym c.has_undone.ensures ∙ c.if-has_undone.true)
 
 pub returns-in-Err-Bad-clause-err : goal.returns-in-Err-Bad-clause-err
 returns-in-Err-Bad-clause-err g c =

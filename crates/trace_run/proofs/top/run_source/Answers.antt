@@ -103,7 +103,6 @@ returns-in-Ok-ran-clause-does g c =
       reported = reported-so g.P.Pool g.D.CacheDev _ _ _ told.report told.closed c.deliver.result.report c.deliver.result.closed c.deliver.ensures.same (record {
         trace = trace;
         read = c.in-Ok.ensures.read;
-        done = c.in-Ok.ensures.done;
         started = device_of begun;
         first = first;
         found = subst (Finds g.D.CacheDev c.args.cache.now (device_of begun) first) (sym c.in-Ok-ran.ensures.rebuilt) found;
