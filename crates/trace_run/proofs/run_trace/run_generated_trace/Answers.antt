@@ -32,8 +32,9 @@ returns-clause-generated g c =
     let ran = c.in_ok-reported.ensures.run.0 in
     let run = ran.run in
     let is : trace ≡ generated c.args.seed c.args.blocks c.args.ops = made-trace c.args.seed c.args.blocks c.args.ops trace drawn in
-    let one = run.alone (ap (λ (t : Trace). t.config.callers) is) in
-    let plain_one : ran.work ≡ plain_work trace.ops report.replies = ran.plain (ap (λ (t : Trace). t.config.callers) is) in
+    let done = made-done c.args.seed c.args.blocks c.args.ops trace drawn in
+    let one = run.alone (ap (λ (t : Trace). t.config.callers) is) done in
+    let plain_one : ran.work ≡ plain_work trace.ops report.replies = ran.plain (ap (λ (t : Trace). t.config.callers) is) done in
     let alone = one.1 in
     let give = never-failed _ (λ p. refl) alone.calls _ _ alone.made in
     let answers : AnswersAll (c.args.blocks * 512) (Some (zeros_of c.args.blocks)) trace.blocks trace.ops report.replies = rw (len, one.0) at run.answers in
@@ -58,6 +59,3 @@ returns-clause-generated g c =
           (subst (λ (d : ℕ → List Noted). AreCellsOf trace d reported.closed) (λ i n. (ap (λ (w : RunWork). noted_by trace.config w n) plain_one ∙ sym (plain-noted trace.config trace.ops report.replies n)) i) ran.cells);
       status = ran.status ∙ rw (one.0, fine) refl;
     }
-
-pub run_trace-requires-clause-done : goal.run_trace-requires-clause-done
-run_trace-requires-clause-done g c κs within = made-done c.args.seed c.args.blocks c.args.ops c.in_ok-trace.trace c.in_ok-trace.ensures.drawn

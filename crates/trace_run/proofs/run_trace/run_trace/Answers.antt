@@ -27,16 +27,10 @@ returns-clause-run g c =
     × LeavesFed g.D.CacheDev trace.config (found_keys c.args.rebuilt) r.work.feeds c.args.device.now c.if-trace-eq1.device (histories_of ran.closed) = elim c.if-trace-eq1.branch [
       | then-trace-eq1+in_ok-ran w ↦
           let did = w.in_ok-ran.ran in
-          let one : trace.config.callers ≡ 1 = omega (arith, w.if-trace-eq1.true) in
-          let has = alone-has-run g.P.Pool g.D.CacheDev c.args.pool.now w.run_alone.new.pool (lent_in c.args.device.now) (lent_in w.run_alone.new.device) trace c.args.rebuilt did.replies.items did.closed
-          c.requires.done did.ending w.in_ok-ran.ensures.whole c.requires.formed one
-          (subst (λ (l : List Restored). RanAlone g.P.Pool c.args.pool.now w.run_alone.new.pool trace l did.replies.items did.closed) w.found_keys.ensures w.in_ok-ran.ensures.ran)
-          (subst (λ (l : List Restored). ReadsAlone g.P.Pool g.D.CacheDev c.args.pool.now trace l did.replies.items (lent_in c.args.device.now) (lent_in w.run_alone.new.device)) w.found_keys.ensures w.in_ok-ran.ensures.read)
-          w.in_ok-ran.ensures.cells (lent-only g.D.CacheDev c.args.device.now w.run_alone.new.device w.run_alone.ensures.device) in
+          let has = w.in_ok-ran.ensures.ran c.args.rebuilt (sym w.found_keys.ensures) in
           rw (w.ran-is, w.pool-is, w.device-is) (
-            has,
-            unfed-left g.D.CacheDev trace c.requires.formed.config (found_keys c.args.rebuilt) has.work did.replies.items (ends_in did.closed) (histories_of did.closed) has.run.explained (ap (λ (x : RunWork). x.feeds) (has.plain one))
-                c.args.device.now w.run_alone.new.device w.run_alone.ensures.device,
+            has.0,
+            subst (λ (l : List Restored). LeavesFed g.D.CacheDev trace.config l has.0.work.feeds c.args.device.now w.run_single.new.device (histories_of did.closed)) w.found_keys.ensures has.1,
           )
       | else-trace-eq1+in_ok-ran-2 w ↦
           let did = w.in_ok-ran-2.ran in
@@ -56,25 +50,25 @@ returns-clause-run g c =
 
 pub returns-clause-pool : goal.returns-clause-pool
 returns-clause-pool g c = elim c.if-trace-eq1.branch [
-  | then-trace-eq1+in_ok-ran w ↦ rw w.pool-is (leaves-declared g.P.Pool c.args.trace.now.blocks c.args.pool.now w.run_alone.new.pool (let k = w.run_alone.ensures.pool in record { size = k.size; told = k.told; faults = omega (arith, k.faults) }))
+  | then-trace-eq1+in_ok-ran w ↦ rw w.pool-is w.run_single.ensures.pool
   | else-trace-eq1+in_ok-ran-2 w ↦ rw w.pool-is w.run_together.ensures.pool
 ]
 
 pub returns-in_err-reported-clause-pool : goal.returns-in_err-reported-clause-pool
 returns-in_err-reported-clause-pool g c = elim c.if-trace-eq1.branch [
-  | then-trace-eq1+in_ok-ran w ↦ rw w.pool-is (leaves-declared g.P.Pool c.args.trace.now.blocks c.args.pool.now w.run_alone.new.pool (let k = w.run_alone.ensures.pool in record { size = k.size; told = k.told; faults = omega (arith, k.faults) }))
+  | then-trace-eq1+in_ok-ran w ↦ rw w.pool-is w.run_single.ensures.pool
   | else-trace-eq1+in_ok-ran-2 w ↦ rw w.pool-is w.run_together.ensures.pool
 ]
 
 pub returns-clause-still : goal.returns-clause-still
 returns-clause-still g c = elim c.if-trace-eq1.branch [
-  | then-trace-eq1+in_ok-ran w ↦ rw w.pool-is (λ none. w.run_alone.ensures.pool.told)
+  | then-trace-eq1+in_ok-ran w ↦ rw w.pool-is w.run_single.ensures.still
   | else-trace-eq1+in_ok-ran-2 w ↦ rw w.pool-is (λ none. (w.run_together.ensures.still none).told)
 ]
 
 pub returns-in_err-reported-clause-still : goal.returns-in_err-reported-clause-still
 returns-in_err-reported-clause-still g c = elim c.if-trace-eq1.branch [
-  | then-trace-eq1+in_ok-ran w ↦ rw w.pool-is (λ none. w.run_alone.ensures.pool.told)
+  | then-trace-eq1+in_ok-ran w ↦ rw w.pool-is w.run_single.ensures.still
   | else-trace-eq1+in_ok-ran-2 w ↦ rw w.pool-is (λ none. (w.run_together.ensures.still none).told)
 ]
 
@@ -82,12 +76,12 @@ returns-in_err-reported-clause-still g c = elim c.if-trace-eq1.branch [
 
 pub returns-clause-device : goal.returns-clause-device
 returns-clause-device g c = elim c.if-trace-eq1.branch [
-  | then-trace-eq1+in_ok-ran w ↦ rw w.device-is (lent-in-use g.D.CacheDev c.args.trace.now.ops c.args.device.now w.run_alone.new.device w.run_alone.ensures.device)
+  | then-trace-eq1+in_ok-ran w ↦ rw w.device-is w.run_single.ensures.device
   | else-trace-eq1+in_ok-ran-2 w ↦ rw w.device-is w.run_together.ensures.device
 ]
 
 pub returns-in_err-reported-clause-device : goal.returns-in_err-reported-clause-device
 returns-in_err-reported-clause-device g c = elim c.if-trace-eq1.branch [
-  | then-trace-eq1+in_ok-ran w ↦ rw w.device-is (lent-in-use g.D.CacheDev c.args.trace.now.ops c.args.device.now w.run_alone.new.device w.run_alone.ensures.device)
+  | then-trace-eq1+in_ok-ran w ↦ rw w.device-is w.run_single.ensures.device
   | else-trace-eq1+in_ok-ran-2 w ↦ rw w.device-is w.run_together.ensures.device
 ]
