@@ -41,5 +41,5 @@ returns-clause-ran g c = λ rebuilt found.
       has,
       subst (λ (l : List Restored). LeavesFed g.D.CacheDev trace.config l has.work.feeds c.args.device.now c.run_alone.new.device (histories_of did.closed)) found
           (unfed-left g.D.CacheDev trace c.requires.formed.config _ has.work did.replies.items (ends_in did.closed) (histories_of did.closed) has.run.explained (ap (λ (x : RunWork). x.feeds) (has.plain c.requires.one done))
-              c.args.device.now c.run_alone.new.device c.run_alone.ensures.device),
+          c.args.device.now c.run_alone.new.device c.run_alone.ensures.device),
     )
