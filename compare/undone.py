@@ -5,7 +5,7 @@ Whoever lets a line into the program takes its word out here: the rows of .ci/tr
 
 # by any number of callers, and by a single one
 WORDS = set()
-ALONE = {'get', 'put', 'patch', 'pin', 'unpin', 'feed', 'txg'}
+ALONE = set()
 
 
 def has_undone(text):

@@ -84,7 +84,8 @@ pub record IsBadTrace (before after : StreamState) (line : ℕ) (kind : Kind) : 
 
 -- Each operation that was answered has its answer, and the histories, which are those of the closed cache, explain the replies, with this work beside them, and the
 -- reads of the pool; its faults rose by one for each reply that says so, and by one more where a fork failed, where each count had room. With one
--- caller the report is a plain function; with several, each reads the pool through forks of its own, one for each group.
+-- caller the report is a plain function where no line is on an object, and there is no sync and no feed; else its lines were done one after another, on the pool and the device that were
+-- handed in. With several, each reads the pool through forks of its own, one for each group.
 pub record IsRun {P D : Type 0} (pool : Ghosts P) (device : Devices D) (before after : P) (lent back : Option D) (trace : Trace) (ending : Ending) (work : RunWork) (closed : Ended OnHeap) (report : Report) : Type 0 where
   pub answers : AnswersAll (pool.size before) (pool.told before) trace.blocks (answered_ops trace ending report.replies) report.replies
   pub explained : Explain trace (found_keys report.rebuilt) work report.replies report.ends report.histories
@@ -110,7 +111,7 @@ pub record IsRun {P D : Type 0} (pool : Ghosts P) (device : Devices D) (before a
   pub stopped : StopsSo pool before after trace report.replies ending
 
 -- A run of a trace came to a report, and this is what it did beside its replies: the lines with their work, and what the feeder did. The cells began with the trace's lines; that was done
--- to them, and they were ended. With several callers the cache device was read and fed just so, and one that was not fed was only read; one caller's lines did nothing beside their replies.
+-- to them, and they were ended. With several callers the cache device was read and fed just so, and one that was not fed was only read; one caller's reads, drops and capacities did nothing beside their replies.
 pub record HasRun {P D : Type 0} (pool : Ghosts P) (device : Devices D) (before after : P) (lent back : Option D) (trace : Trace) (ending : Ending) (closed : Ended OnHeap) (report : Report) : Type 0 where
   pub work : RunWork
   pub did : IsRunWork trace.config (answered_ops trace ending report.replies) report.replies work
