@@ -11,6 +11,7 @@ pub mod GenLemmas
 pub mod HistoryLemmas
 pub mod KeptEnds
 pub mod LineActs
+pub mod LookCuts
 pub mod LineAnswers
 pub mod OutcomeLemmas
 pub mod PlacedLemmas

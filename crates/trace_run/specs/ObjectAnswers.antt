@@ -1,6 +1,7 @@
 -- How a run's answered lines on objects are answered, and what they did: by the cells of the closed cache.
-use Rattle.std.specs.Prelude.{◌≡◌, ℕ, true, List, ◌++◌, Option, Some, None, slice_get, take}
+use Rattle.std.specs.Prelude.{◌≡◌, ◌<◌, ℕ, true, List, ◌++◌, Option, Some, None, slice_get, take}
 use Rattle.arc_core.specs.declared.config.Config.{Config}
+use Rattle.arc_table.specs.Fronts.{StartsWith}
 use Rattle.dbuf_cells.specs.Places.{cell_of}
 use Rattle.dbuf_cells.specs.Turns.{OnHeap}
 use Rattle.dbuf_state.specs.Outline.{outline_after}
@@ -13,18 +14,22 @@ use Rattle.trace_run.specs.ObjectLines.{OnObject, on_object}
 use Rattle.trace_run.specs.ObjectReplies.{ActsFor, AnswersObject, BringsAt}
 use Rattle.trace_run.specs.Objects.{Line, own_event}
 use Rattle.trace_run.specs.RunWork.{lines_of_caller}
+use Rattle.trace_run.specs.callers.Together.{ends_group}
 use Rattle.trace_run.specs.callers.WorkLines.{HasFront, noted_of_work}
 
--- The cell of the block of a line of n's, as it is in the end, has a history with this front, at which the line looked: it has of n's what these earlier lines did, and nothing else. What was
--- brought for the line is by this front, what the line did stands right behind it, and by it the line was answered, over what the pool told then. Behind a sync that differs from what
--- it told at first from the place of the first sync on.
-pub record LookedAt (g : Config) (pool_len : ℕ) (image : Option (List ℕ)) (place : ℕ) (cells : List OnHeap) (n : ℕ) (earlier : List Line) (at : Oid) (l : Line) : Type 0 where
+-- The cell of the block of a line of n's, which stands at the place k of these, has a history in the end with this front, at which the line looked: it has of n's what its earlier lines did, and
+-- nothing else. What was brought for the line is by this front, what the line did stands right behind it, and by it the line was answered, over what the pool told then. Behind a sync that differs
+-- from what it told at first from the place of the first sync on.
+pub record LookedAt (g : Config) (pool_len : ℕ) (image : Option (List ℕ)) (place : ℕ) (cells : List OnHeap) (n : ℕ) (lines : List Line) (k : ℕ) (at : Oid) (l : Line) : Type 0 where
   pub cell : OnHeap
   pub there : slice_get cells (cell_of g.cells at) ≡ Some cell
   pub front : List CellEvent
   pub rest : List CellEvent
   pub whole : cell.value.history ≡ front ++ (events_of_cell (cell_of g.cells at) l.work.noted ++ rest)
-  pub mine : done_by n front ≡ events_of_cell (cell_of g.cells at) (noted_of_work (lines_of_caller n earlier))
+  pub mine : done_by n front ≡ events_of_cell (cell_of g.cells at) (noted_of_work (lines_of_caller n (take k lines)))
+  -- it has what each caller's lines did there before a line that ends an earlier group, and nothing that any did behind one that ends this line's group or a later one
+  pub since : (m x : ℕ) (e : Line) → m < g.callers → x < k → slice_get lines x ≡ Some e → ends_group e.op ≡ true → StartsWith (done_by m front) (events_of_cell (cell_of g.cells at) (noted_of_work (lines_of_caller m (take x lines))))
+  pub until : (m x : ℕ) (e : Line) → m < g.callers → k < x → slice_get lines x ≡ Some e → ends_group e.op ≡ true → StartsWith (events_of_cell (cell_of g.cells at) (noted_of_work (lines_of_caller m (take x lines)))) (done_by m front)
   pub brought : BringsAt pool_len at (outline_after cell.value.limit cell.value.opening front) l.work.brought
   pub acts : ActsFor g n (own_event l.op) (outline_after cell.value.limit cell.value.opening front) l.work l.reply
   pub now : Option (List ℕ)
@@ -32,11 +37,11 @@ pub record LookedAt (g : Config) (pool_len : ℕ) (image : Option (List ℕ)) (p
   pub answer : AnswersObject pool_len now cell.value.limit cell.value.opening front l.work.brought l.op l.reply
 
 -- so it is of a caller's line on an object; one on no object has its answer elsewhere
-abbrev pub IsAnsweredBy : Config → (pool_len : ℕ) → Option (List ℕ) → (place : ℕ) → List OnHeap → (n : ℕ) → (earlier : List Line) → Option OnObject → Line → Type 0
-IsAnsweredBy g pool_len image place cells n earlier None l = Unit {0}
-IsAnsweredBy g pool_len image place cells n earlier (Some on) l = LookedAt g pool_len image place cells n earlier on.at l
+abbrev pub IsAnsweredBy : Config → (pool_len : ℕ) → Option (List ℕ) → (place : ℕ) → List OnHeap → (n : ℕ) → (lines : List Line) → (k : ℕ) → Option OnObject → Line → Type 0
+IsAnsweredBy g pool_len image place cells n lines k None l = Unit {0}
+IsAnsweredBy g pool_len image place cells n lines k (Some on) l = LookedAt g pool_len image place cells n lines k on.at l
 
 -- each of these lines is, behind those before it
 abbrev pub AreAnsweredByCells : Config → (pool_len : ℕ) → Option (List ℕ) → (place : ℕ) → List OnHeap → List Line → Type 0
 AreAnsweredByCells g pool_len image place cells ls =
-    (k n : ℕ) (l : Line) → slice_get ls k ≡ Some l → is_of_caller n l.op ≡ true → IsAnsweredBy g pool_len image place cells n (take k ls) (on_object l.op) l
+    (k n : ℕ) (l : Line) → slice_get ls k ≡ Some l → is_of_caller n l.op ≡ true → IsAnsweredBy g pool_len image place cells n ls k (on_object l.op) l

@@ -86,7 +86,7 @@ module _ {C : Type 0} (g : Config) (valid : IsConfig g) (len : ℕ) (image : Opt
   cut-on : (ls ms : List Line) (level next : (k i : ℕ) → List Seen) (p q : Place (Known C)) (k n : ℕ) (at : Oid) (l : Line) → KeepsCells g p q → take k ms ≡ take k ls
       → ((x : ℕ) (e : Line) → x < k → slice_get ms x ≡ Some e → ends_group e.op ≡ true → (slice_get ls x ≡ Some e) × (next x (cell_of g.cells at) ≡ level x (cell_of g.cells at)))
       → ((x : ℕ) (e : Line) → k < x → slice_get ms x ≡ Some e → ends_group e.op ≡ true
-          → ((slice_get ls x ≡ Some e) × (next x (cell_of g.cells at) ≡ level x (cell_of g.cells at))) ⊎ (next x (cell_of g.cells at) ≡ front_of (cell_of g.cells at) q.own.seen))
+      → ((slice_get ls x ≡ Some e) × (next x (cell_of g.cells at) ≡ level x (cell_of g.cells at))) ⊎ (next x (cell_of g.cells at) ≡ front_of (cell_of g.cells at) q.own.seen))
       → LooksCut g len image place p.own.about.openings p.own.seen ls level k n at l → LooksCut g len image place q.own.about.openings q.own.seen ms next k n at l
   cut-on ls ms level next p q k n at l keeps earlier before later cut =
       let i : ℕ = cell_of g.cells at in

@@ -1,13 +1,13 @@
 -- A caller's line on an object is answered by the closed cell of its block: the cell goes on from what the line found.
-use Rattle.std.proofs.Common.{◌≡◌, ℕ, zero, suc, ◌+◌, ◌<◌, ◌==◌, true, false, List, [], ◌∷◌, ◌++◌, length, map, take, Option, Some, None, append-nil, append_assoc, refl, sym, ap, ◌∙◌, subst, inl, inr, arith}
-use Rattle.std.specs.Prelude.{slice_get, slice_index_or}
-use Rattle.std.proofs.lemmas.Bool.{false≢true}
-use Rattle.std.proofs.lemmas.List.{map-append}
+use Rattle.std.proofs.Common.{◌≡◌, ℕ, zero, suc, ◌+◌, ◌<◌, ◌==◌, true, false, List, [], ◌∷◌, ◌++◌, length, map, take, drop, Option, Some, None, append-nil, append_assoc, refl, sym, ap, ◌∙◌, subst, inl, inr, arith}
+use Rattle.std.specs.Prelude.{◌⊎◌, IfSome, slice_get, slice_index_or}
+use Rattle.std.specs.List.{AllByRecursion}
+use Rattle.std.proofs.lemmas.List.{map-append, take-append-drop}
 use Rattle.std.proofs.lemmas.Nat.{mod_below}
+use mathlib.Core.Logic.{dite}
 use mathlib.Core.Option.{some, some-injective, some-ne-none}
+use native.Mathlib.Decide.{ℕ_discrete}
 use lib.ListN.{get_elem?}
-use Rattle.arc_lists.proofs.Tables.{cases_true}
-use Rattle.blk_ptr.specs.declared.ptr.Ptr.{Ptr}
 use Rattle.arc_core.specs.Config.{IsConfig}
 use Rattle.arc_core.specs.declared.config.Config.{Config}
 use Rattle.arc_table.specs.declared.view.Known.{Known}
@@ -26,28 +26,98 @@ use Rattle.dbuf_state.specs.Outline.{outline_after}
 use Rattle.dbuf_state.specs.declared.event.CellEvent.{CellEvent}
 use Rattle.dbuf_state.specs.declared.oid.Oid.{Oid}
 use Rattle.dbuf_state.specs.declared.state.Mapping.{Mapping}
-use Rattle.trace_run.specs.Deeds.{Noted, events_of_cell}
-use Rattle.trace_run.specs.KeptReads.{KeptRead}
+use Rattle.trace_text.specs.declared.op.Op.{Op}
+use Rattle.trace_text.specs.declared.op.Op.TheVariants as ops
+use Rattle.trace_text.specs.declared.reply.Reply.{Reply}
+use Rattle.trace_text.specs.declared.reply.Reply.TheVariants as replies
+use Rattle.trace_run.specs.CellEnds.{done_by}
+use Rattle.trace_run.specs.Deeds.{events_of_cell, lines_of_cell, noted_in}
 use Rattle.trace_run.specs.Lines.{is_of_caller}
 use Rattle.trace_run.specs.ObjectAnswers.{AreAnsweredByCells, IsAnsweredBy, LookedAt}
-use Rattle.trace_run.specs.ObjectLines.{OnObject, on_object}
-use Rattle.trace_run.specs.ObjectReplies.{ActsFor, AnswersFrom, AnswersObject, BringsAt}
-use Rattle.trace_run.specs.Objects.{Line, own_event}
-use Rattle.trace_run.specs.RunWork.{lines_of_caller}
-use Rattle.trace_run.specs.callers.WorkLines.{AnswersLine, AnswersLines, HasFront, noted_of_work}
-use Rattle.trace_run.specs.one_caller.OneCaller.{kept_after}
+use Rattle.trace_run.specs.ObjectLines.{OnObject, cell_lines, on_object}
+use Rattle.trace_run.specs.ObjectReplies.{ActsFor, AnswersObject, BringsAt}
+use Rattle.trace_run.specs.Objects.{Line, OwnEvent, Work, no_work, own_event}
+use Rattle.trace_run.specs.RunWork.{AllFit, FitsBy, lines_of_caller}
+use Rattle.trace_run.specs.callers.Looking.{HaveLooked, LooksCut}
+use Rattle.trace_run.specs.callers.Together.{ends_group}
+use Rattle.trace_run.specs.callers.WorkLines.{IsWorkOf, NotesLine, noted_of_work}
 use Rattle.trace_run.proofs.CellLemmas.{entries-front, lines-are, opened-so, opening-same}
+use Rattle.trace_run.proofs.callers.CallerActLemmas.{caller-is}
 use Rattle.trace_run.proofs.callers.MeetLemmas.{starts-then}
+use Rattle.trace_run.proofs.deeds.CellsDone.{noted-else}
+use Rattle.trace_run.proofs.theorem.LookCuts.{LookedAs, look-since, look-until}
 
 -- what a party had seen of the cells, and knew of their beginnings, before the cache was closed with what it knows then
 pub record EndsFrom (g : Config) (openings : List (List ℕ)) (seen : List (List Seen)) (w : Known OnHeap) : Type 0 where
   pub about : w.about.openings ≡ openings
   pub fronts : (i : ℕ) → IsCell g i → StartsWith (front_of i w.seen) (front_of i seen)
 
-slice-of : (l : List OnHeap) (i : ℕ) (c : OnHeap) → get_elem? l i ≡ some c → slice_get l i ≡ Some c
+pub slice-of : (l : List OnHeap) (i : ℕ) (c : OnHeap) → get_elem? l i ≡ some c → slice_get l i ≡ Some c
 slice-of [] i c at = absurd (some-ne-none c (sym at))
 slice-of (x ∷ xs) zero c at = ap (λ (y : OnHeap). Some y) (some-injective x c at)
 slice-of (x ∷ xs) (suc i) c at = slice-of xs i c at
+
+-- entries of two lists of events
+entries-two : (a b : List CellEvent) → map line.Entry (map event_numbers (a ++ b)) ≡ map line.Entry (map event_numbers a) ++ map line.Entry (map event_numbers b)
+entries-two a b = ap (map line.Entry) (map-append event_numbers a b) ∙ map-append line.Entry (map event_numbers a) (map event_numbers b)
+
+-- a front of entries is the entries of as many events
+taken-front : (h : List CellEvent) (front rest : List Seen) → map line.Entry (map event_numbers h) ≡ front ++ rest → front ≡ map line.Entry (map event_numbers (take (length front) h))
+taken-front h [] rest is = none h
+  where
+    none : (h : List CellEvent) → [] ≡ map line.Entry (map event_numbers (take 0 h))
+    none [] = refl
+    none (x ∷ h) = refl
+taken-front [] (y ∷ front) rest is = cc
+taken-front (x ∷ h) (y ∷ front) rest is =
+    let first : line.Entry (event_numbers x) ≡ y = cc in
+    let later : map line.Entry (map event_numbers h) ≡ front ++ rest = cc in
+    (λ z. sym first z ∷ taken-front h front rest later z)
+
+all-slice : (P : Line → Type 0) (xs : List Line) → AllByRecursion P xs → (k : ℕ) (x : Line) → slice_get xs k ≡ Some x → P x
+all-slice P [] all k x at = cc
+all-slice P (y ∷ ys) all zero x at = let same : y ≡ x = cc in subst P same all.0
+all-slice P (y ∷ ys) all (suc k) x at = all-slice P ys all.1 k x at
+
+-- what a line notes is of the cell of its block
+module _ (g : Config) (m i : ℕ) where
+  its-notes : (own : OwnEvent) (reply : Reply) (work : Work) → NotesLine g m own work reply → (es : List CellEvent) × (work.noted ≡ noted_in (cell_of g.cells own.at) es)
+  its-notes own (replies.Got size shown) work n = (_, n.noted)
+  its-notes own replies.Done work n = (_, n.noted)
+  its-notes own (replies.Refused refusal) work n = ([], n.0)
+  its-notes own (replies.Read served digest shown) work n = absurd n
+  its-notes own (replies.Kept served) work n = absurd n
+  its-notes own replies.Dropped work n = absurd n
+  its-notes own (replies.Fed report) work n = absurd n
+  its-notes own replies.FedNone work n = absurd n
+  its-notes own (replies.Synced group blocks bytes) work n = absurd n
+  its-notes own (replies.Capped c) work n = absurd n
+
+  abbrev NotesThere : Op → Work → Type 0
+  NotesThere op work = (events_of_cell i work.noted ≡ []) ⊎ ((on : OnObject) × (on_object op ≡ Some on) × (cell_of g.cells on.at ≡ i))
+
+  on-there : (op : Op) (on : OnObject) (own : OwnEvent) (reply : Reply) (work : Work) → on_object op ≡ Some on → own.at ≡ on.at → NotesLine g m own work reply → NotesThere op work
+  on-there op on own reply work is same n = dite (ℕ_discrete (cell_of g.cells on.at) i)
+      (λ here. inr (on, is, here))
+      (λ differs.
+      let notes = its-notes own reply work n in
+      inl (ap (events_of_cell i) notes.1 ∙ noted-else (cell_of g.cells own.at) i notes.0 (λ there_is. differs (ap (cell_of g.cells) (sym same) ∙ there_is))))
+
+  none-there : (op : Op) (work : Work) → work ≡ no_work → NotesThere op work
+  none-there op work none = inl (ap (λ (w : Work). events_of_cell i w.noted) none)
+
+  notes-there : (op : Op) (reply : Reply) (work : Work) → IsWorkOf g m (record { op = op; reply = reply; work = work }) → NotesThere op work
+  notes-there (ops.Get n t at w) reply work f = on-there (ops.Get n t at w) (record { at = at; tick = t }) _ reply work refl refl f.notes
+  notes-there (ops.Patch n t at start bytes) reply work f = on-there (ops.Patch n t at start bytes) (record { at = at; tick = t }) _ reply work refl refl f.notes
+  notes-there (ops.Pin n t at) reply work f = on-there (ops.Pin n t at) (record { at = at; tick = t }) _ reply work refl refl f.notes
+  notes-there (ops.Put n t at size fill) reply work f = on-there (ops.Put n t at size fill) (record { at = at; tick = 0 }) _ reply work refl refl f.notes
+  notes-there (ops.Unpin n at) reply work f = on-there (ops.Unpin n at) (record { at = at; tick = 0 }) _ reply work refl refl f.notes
+  notes-there (ops.Read n t x window) reply work f = none-there (ops.Read n t x window) work f.notes
+  notes-there (ops.Hold n t x) reply work f = none-there (ops.Hold n t x) work f.notes
+  notes-there (ops.Drop n x) reply work f = none-there (ops.Drop n x) work f.notes
+  notes-there ops.Feed reply work f = none-there ops.Feed work f.notes
+  notes-there (ops.Txg t) reply work f = none-there (ops.Txg t) work f.notes
+  notes-there (ops.Cap c) reply work f = none-there (ops.Cap c) work f.notes
 
 module _ (cache : Cache) (valid : IsConfig cache.config) (ps : List PartyPlace) (e : Ended OnHeap) (ends : Ends dbuf_meanings cache ps e) where
   abbrev g : Config
@@ -59,74 +129,118 @@ module _ (cache : Cache) (valid : IsConfig cache.config) (ps : List PartyPlace) 
       let view = ends.pact.attached.views n w knows in
       subst (λ (x : List Seen × List (List Seen)). StartsWith x.0 (front_of i x.1)) (λ k. (lines-are cache ps e ends i c at k, sym view.seen k)) (ends.pact.logged.seen n i)
 
-  module _ (n : ℕ) (w : Known OnHeap) (knows : get_elem? ends.views n ≡ some w) (openings : List (List ℕ)) (seen : List (List Seen)) (from : EndsFrom g openings seen w) (len : ℕ) (image : Option (List ℕ)) (place : ℕ) where
-    -- by the cell of its block, behind what the caller had done there
-    looked : (had : List Noted) (earlier : List Line) (at : Oid) (l : Line) (now : Option (List ℕ)) → had ≡ noted_of_work (lines_of_caller n earlier) → HasFront place image now → AnswersFrom g len now openings seen n had at l
-        → LookedAt g len image place e.cells n earlier at l
-    looked had earlier at l now is told a =
+  -- the closed cell of a number
+  there-closed : (i : ℕ) → IsCell g i → (c : OnHeap) × (get_elem? e.cells i ≡ some c)
+  there-closed i range = there e.cells i (subst (λ (k : ℕ). i < k) (sym ends.cells) range)
+
+  module _ (len : ℕ) (image : Option (List ℕ)) (place : ℕ) (ls : List Line) (crew : List PartyPlace) (h : HaveLooked g len image place ls crew) (fits : AllFit g ls)
+      (did : (i : ℕ) (c : OnHeap) → get_elem? e.cells i ≡ some c → (m : ℕ) → m < g.callers → done_by m c.value.history ≡ events_of_cell i (noted_of_work (lines_of_caller m ls)))
+      (from : (n : ℕ) → n < g.callers → (p : PartyPlace) × (get_elem? crew n ≡ some p) × (w : Known OnHeap) × (get_elem? ends.views n ≡ some w) × EndsFrom g p.own.about.openings p.own.seen w) where
+    -- how a line of n's looked
+    abbrev Cut : (k n : ℕ) → n < g.callers → Oid → Line → Type 0
+    Cut k n below at l = LooksCut g len image place (from n below).0.own.about.openings (from n below).0.own.seen ls h.level k n at l
+
+    cut-of : (k n : ℕ) (below : n < g.callers) (l : Line) → slice_get ls k ≡ Some l → is_of_caller n l.op ≡ true → IfSome (on_object l.op) (λ on. Cut k n below on.at l)
+    cut-of k n below l at his = h.looks k n l (from n below).0 at his (from n below).1
+
+    -- ---- one cell
+
+    module _ (i : ℕ) (range : IsCell g i) where
+      abbrev cell : OnHeap
+      cell = (there-closed i range).0
+
+      abbrev history : List CellEvent
+      history = cell.value.history
+
+      -- what all had seen of it as a group ended, as events
+      levels : ℕ → List CellEvent
+      levels x = take (length (h.level x i)) history
+
+      level-starts : (x : ℕ) → StartsWith history (levels x)
+      unfolding levels
+      level-starts x = (drop (length (h.level x i)) history, sym (take-append-drop (length (h.level x i)) history))
+
+      -- the closed cell goes on from what a caller had seen
+      seen-there : (n : ℕ) (below : n < g.callers) → StartsWith (map line.Entry (map event_numbers history)) (front_of i (from n below).0.own.seen)
+      seen-there n below =
+          let f = from n below in
+          starts-then (map line.Entry (map event_numbers history)) (front_of i f.2.seen) (front_of i f.0.own.seen) (goes-on i cell (there-closed i range).1 n f.2 f.3) (f.4.fronts i range)
+
+      level-is : (n : ℕ) (below : n < g.callers) (x : ℕ) (v : Line) → slice_get ls x ≡ Some v → ends_group v.op ≡ true → h.level x i ≡ map line.Entry (map event_numbers (levels x))
+      unfolding levels
+      level-is n below x v at stops =
+          let f = from n below in
+          let s = starts-then (map line.Entry (map event_numbers history)) (front_of i f.0.own.seen) (h.level x i) (seen-there n below) (h.reach x v at stops n f.0 f.1 i range) in
+          taken-front history (h.level x i) s.0 s.1
+
+      module _ (n : ℕ) (below : n < g.callers) (k : ℕ) (l : Line) (at : Oid) (same : cell_of g.cells at ≡ i) (cut : Cut k n below at l) (x : ℕ) (v : Line) (at_x : slice_get ls x ≡ Some v) (stops : ends_group v.op ≡ true) where
+        cut-since : x < k → StartsWith cut.from.cell.value.history (levels x)
+        cut-since less =
+            let s = subst (λ (j : ℕ). StartsWith (cell_lines cut.from.cell) (h.level x j)) same (cut.since x v less at_x stops) in
+            entries-front cut.from.cell.value.history (levels x) s.0 (s.1 ∙ ap (λ (y : List Seen). y ++ s.0) (level-is n below x v at_x stops))
+
+        cut-until : k < x → StartsWith (levels x) (cut.from.cell.value.history ++ events_of_cell i l.work.noted)
+        cut-until more =
+            let u = subst (λ (j : ℕ). StartsWith (h.level x j) (cell_lines cut.from.cell ++ lines_of_cell j l.work.noted)) same (cut.until x v more at_x stops) in
+            entries-front (levels x) (cut.from.cell.value.history ++ events_of_cell i l.work.noted) u.0
+            (sym (level-is n below x v at_x stops) ∙ (u.1 ∙ ap (λ (y : List Seen). y ++ u.0) (sym (entries-two cut.from.cell.value.history (events_of_cell i l.work.noted)))))
+
+      looked-as : (m : ℕ) (below : m < g.callers) (k : ℕ) (l : Line) → slice_get ls k ≡ Some l → is_of_caller m l.op ≡ true → (events_of_cell i l.work.noted ≡ []) ⊎ LookedAs i ls levels m k l
+      looked-as m below k l at his = elim (notes-there g m i l.op l.reply l.work (subst (λ (c : Option ℕ). FitsBy g c l) (caller-is m l.op his) (all-slice _ ls fits k l at))) [
+        | inl none ↦ inl none
+        | inr on ↦
+            let cut : Cut k m below on.0.at l = subst (λ (o : Option OnObject). IfSome o (λ it. Cut k m below it.at l)) on.1 (cut-of k m below l at his) in
+            inr record {
+              front = cut.from.cell.value.history;
+              mine = cut.from.mine ∙ ap (λ (j : ℕ). events_of_cell j (noted_of_work (lines_of_caller m (take k ls)))) on.2;
+              since = λ x v less at_x stops. cut-since m below k l on.0.at on.2 cut x v at_x stops less;
+              until = λ x v more at_x stops. cut-until m below k l on.0.at on.2 cut x v at_x stops more;
+            }
+      ]
+
+      -- what each caller did there by then
+      module _ (n : ℕ) (below : n < g.callers) (k : ℕ) (l : Line) (at : Oid) (same : cell_of g.cells at ≡ i) (cut : Cut k n below at l) (m x : ℕ) (v : Line) (less : m < g.callers) (at_x : slice_get ls x ≡ Some v) (stops : ends_group v.op ≡ true) where
+        all-since : x < k → StartsWith (done_by m cut.from.cell.value.history) (events_of_cell i (noted_of_work (lines_of_caller m (take x ls))))
+        all-since lt = look-since i ls levels history m (did i cell (there-closed i range).1 m less) (looked-as m less) x v at_x stops (level-starts x) cut.from.cell.value.history (cut-since n below k l at same cut x v at_x stops lt)
+
+        all-until : k < x → StartsWith (events_of_cell i (noted_of_work (lines_of_caller m (take x ls)))) (done_by m cut.from.cell.value.history)
+        all-until lt = look-until i ls levels history m (did i cell (there-closed i range).1 m less) (looked-as m less) x v at_x stops (level-starts x) cut.from.cell.value.history (events_of_cell i l.work.noted) (cut-until n below k l at same cut x v at_x stops lt)
+
+    -- ---- a line
+
+    looked : (k n : ℕ) (below : n < g.callers) (l : Line) (at : Oid) → Cut k n below at l → LookedAt g len image place e.cells n ls k at l
+    looked k n below l at cut =
+        let a = cut.from in
+        let f = from n below in
         let i : ℕ = cell_of g.cells at in
         let some_cells : 0 < g.cells = let b = valid.counts.cells.0 in omega arith in
         let range : IsCell g i = mod_below _ g.cells some_cells in
-        let c = there e.cells i (subst (λ (k : ℕ). i < k) (sym ends.cells) range) in
-        let cell : OnHeap = c.0 in
-        let began = opening-same a.cell.value.limit cell.value.limit a.cell.value.opening cell.value.opening
-        (a.opening ∙ (ap (λ (os : List (List ℕ)). slice_index_or os i []) (sym from.about) ∙ sym (opened-so cache ps e ends i cell c.1 n w knows))) in
+        let c : OnHeap = cell i range in
+        let began = opening-same a.cell.value.limit c.value.limit a.cell.value.opening c.value.opening
+        (a.opening ∙ (ap (λ (os : List (List ℕ)). slice_index_or os i []) (sym f.4.about) ∙ sym (opened-so cache ps e ends i c (there-closed i range).1 n f.2 f.3))) in
         let notes : List CellEvent = events_of_cell i l.work.noted in
-        let both : map line.Entry (map event_numbers (a.cell.value.history ++ notes)) ≡ map line.Entry (map event_numbers a.cell.value.history) ++ map line.Entry (map event_numbers notes) =
-        ap (map line.Entry) (map-append event_numbers a.cell.value.history notes) ∙ map-append line.Entry (map event_numbers a.cell.value.history) (map event_numbers notes) in
-        let starts = starts-then (map line.Entry (map event_numbers cell.value.history)) (front_of i w.seen) (front_of i seen) (goes-on i cell c.1 n w knows) (from.fronts i range) in
-        let whole = starts-then (map line.Entry (map event_numbers cell.value.history)) (front_of i seen) _ starts a.front in
-        let r = entries-front cell.value.history (a.cell.value.history ++ notes) whole.0 (whole.1 ∙ ap (λ (x : List Seen). x ++ whole.0) (sym both)) in
+        let whole = starts-then (map line.Entry (map event_numbers c.value.history)) (front_of i f.0.own.seen) _ (seen-there i range n below) a.front in
+        let r = entries-front c.value.history (a.cell.value.history ++ notes) whole.0 (whole.1 ∙ ap (λ (x : List Seen). x ++ whole.0) (sym (entries-two a.cell.value.history notes))) in
         record {
-          cell = cell;
-          there = slice-of e.cells i cell c.1;
+          cell = c;
+          there = slice-of e.cells i c (there-closed i range).1;
           front = a.cell.value.history;
           rest = r.0;
           whole = r.1 ∙ append_assoc a.cell.value.history notes r.0;
-          mine = a.mine ∙ ap (events_of_cell i) is;
-          brought = subst (λ (x : ℕ × List Mapping). BringsAt len at (outline_after x.0 x.1 a.cell.value.history) l.work.brought) (λ k. (began.0 k, began.1 k)) a.brought;
-          acts = subst (λ (x : ℕ × List Mapping). ActsFor g n (own_event l.op) (outline_after x.0 x.1 a.cell.value.history) l.work l.reply) (λ k. (began.0 k, began.1 k)) a.acts;
-          now = now;
-          told = told;
-          answer = subst (λ (x : ℕ × List Mapping). AnswersObject len now x.0 x.1 a.cell.value.history l.work.brought l.op l.reply) (λ k. (began.0 k, began.1 k)) a.answer;
+          mine = a.mine;
+          since = λ m x v less lt at_x stops. all-since i range n below k l at refl cut m x v less at_x stops lt;
+          until = λ m x v less lt at_x stops. all-until i range n below k l at refl cut m x v less at_x stops lt;
+          brought = subst (λ (x : ℕ × List Mapping). BringsAt len at (outline_after x.0 x.1 a.cell.value.history) l.work.brought) (λ z. (began.0 z, began.1 z)) a.brought;
+          acts = subst (λ (x : ℕ × List Mapping). ActsFor g n (own_event l.op) (outline_after x.0 x.1 a.cell.value.history) l.work l.reply) (λ z. (began.0 z, began.1 z)) a.acts;
+          now = cut.now;
+          told = cut.told;
+          answer = subst (λ (x : ℕ × List Mapping). AnswersObject len cut.now x.0 x.1 a.cell.value.history l.work.brought l.op l.reply) (λ z. (began.0 z, began.1 z)) a.answer;
         }
 
-    by-cell : (had : List Noted) (kept : List KeptRead) (blocks : List Ptr) (earlier : List Line) (o : Option OnObject) (l : Line) → had ≡ noted_of_work (lines_of_caller n earlier) → AnswersLine g len image place blocks openings seen n had kept o l
-        → IsAnsweredBy g len image place e.cells n earlier o l
-    by-cell had kept blocks earlier None l is answer = tt
-    by-cell had kept blocks earlier (Some on) l is answer = looked had earlier on.at l answer.0 is answer.1 answer.2
+    by-cell : (k n : ℕ) (below : n < g.callers) (l : Line) (o : Option OnObject) → IfSome o (λ on. Cut k n below on.at l) → IsAnsweredBy g len image place e.cells n ls k o l
+    by-cell k n below l None cut = tt
+    by-cell k n below l (Some on) cut = looked k n below l on.at cut
 
--- the answer of one of a caller's lines, behind what its earlier lines noted
-line-at : (g : Config) (len : ℕ) (image : Option (List ℕ)) (place : ℕ) (blocks : List Ptr) (openings : List (List ℕ)) (seen : List (List Seen)) (n : ℕ) (had : List Noted) (kept : List KeptRead) (ls : List Line) (k : ℕ) (l : Line)
-    → slice_get ls k ≡ Some l → is_of_caller n l.op ≡ true → AnswersLines g len image place blocks openings seen n had kept (lines_of_caller n ls)
-    → (now : List KeptRead) × AnswersLine g len image place blocks openings seen n (had ++ noted_of_work (lines_of_caller n (take k ls))) now (on_object l.op) l
-line-at g len image place blocks openings seen n had kept [] k l at his answers = cc
-line-at g len image place blocks openings seen n had kept (x ∷ ls) zero l at his answers =
-    let same : x ≡ l = cc in
-    let own : is_of_caller n x.op ≡ true = ap (λ (y : Line). is_of_caller n y.op) same ∙ his in
-    let first = (rw own at answers).0 in
-    (kept, subst (λ (y : Line × List Noted). AnswersLine g len image place blocks openings seen n y.1 kept (on_object y.0.op) y.0) (λ i. (same i, sym (append-nil had) i)) first)
-line-at g len image place blocks openings seen n had kept (x ∷ ls) (suc k) l at his answers = elim (cases_true (is_of_caller n x.op)) [
-  | inl own ↦
-      let rest = (rw own at answers).1 in
-      let h = line-at g len image place blocks openings seen n (had ++ x.work.noted) (kept_after blocks x.op x.reply kept) ls k l at his rest in
-      let all : (had ++ x.work.noted) ++ noted_of_work (lines_of_caller n (take k ls)) ≡ had ++ noted_of_work (lines_of_caller n (x ∷ take k ls)) =
-      append_assoc had x.work.noted (noted_of_work (lines_of_caller n (take k ls))) ∙ ap (λ (y : List Line). had ++ noted_of_work y) (let same : x ∷ lines_of_caller n (take k ls) ≡ lines_of_caller n (x ∷ take k ls) = rw own refl in same) in
-      (h.0, subst (λ (y : List Noted). AnswersLine g len image place blocks openings seen n y h.0 (on_object l.op) l) all h.1)
-  | inr other ↦
-      let rest = rw other at answers in
-      let h = line-at g len image place blocks openings seen n had kept ls k l at his rest in
-      let all : lines_of_caller n (take k ls) ≡ lines_of_caller n (x ∷ take k ls) = rw other refl in
-      (h.0, subst (λ (y : List Line). AnswersLine g len image place blocks openings seen n (had ++ noted_of_work y) h.0 (on_object l.op) l) all h.1)
-]
-
-module _ (cache : Cache) (valid : IsConfig cache.config) (ps : List PartyPlace) (e : Ended OnHeap) (ends : Ends dbuf_meanings cache ps e) (len : ℕ) (image : Option (List ℕ)) (place : ℕ) (blocks : List Ptr) (openings : ℕ → List (List ℕ)) (seen : ℕ → List (List Seen)) where
-  -- All lines of callers are answered by cells, where each caller's have their answers by what its party had seen, and the cache ended from there.
-  pub all-by-cells : (ls : List Line) → ((n : ℕ) (l : Line) (k : ℕ) → slice_get ls k ≡ Some l → is_of_caller n l.op ≡ true → n < cache.config.callers)
-      → ((n : ℕ) → n < cache.config.callers → AnswersLines cache.config len image place blocks (openings n) (seen n) n [] [] (lines_of_caller n ls))
-      → ((n : ℕ) → n < cache.config.callers → (w : Known OnHeap) × (get_elem? ends.views n ≡ some w) × EndsFrom cache.config (openings n) (seen n) w) → AreAnsweredByCells cache.config len image place e.cells ls
-  all-by-cells ls below answers from k n l at his =
-      let inside = below n l k at his in
-      let h = line-at cache.config len image place blocks (openings n) (seen n) n [] [] ls k l at his (answers n inside) in
-      let w = from n inside in
-      by-cell cache valid ps e ends n w.0 w.1 (openings n) (seen n) w.2 len image place ([] ++ noted_of_work (lines_of_caller n (take k ls))) h.0 blocks (take k ls) (on_object l.op) l refl h.1
+    -- All lines of callers are answered by cells, by how they looked at them.
+    pub all-by-cells : ((n : ℕ) (l : Line) (k : ℕ) → slice_get ls k ≡ Some l → is_of_caller n l.op ≡ true → n < g.callers) → AreAnsweredByCells g len image place e.cells ls
+    all-by-cells below k n l at his = by-cell k n (below n l k at his) l (on_object l.op) (cut-of k n (below n l k at his) l at his)

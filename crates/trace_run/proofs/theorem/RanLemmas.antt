@@ -1,7 +1,7 @@
 -- What a run over the shared cache came to is what its report has to say.
 use Rattle.std.specs.List.{list_any}
 use Rattle.std.proofs.lemmas.Option.{slice_get_within}
-use Rattle.std.proofs.Common.{◌≡◌, ℕ, ◌+◌, ◌<◌, ◌≤◌, ◌^◌, false, List, [], ◌∷◌, length, take, Option, Some, None, IfSome, refl, sym, ap, subst, ◌∙◌, arith}
+use Rattle.std.proofs.Common.{◌≡◌, ℕ, ◌+◌, ◌<◌, ◌≤◌, ◌^◌, false, List, [], ◌∷◌, length, Option, Some, None, IfSome, refl, sym, ap, subst, ◌∙◌, arith}
 use Rattle.arc_core.specs.declared.event.Event.{Event}
 use Rattle.arc_table.specs.Ended.{Ended}
 use Rattle.trace_text.specs.Grammar.{IsFormed}
@@ -93,7 +93,7 @@ module _ {P D : Type 0} (pools : Ghosts P) (devices : DeviceGhosts D) (before af
         );
         place = place.0;
         first = place.1;
-        objects = λ k n l at his. subst (λ (o : Option OnObject). IsAnsweredBy trace.config (pools.size before) (pools.told before) place.0 closed.cells n (take k (plain_lines trace.ops replies)) o l)
+        objects = λ k n l at his. subst (λ (o : Option OnObject). IsAnsweredBy trace.config (pools.size before) (pools.told before) place.0 closed.cells n (plain_lines trace.ops replies) k o l)
             (sym (plain-off trace.config trace.ops replies done k l at)) tt;
         together = λ two. absurd (omega (arith, two, one));
         idle = λ none. (refl, subst (λ (cs : List Call). MakesCalls pools cs before after) (no-calls replies (ran.answers.all ∙ ap length none)) ran.made);

@@ -37,7 +37,7 @@ use Rattle.trace_run.specs.declared.kept_blocks.KeptBlock.{KeptBlock}
 use Rattle.trace_run.specs.Acts.{acts_of_drops}
 use Rattle.trace_run.specs.Answers.{AnswersAll, is_pool_fault}
 use Rattle.trace_run.specs.CellEnds.{AreCellsOf, AreEndedSo, EndedCrew, IsCellDrop, ends_from}
-use Rattle.trace_run.specs.Deeds.{HasToldAll, HasToldOthers, KeepsCells, Noted, acts_of_events, events_there, lines_of_cell}
+use Rattle.trace_run.specs.Deeds.{HasToldAll, HasToldOthers, KeepsCells, Noted, acts_of_events, events_of_cell, events_there, lines_of_cell}
 use Rattle.trace_run.specs.Explaining.{BeginsWith, EndsWith, Explain, drops_at_end}
 use Rattle.trace_run.specs.FeedEvents.{events_of_line, events_of_lines, feeds_behind}
 use Rattle.trace_run.specs.Feeds.{FeedDone}
@@ -47,6 +47,7 @@ use Rattle.trace_run.specs.Lines.{caller_of, is_of_caller, replies_where}
 use Rattle.trace_run.specs.MadeLines.{made_of}
 use Rattle.trace_run.specs.ObjectAnswers.{AreAnsweredByCells}
 use Rattle.trace_run.specs.Meeting.{AllKeepCells, HasSettled, HaveGivenBack, HaveParted, IsLevel, Waits, drops_from}
+use Rattle.trace_run.specs.callers.Looking.{HaveLooked}
 use Rattle.trace_run.specs.Objects.{Line}
 use Rattle.trace_run.specs.one_caller.Alone.{ends_in, histories_of}
 use Rattle.trace_run.specs.one_caller.OneCaller.{events_of_drops, kept_after, kept_after_all}
@@ -68,7 +69,7 @@ use Rattle.trace_run.proofs.one_caller.TellLemmas.{all-map}
 use Rattle.trace_run.proofs.theorem.CellRun.{crew-cells, crew-kept}
 use Rattle.trace_run.proofs.theorem.CrewEnds.{crew-ended, crew-level}
 use Rattle.trace_run.proofs.theorem.LineActs.{Own, caller-own, own-fits}
-use Rattle.trace_run.proofs.theorem.AnsweredCells.{EndsFrom, all-by-cells, goes-on}
+use Rattle.trace_run.proofs.theorem.AnsweredCells.{EndsFrom, all-by-cells, goes-on, slice-of}
 use Rattle.trace_run.proofs.theorem.EndLemmas.{shown-at}
 use Rattle.trace_run.proofs.theorem.LineAnswers.{IsOfOne, lines-answered, own-lines-of}
 use Rattle.trace_run.proofs.theorem.WorkEnds.{HasEndedWork, IsCallersAct, acts-same, begins-seen, own-told, reads-counted, work-explains, work-level}
@@ -423,14 +424,17 @@ module _ (cache : Cache) (valid : IsConfig cache.config) (restored : List Restor
       )
 
   -- All lines of callers on objects are answered by the closed cells.
-  pub run-objects : ((k : ℕ) (op : Op) → slice_get os k ≡ Some op → (n : ℕ) → caller_of op ≡ Some n → n < g.callers) → AreAnsweredByCells g len image place closed.cells work.lines
-  run-objects below = all-by-cells cache valid h.closing closed h.ends len image place blocks (λ n. (party-at n).own.about.openings) (λ n. (party-at n).own.seen) work.lines
-      (λ n l k at his. own-at work.lines (own-lines-of (λ n. n < g.callers) os rs work.lines come.did.lines below) k l at n (caller-is n l.op his)) line-answers caller-ends
-    where
-      own-at : (ls : List Line) → AllByRecursion (IsOfOne (λ n. n < g.callers)) ls → (k : ℕ) (l : Line) → slice_get ls k ≡ Some l → (n : ℕ) → caller_of l.op ≡ Some n → n < g.callers
-      own-at [] all k l at n is = cc
-      own-at (x ∷ ls) all zero l at n is = let same : x ≡ l = cc in all.0 n (ap (λ (y : Line). caller_of y.op) same ∙ is)
-      own-at (x ∷ ls) all (suc k) l at n is = own-at ls all.1 k l at n is
+  module _ (trace : Trace) (config : g ≡ trace.config) (knows : Knows (openings_of trace) crew.feeder) where
+    pub run-objects : HaveLooked g len image place work.lines crew.parties.items → ((k : ℕ) (op : Op) → slice_get os k ≡ Some op → (n : ℕ) → caller_of op ≡ Some n → n < g.callers) → AreAnsweredByCells g len image place closed.cells work.lines
+    run-objects looked below = all-by-cells cache valid h.closing closed h.ends len image place work.lines crew.parties.items looked come.did.fits
+        (λ i c at m less. ((run-cells trace config knows).each i c (slice-of closed.cells i c at)).did m (subst (λ (x : Config). m < parties_of x) config (omega (arith, less))) ∙ ap (events_of_cell i) (caller-noted m less))
+        (λ n few. let p = caller-ends n few in (party-at n, subst (λ (x : PartyPlace). get_elem? crew.parties.items n ≡ some x) (party-is n few) (come.each n few).at.party_at, p.0, p.1, p.2))
+        (λ n l k at his. own-at work.lines (own-lines-of (λ n. n < g.callers) os rs work.lines come.did.lines below) k l at n (caller-is n l.op his))
+      where
+        own-at : (ls : List Line) → AllByRecursion (IsOfOne (λ n. n < g.callers)) ls → (k : ℕ) (l : Line) → slice_get ls k ≡ Some l → (n : ℕ) → caller_of l.op ≡ Some n → n < g.callers
+        own-at [] all k l at n is = cc
+        own-at (x ∷ ls) all zero l at n is = let same : x ≡ l = cc in all.0 n (ap (λ (y : Line). caller_of y.op) same ∙ is)
+        own-at (x ∷ ls) all (suc k) l at n is = own-at ls all.1 k l at n is
 
   -- A closed cell goes on from what the feeder had seen of it between the groups.
   pub feeder-begins : (i : ℕ) (x : OnHeap) → slice_get closed.cells i ≡ Some x → StartsWith (map line.Entry (map event_numbers x.value.history)) (front_of i crew.feeder.own.seen)

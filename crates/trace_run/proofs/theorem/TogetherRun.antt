@@ -257,7 +257,7 @@ module _ {P D : Type 0} (cache : Cache) (pools : Ghosts P) (devices : Devices D)
       go (Full need left) ends = ends.answer.outside.faults ∙ reached-faults room
 
   objects : AreAnsweredByCells cache.config (pools.size before) (pools.told before) place closed.cells work.lines
-  objects = run-objects cache valid restored (pools.size before) (pools.told before) place trace.blocks os more rs work crew come closed h below-all
+  objects = run-objects cache valid restored (pools.size before) (pools.told before) place trace.blocks os more rs work crew come closed h trace config d.reached.knows d.reached.looked below-all
 
   -- what its feeds leave of the cache device
   pub group-fed : LeavesFed devices trace.config restored done-work.feeds was is (histories_of closed)

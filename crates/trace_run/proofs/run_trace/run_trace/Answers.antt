@@ -24,7 +24,7 @@ returns-clause-run g c =
     let trace = c.args.trace.now in
     let told = c.in_ok-reported.ensures in
     let run : (r : HasRun g.P.Pool g.D.CacheDev c.args.pool.now c.if-trace-eq1.pool (lent_in c.args.device.now) (lent_in c.if-trace-eq1.device) trace ran.ending ran.closed (report_of_closed ran.ending c.args.rebuilt ran.replies.items ran.closed))
-        × LeavesFed g.D.CacheDev trace.config (found_keys c.args.rebuilt) r.work.feeds c.args.device.now c.if-trace-eq1.device (histories_of ran.closed) = elim c.if-trace-eq1.branch [
+    × LeavesFed g.D.CacheDev trace.config (found_keys c.args.rebuilt) r.work.feeds c.args.device.now c.if-trace-eq1.device (histories_of ran.closed) = elim c.if-trace-eq1.branch [
       | then-trace-eq1+in_ok-ran w ↦
           let did = w.in_ok-ran.ran in
           let one : trace.config.callers ≡ 1 = omega (arith, w.if-trace-eq1.true) in

@@ -47,11 +47,11 @@ returns-in-Ok-ran-clause-does g c =
     let feeds_left = left-from g.D.CacheDev c.with_bound-trace.result.config c.args.cache.now begun c.run_trace-ran.new.device c.in-Ok-begin.begun.rebuilt run.work.feeds told.report.histories kind found c.in-Ok-ran.ensures.run.1 in
     let in_use = was-used g.D.CacheDev c.with_bound-trace.result told.ending run.work begun c.run_trace-ran.new.device c.back.result c.back.ensures kind lent run.used run.unfed run.answered in
     let did : (r : HasRun g.P.Pool g.D.CacheDev c.args.pool.now c.run_trace-ran.new.pool (usable g.D.CacheDev (device_of begun)) (usable g.D.CacheDev c.back.result) (with_bound trace (device_len g.D.CacheDev.size c.args.cache.now)) told.ending told.closed told.report)
-        × WasUsed g.D.CacheDev (with_bound trace (device_len g.D.CacheDev.size c.args.cache.now)) told.ending r.work (device_of begun) c.back.result
-        × WasFedFrom g.D.CacheDev (with_bound trace (device_len g.D.CacheDev.size c.args.cache.now)).config c.args.cache.now (device_of begun) c.back.result first told.report.rebuilt r.work.feeds told.report.histories =
+    × WasUsed g.D.CacheDev (with_bound trace (device_len g.D.CacheDev.size c.args.cache.now)) told.ending r.work (device_of begun) c.back.result
+    × WasFedFrom g.D.CacheDev (with_bound trace (device_len g.D.CacheDev.size c.args.cache.now)).config c.args.cache.now (device_of begun) c.back.result first told.report.rebuilt r.work.feeds told.report.histories =
     subst (λ (x : Trace × Option g.row.D.Denot × Option g.row.D.Denot × Option g.row.D.Denot × Option Rebuilt).
-        (r : HasRun g.P.Pool g.D.CacheDev c.args.pool.now c.run_trace-ran.new.pool x.1 x.2 x.0 told.ending told.closed told.report) × WasUsed g.D.CacheDev x.0 told.ending r.work (device_of begun) c.back.result
-        × WasFedFrom g.D.CacheDev x.0.config c.args.cache.now (device_of begun) x.3 first x.4 r.work.feeds told.report.histories)
+    (r : HasRun g.P.Pool g.D.CacheDev c.args.pool.now c.run_trace-ran.new.pool x.1 x.2 x.0 told.ending told.closed told.report) × WasUsed g.D.CacheDev x.0 told.ending r.work (device_of begun) c.back.result
+    × WasFedFrom g.D.CacheDev x.0.config c.args.cache.now (device_of begun) x.3 first x.4 r.work.feeds told.report.histories)
     (λ i. (bounded i, before i, after i, sym c.back.ensures i, sym c.in-Ok-ran.ensures.rebuilt i)) (run, in_use, feeds_left) in
     record {
       source = search rules;
