@@ -1,5 +1,5 @@
 -- How a run's answered lines on objects are answered, and what they did: by the cells of the closed cache.
-use Rattle.std.specs.Prelude.{◌≡◌, ◌<◌, ℕ, true, List, ◌++◌, Option, Some, None, slice_get, take}
+use Rattle.std.specs.Prelude.{◌≡◌, ◌⊎◌, ◌<◌, ℕ, true, List, [], ◌++◌, Option, Some, None, slice_get, take}
 use Rattle.arc_core.specs.declared.config.Config.{Config}
 use Rattle.arc_table.specs.Fronts.{StartsWith}
 use Rattle.dbuf_cells.specs.Places.{cell_of}
@@ -13,7 +13,7 @@ use Rattle.trace_run.specs.Lines.{is_of_caller}
 use Rattle.trace_run.specs.ObjectLines.{OnObject, on_object}
 use Rattle.trace_run.specs.ObjectReplies.{ActsFor, AnswersObject, BringsAt}
 use Rattle.trace_run.specs.Objects.{Line, own_event}
-use Rattle.trace_run.specs.RunWork.{lines_of_caller}
+use Rattle.trace_run.specs.RunWork.{lines_of_caller, lines_of_feeder}
 use Rattle.trace_run.specs.callers.Together.{ends_group}
 use Rattle.trace_run.specs.callers.WorkLines.{HasFront, noted_of_work}
 
@@ -30,6 +30,11 @@ pub record LookedAt (g : Config) (pool_len : ℕ) (image : Option (List ℕ)) (p
   -- it has what each caller's lines did there before a line that ends an earlier group, and nothing that any did behind one that ends this line's group or a later one
   pub since : (m x : ℕ) (e : Line) → m < g.callers → x < k → slice_get lines x ≡ Some e → ends_group e.op ≡ true → StartsWith (done_by m front) (events_of_cell (cell_of g.cells at) (noted_of_work (lines_of_caller m (take x lines))))
   pub until : (m x : ℕ) (e : Line) → m < g.callers → k < x → slice_get lines x ≡ Some e → ends_group e.op ≡ true → StartsWith (events_of_cell (cell_of g.cells at) (noted_of_work (lines_of_caller m (take x lines)))) (done_by m front)
+  -- it has what a sync of an earlier group wrote there, and nothing that one wrote behind the line
+  pub since_syncs : (x : ℕ) (e : Line) → x < k → slice_get lines x ≡ Some e → ends_group e.op ≡ true
+      → (e.work.noted ≡ []) ⊎ StartsWith (done_by g.callers front) (events_of_cell (cell_of g.cells at) (noted_of_work (lines_of_feeder (take x lines))) ++ events_of_cell (cell_of g.cells at) e.work.noted)
+  pub until_syncs : (x : ℕ) (e : Line) → k < x → slice_get lines x ≡ Some e → ends_group e.op ≡ true
+      → (e.work.noted ≡ []) ⊎ StartsWith (events_of_cell (cell_of g.cells at) (noted_of_work (lines_of_feeder (take x lines)))) (done_by g.callers front)
   pub brought : BringsAt pool_len at (outline_after cell.value.limit cell.value.opening front) l.work.brought
   pub acts : ActsFor g n (own_event l.op) (outline_after cell.value.limit cell.value.opening front) l.work l.reply
   pub now : Option (List ℕ)

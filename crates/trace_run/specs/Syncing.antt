@@ -113,6 +113,8 @@ pub record SyncsJoined (cache : Cache) (tick : ℕ) (p : PartyPlace) (olds : Lis
   pub began : (i : ℕ) (c : OnHeap) → slice_get cells i ≡ Some c → opening_numbers c.value.limit c.value.opening ≡ slice_index_or p.own.about.openings i []
   pub noted : (i : ℕ) (c : OnHeap) → slice_get cells i ≡ Some c → front_of i q.own.seen ≡ lines_of c.value.history ++ lines_of (synced_in p.number i xs)
   pub met : HaveMet cache.config (p ∷ olds) (q ∷ news)
+  -- nobody had seen more of a cell than had been done to it
+  pub found : (i : ℕ) (c : OnHeap) → slice_get cells i ≡ Some c → AllByRecursion (λ o. StartsWith (lines_of c.value.history) (front_of i o.own.seen)) (p ∷ olds)
   -- it has seen of each cell what it had
   pub grown : (i : ℕ) → IsCell cache.config i → StartsWith (front_of i q.own.seen) (front_of i p.own.seen)
   -- and each had done just what is noted of it

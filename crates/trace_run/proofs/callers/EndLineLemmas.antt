@@ -1,11 +1,19 @@
 -- A line that ends a group of several callers: what the feeder did for it, and what it leaves of the pool and of what stands between two groups.
 use Rattle.std.proofs.Common.{◌≡◌, ◌⊎◌, ◌%◌, ◌≤◌, ◌++◌, ℕ, suc, false, List, length, Option, Some, Result, Ok, Err, refl, sym, ap, ◌∙◌, subst, inl, inr, arith}
 use Rattle.std.specs.Prelude.{slice_get}
+use Rattle.std.specs.List.{AllByRecursion}
+use Rattle.std.proofs.lemmas.List.{append_cancel_right}
+use Rattle.std.proofs.lemmas.Option.{slice_get_cases}
 use Rattle.blk_ptr.specs.Size.{sector}
 use Rattle.arc_core.specs.declared.event.Event.{Event}
 use Rattle.arc_table.specs.Cache.{Cache}
+use Rattle.arc_table.specs.declared.view.Line.{Line as Seen}
+use Rattle.arc_table.specs.Fronts.{StartsWith, front_of}
+use Rattle.arc_table.specs.Geometry.{IsCell}
 use Rattle.dbuf_cells.specs.Turns.{OnHeap}
+use Rattle.dbuf_state.specs.declared.event.CellEvent.{CellEvent}
 use Rattle.txg_sync.specs.Items.{SyncItem}
+use Rattle.txg_sync.specs.Turns.{synced_in}
 use Rattle.txg_sync.specs.declared.syncing.SyncFault.{SyncFault}
 use Rattle.txg_sync.specs.declared.syncing.SyncFault.TheVariants as fault
 use Rattle.txg_sync.specs.declared.syncing.Synced.{Synced as SyncAnswer}
@@ -18,17 +26,19 @@ use Rattle.vdev_io.specs.declared.pool.Pool.{Ghosts}
 use Rattle.trace_run.specs.declared.groups.Crew.{Crew}
 use Rattle.trace_run.specs.declared.ran.Ending.{Ending}
 use Rattle.trace_run.specs.declared.ran.Ending.TheVariants.{Full, Sync}
-use Rattle.trace_run.specs.Deeds.{HasToldOthers, acts_of_events}
+use Rattle.trace_run.specs.CellEnds.{done_by}
+use Rattle.trace_run.specs.Deeds.{HasToldOthers, acts_of_events, events_of_cell, lines_of_cell}
 use Rattle.trace_run.specs.Meeting.{resizes_in}
 use Rattle.trace_run.specs.Objects.{Line, Work, no_work}
 use Rattle.trace_run.specs.Openings.{Knows, openings_of}
 use Rattle.trace_run.specs.RunWork.{RunWork}
-use Rattle.trace_run.specs.Syncing.{SyncedJoined, SyncsJoined, inserts_in, noted_of}
+use Rattle.trace_run.specs.Syncing.{SyncedJoined, SyncsJoined, inserts_in, lines_of, noted_of}
 use Rattle.trace_run.specs.callers.Group.{LeavesFront}
 use Rattle.trace_run.specs.callers.Groups.{DidCap, DidEndLine, DidSync, EndsLines, MaySync, StoodSo, TellsSync, goes_on}
 use Rattle.trace_run.specs.callers.Together.{EndsGroup, BetweenGroups, StoppedAt, groups_begun, groups_done}
 use Rattle.trace_run.proofs.callers.EndedLemmas.{EndsSo, MadeWork, StopsSo, cap-ends, with_stop}
 use Rattle.trace_run.proofs.callers.FrontLemmas.{front-same}
+use Rattle.trace_run.proofs.syncs.SyncTold.{noted-there}
 use Rattle.trace_run.proofs.syncs.SyncTurned.{AreToldOf, more-acts, more-noted, none-own, sync-of, sync-stood, sync_work, work-fits}
 
 -- The pool is as it was, and has counted nothing since.
@@ -67,6 +77,20 @@ pub record Halted {P : Type 0} (cache : Cache) (pools : Ghosts P) (trace : Trace
 
 module _ (cache : Cache) (old new : Crew OnHeap) (number : old.feeder.number ≡ cache.config.callers) (kept : new.kept.items ≡ old.kept.items) (t : ℕ) (cells : List OnHeap) (xs : List SyncItem)
     (j : SyncsJoined cache t old.feeder old.parties.items new.feeder new.parties.items cells xs) where
+  -- the cell of a number, as the sync found it
+  cell-at : (i : ℕ) → IsCell cache.config i → (c : OnHeap) × (slice_get cells i ≡ Some c)
+  cell-at i range = elim (slice_get_cases cells i).1 [
+    | inl h ↦ (h.0, h.2)
+    | inr none ↦ let many = j.count in let past = none.0 in absurd (omega (arith, many, past, range))
+  ]
+
+  stands-there : (i : ℕ) (range : IsCell cache.config i) → front_of i new.feeder.own.seen ≡ lines_of (cell-at i range).0.value.history ++ lines_of_cell i (noted_of cache.config.callers xs)
+  stands-there i range =
+      let c = cell-at i range in
+      j.noted i c.0 c.1
+      ∙ (ap (λ (n : ℕ). lines_of c.0.value.history ++ lines_of (synced_in n i xs)) number
+      ∙ ap (λ (es : List CellEvent). lines_of c.0.value.history ++ lines_of es) (sym (noted-there cache.config cache.config.callers i xs)))
+
   abbrev sync-made : MadeWork cache (sync_work cache.config.callers xs j.inserts) (λ shard. inserts_in cache.config t xs shard (j.front shard)) old new
   sync-made = record {
     lines = j.lines;
@@ -84,6 +108,17 @@ module _ (cache : Cache) (old new : Crew OnHeap) (number : old.feeder.number ≡
     since = j.since;
     told = λ acts noted told. subst (λ (n : ℕ). HasToldOthers cache.config (acts ++ acts_of_events j.inserts) (noted ++ noted_of n xs) new.feeder) number (j.told acts noted told);
     met = j.met;
+    fresh = λ i range before is.
+        let c = cell-at i range in
+        let same : lines_of c.0.value.history ≡ before = append_cancel_right (lines_of c.0.value.history) before (lines_of_cell i (noted_of cache.config.callers xs)) (sym (stands-there i range) ∙ is) in
+        subst (λ (s : List Seen). AllByRecursion (λ o. StartsWith s (front_of i o.own.seen)) old.parties.items) same (j.found i c.0 c.1).1;
+    wrote = inr (λ acts noted told i range.
+        let c = cell-at i range in
+        record {
+          found = c.0.value.history;
+          did = subst (λ (n : ℕ). done_by n c.0.value.history ≡ events_of_cell i noted) number (j.did.0 noted told.entries i c.0 c.1);
+          behind = stands-there i range;
+        });
     cells = j.grown;
     inserted = more-acts cache t old.feeder old.parties.items new.feeder new.parties.items cells xs j;
   }

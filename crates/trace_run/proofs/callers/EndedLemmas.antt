@@ -1,5 +1,5 @@
 -- Several callers behind what the feeder did for the line that ends their group, while all had joined it: the line is answered, or a sync stopped there.
-use Rattle.std.proofs.Common.{◌≡◌, ℕ, zero, suc, ◌+◌, ◌-◌, ◌==◌, ◌<◌, ◌≤◌, nat_lt, Bool, true, false, if◌then◌else◌, List, [], ◌∷◌, ◌++◌, Option, Some, None, length, map, take, refl, sym, ap, ◌∙◌, subst, inl, inr, arith, append-nil, append_assoc, length-append, eq-eqb}
+use Rattle.std.proofs.Common.{◌≡◌, ◌⊎◌, ℕ, zero, suc, ◌+◌, ◌-◌, ◌==◌, ◌<◌, ◌≤◌, nat_lt, Bool, true, false, if◌then◌else◌, List, [], ◌∷◌, ◌++◌, Option, Some, None, length, map, take, refl, sym, ap, ◌∙◌, subst, inl, inr, arith, append-nil, append_assoc, length-append, eq-eqb}
 use Rattle.std.specs.Prelude.{filter, slice_get}
 use Rattle.std.specs.List.{AllByRecursion}
 use Rattle.std.proofs.lemmas.Bool.{cases_lt, false≢true}
@@ -35,7 +35,7 @@ use Rattle.trace_text.specs.declared.reply.Reply.TheVariants.{Capped}
 use Rattle.trace_run.specs.declared.groups.Crew.{Crew}
 use Rattle.trace_run.specs.declared.kept_blocks.KeptBlock.{KeptBlock}
 use Rattle.trace_run.specs.Acts.{events_of_feeder}
-use Rattle.trace_run.specs.Deeds.{HasToldOthers, Noted, acts_of_events, with_number}
+use Rattle.trace_run.specs.Deeds.{HasToldOthers, Noted, acts_of_events, lines_of_cell, with_number}
 use Rattle.trace_run.specs.FeedEvents.{events_of_lines, feeds_told}
 use Rattle.trace_run.specs.FeedSeries.{SeesMore}
 use Rattle.trace_run.specs.Feeds.{FeedDone, is_feed}
@@ -48,6 +48,7 @@ use Rattle.trace_run.specs.Restores.{events_by_feeder, restores_in}
 use Rattle.trace_run.specs.RunWork.{AllFit, FitsBy, FitsFeeder, IsRunWork, IsSyncWork, RunWork, acts_of_syncs, lines_of_caller, lines_of_feeder, noted_of_syncs}
 use Rattle.trace_run.specs.Syncing.{inserts_noted}
 use Rattle.trace_run.specs.callers.Groups.{AreEndLines, ComesAt, HaveCome, IsEndLine}
+use Rattle.trace_run.specs.callers.Looking.{WroteAt}
 use Rattle.trace_run.specs.callers.Together.{AreCut, IsCut, IsCutLast, ends_group, events_at_end}
 use Rattle.trace_run.specs.callers.WorkLines.{AreLinesOf, acts_of_work, acts_with, acts_with_op, noted_of_work}
 use Rattle.trace_run.proofs.callers.GroupLists.{Cuts, cut-before, cuts-more, get-right, some-same}
@@ -92,6 +93,9 @@ pub record MadeWork (cache : Cache) (work : Work) (more : (shard : ℕ) → List
   pub told : (acts : List Act) (noted : List Noted) → HasToldOthers cache.config acts noted old.feeder → HasToldOthers cache.config (acts ++ work.acts) (noted ++ work.noted) new.feeder
   -- of each cell all have seen the same
   pub met : HaveMet cache.config (old.feeder ∷ old.parties.items) (new.feeder ∷ new.parties.items)
+  -- no caller had seen more of a cell than what stands before what was noted there, unless nothing was; and just what the feeder is told to have done had been done by it
+  pub fresh : (i : ℕ) → IsCell cache.config i → (before : List Seen) → front_of i new.feeder.own.seen ≡ before ++ lines_of_cell i work.noted → AllByRecursion (λ o. StartsWith before (front_of i o.own.seen)) old.parties.items
+  pub wrote : (work.noted ≡ []) ⊎ ((acts : List Act) (noted : List Noted) → HasToldOthers cache.config acts noted old.feeder → (i : ℕ) → IsCell cache.config i → WroteAt cache.config i noted work (front_of i new.feeder.own.seen))
   -- it has seen of each cell what it had, and its acts with the numbers of cells are those of these events
   pub cells : (i : ℕ) → IsCell cache.config i → StartsWith (front_of i new.feeder.own.seen) (front_of i old.feeder.own.seen)
   pub inserted : (shard i : ℕ) → IsCell cache.config i → acts_in (shard_of cache.config.shards) shard (cell_number cache.config i) work.acts ≡ acts_of_events (with_number (cell_number cache.config i) (more shard))
@@ -393,6 +397,11 @@ cap-ends cache c old new number resized kept = record {
     told = λ acts noted told. subst (λ (x : List Act × List Noted). HasToldOthers cache.config x.0 x.1 new.feeder) (λ i. (sym (append-nil acts) i, sym (append-nil noted) i))
         (others-still cache.config acts noted old.feeder new.feeder resized.made told);
     met = resized.met;
+    fresh = λ i range before is.
+        let all = resized.met i range in
+        let same : all.0 ≡ before = sym all.2.0 ∙ (is ∙ append-nil before) in
+        subst (λ (s : List Seen). AllByRecursion (λ o. StartsWith s (front_of i o.own.seen)) old.parties.items) same all.1.1;
+    wrote = inl refl;
     cells = resized.made.keeps.fronts;
     inserted = λ shard i range. sym (none-inserted cache.config.callers c (cell_number cache.config i) (nat_lt shard cache.config.shards));
   };

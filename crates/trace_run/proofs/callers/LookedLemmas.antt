@@ -1,5 +1,5 @@
 -- Several callers behind more lines: how those on objects looked at cells, behind the lines of a group, and behind the line that ends it.
-use Rattle.std.proofs.Common.{◌≡◌, ℕ, ◌<◌, List, [], ◌∷◌, ◌++◌, Option, None, length, take, refl, sym, ap, ◌∙◌, subst, arith}
+use Rattle.std.proofs.Common.{◌≡◌, ◌⊎◌, ℕ, ◌<◌, List, [], ◌∷◌, ◌++◌, Option, None, length, take, refl, sym, ap, ◌∙◌, subst, inl, inr, arith, append-nil}
 use Rattle.std.specs.Option.{option_map}
 use mathlib.Core.Option.{some, some-injective}
 use lib.ListN.{get_elem?}
@@ -10,20 +10,22 @@ use Rattle.arc_core.specs.declared.config.Config.{Config}
 use Rattle.arc_core.specs.declared.event.Event.{Event}
 use Rattle.arc_core.specs.declared.served.Restored.{Restored}
 use Rattle.arc_table.specs.Cache.{Cache}
-use Rattle.arc_table.specs.Fronts.{front_of}
+use Rattle.arc_core.specs.Operations.{Act}
+use Rattle.arc_table.specs.declared.view.Line.{Line as Seen}
+use Rattle.arc_table.specs.Fronts.{StartsWith, front_of}
 use Rattle.arc_table.specs.Geometry.{IsCell}
 use Rattle.arc_table.specs.TableLaws.{within}
 use Rattle.dbuf_cells.specs.Turns.{OnHeap, PartyPlace}
 use Rattle.trace_text.specs.declared.op.Op.{Op}
 use Rattle.trace_text.specs.declared.reply.Reply.{Reply}
 use Rattle.trace_run.specs.declared.groups.Crew.{Crew}
-use Rattle.trace_run.specs.Deeds.{HasToldAll}
+use Rattle.trace_run.specs.Deeds.{HasToldAll, HasToldOthers, Noted, lines_of_cell}
 use Rattle.trace_run.specs.Lines.{caller_of}
-use Rattle.trace_run.specs.Objects.{Line, Work}
-use Rattle.trace_run.specs.RunWork.{RunWork, lines_of_caller}
+use Rattle.trace_run.specs.Objects.{Line, Work, no_work}
+use Rattle.trace_run.specs.RunWork.{RunWork, acts_of_syncs, lines_of_caller, lines_of_feeder, noted_of_syncs}
 use Rattle.trace_run.specs.callers.Group.{HaveWorked}
 use Rattle.trace_run.specs.callers.Groups.{ComesAt, HaveCome}
-use Rattle.trace_run.specs.callers.Looking.{HaveLooked}
+use Rattle.trace_run.specs.callers.Looking.{HaveLooked, WroteAt}
 use Rattle.trace_run.specs.callers.WorkLines.{HasFront, LooksLines, acts_of_work, noted_of_work}
 use Rattle.trace_run.proofs.callers.EndedLemmas.{MadeWork, all-at}
 use Rattle.trace_run.proofs.callers.GroupsLemmas.{parted-at}
@@ -82,5 +84,18 @@ module _ {P : Type 0} (pools : Ghosts P) (cache : Cache) (restored : List Restor
         let all = made.met i in_range in
         all-at (λ x. front_of i x.own.seen ≡ all.0) new.parties.items n q all.2.1 party ∙ sym all.2.0
 
-    pub answered-looked : (l : Line) → caller_of l.op ≡ None → HaveLooked g len image place (w.lines ++ l ∷ []) new.parties.items
-    answered-looked l nobody = ended-looked g valid len image place w.lines l old.parties.items new.parties.items new.feeder nobody had level looked
+    fresh : (n : ℕ) (p : PartyPlace) → get_elem? old.parties.items n ≡ some p → (i : ℕ) → IsCell g i → (noted : List Seen) → front_of i new.feeder.own.seen ≡ noted ++ lines_of_cell i work.noted → StartsWith noted (front_of i p.own.seen)
+    fresh n p party i in_range noted is = all-at (λ o. StartsWith noted (front_of i o.own.seen)) old.parties.items n p (made.fresh i in_range noted is) party
+
+    -- what the feeder's lines had noted is what its party is told to have done
+    put : (l : Line) → l.work ≡ work → w.stopped ≡ no_work → (work.noted ≡ []) ⊎ ((acts : List Act) (noted : List Noted) → HasToldOthers g acts noted old.feeder → (i : ℕ) → IsCell g i → WroteAt g i noted work (front_of i new.feeder.own.seen))
+        → (l.work.noted ≡ []) ⊎ ((i : ℕ) → IsCell g i → WroteAt g i (noted_of_work (lines_of_feeder w.lines)) l.work (front_of i new.feeder.own.seen))
+    put l is goes_on (inl none) = inl (ap (λ (x : Work). x.noted) is ∙ none)
+    put l is goes_on (inr wrote) = inr (λ i in_range.
+        let noted_are : noted_of_syncs w ≡ noted_of_work (lines_of_feeder w.lines) = ap (λ (x : Work). noted_of_work (lines_of_feeder w.lines) ++ x.noted) goes_on ∙ append-nil (noted_of_work (lines_of_feeder w.lines)) in
+        subst (λ (x : List Noted × Work). WroteAt g i x.0 x.1 (front_of i new.feeder.own.seen)) (λ k. (noted_are k, sym is k)) (wrote (acts_of_syncs g blocks w) (noted_of_syncs w) before.feeder.told i in_range))
+
+    pub answered-looked : (l : Line) → caller_of l.op ≡ None → l.work ≡ work → w.stopped ≡ no_work → HaveLooked g len image place (w.lines ++ l ∷ []) new.parties.items
+    answered-looked l nobody is goes_on =
+        ended-looked g valid len image place w.lines l old.parties.items new.parties.items new.feeder nobody had level
+        (λ n p party i in_range noted there. fresh n p party i in_range noted (there ∙ ap (λ (x : Work). noted ++ lines_of_cell i x.noted) is)) (put l is goes_on made.wrote) looked

@@ -7,7 +7,7 @@ use Rattle.std.proofs.lemmas.Bool.Decides.{nat_tests}
 use Rattle.std.proofs.lemmas.List.{take-append-le}
 use Rattle.std.proofs.lemmas.List.Elements.{filter-append}
 use Rattle.std.proofs.lemmas.Option.{slice_get_within}
-use Rattle.std.proofs.Math.Seq.{take-append-add}
+use Rattle.std.proofs.Math.Seq.{take-append-add, take-append_seam}
 use mathlib.Core.Option.{some, some-injective, some-ne-none}
 use lib.ListN.{get_elem?}
 use Rattle.arc_lists.proofs.Tables.{cases_true}
@@ -28,8 +28,9 @@ use Rattle.trace_run.specs.Meeting.{HaveMet}
 use Rattle.trace_run.specs.ObjectLines.{OnObject, cell_lines, on_object}
 use Rattle.trace_run.specs.ObjectReplies.{AnswersFrom, LooksFrom}
 use Rattle.trace_run.specs.Objects.{Line}
-use Rattle.trace_run.specs.RunWork.{lines_of_caller}
-use Rattle.trace_run.specs.callers.Looking.{HaveLooked, LooksCut}
+use Rattle.trace_run.specs.RunWork.{lines_of_caller, lines_of_feeder}
+use Rattle.trace_run.specs.Syncing.{lines_of}
+use Rattle.trace_run.specs.callers.Looking.{HaveLooked, LooksCut, WroteAt, WroteThere}
 use Rattle.trace_run.specs.callers.Together.{ends_group}
 use Rattle.trace_run.specs.callers.WorkLines.{HasFront, LooksLines, noted_of_work}
 use Rattle.trace_run.proofs.callers.GroupLists.{get-left, get-right, some-same}
@@ -43,6 +44,7 @@ pub none-looked : {C : Type 0} (g : Config) (len : ℕ) (image : Option (List �
 none-looked g len image place ps = record {
   level = λ k i. [];
   reach = λ k e at ends n p party i in_range. absurd (none k e at);
+  wrote = λ k e at ends. absurd (none k e at);
   looks = λ k n l p at his party. absurd (none k l at);
 }
   where
@@ -86,7 +88,9 @@ module _ {C : Type 0} (g : Config) (valid : IsConfig g) (len : ℕ) (image : Opt
   cut-on : (ls ms : List Line) (level next : (k i : ℕ) → List Seen) (p q : Place (Known C)) (k n : ℕ) (at : Oid) (l : Line) → KeepsCells g p q → take k ms ≡ take k ls
       → ((x : ℕ) (e : Line) → x < k → slice_get ms x ≡ Some e → ends_group e.op ≡ true → (slice_get ls x ≡ Some e) × (next x (cell_of g.cells at) ≡ level x (cell_of g.cells at)))
       → ((x : ℕ) (e : Line) → k < x → slice_get ms x ≡ Some e → ends_group e.op ≡ true
-      → ((slice_get ls x ≡ Some e) × (next x (cell_of g.cells at) ≡ level x (cell_of g.cells at))) ⊎ (next x (cell_of g.cells at) ≡ front_of (cell_of g.cells at) q.own.seen))
+      → ((slice_get ls x ≡ Some e) × (next x (cell_of g.cells at) ≡ level x (cell_of g.cells at)))
+          ⊎ ((next x (cell_of g.cells at) ≡ front_of (cell_of g.cells at) q.own.seen)
+          × ((had : List Seen) → next x (cell_of g.cells at) ≡ had ++ lines_of_cell (cell_of g.cells at) e.work.noted → StartsWith had (front_of (cell_of g.cells at) p.own.seen))))
       → LooksCut g len image place p.own.about.openings p.own.seen ls level k n at l → LooksCut g len image place q.own.about.openings q.own.seen ms next k n at l
   cut-on ls ms level next p q k n at l keeps earlier before later cut =
       let i : ℕ = cell_of g.cells at in
@@ -108,9 +112,26 @@ module _ {C : Type 0} (g : Config) (valid : IsConfig g) (len : ℕ) (image : Opt
         since = λ x e lt there ends. let h = before x e lt there ends in subst (StartsWith lines) (sym h.1) (cut.since x e lt h.0 ends);
         until = λ x e lt there ends. elim (later x e lt there ends) [
           | inl h ↦ subst (λ (s : List Seen). StartsWith s (lines ++ lines_of_cell i l.work.noted)) (sym h.1) (cut.until x e lt h.0 ends)
-          | inr is ↦ subst (λ (s : List Seen). StartsWith s (lines ++ lines_of_cell i l.work.noted)) (sym is) front
+          | inr new ↦ subst (λ (s : List Seen). StartsWith s (lines ++ lines_of_cell i l.work.noted)) (sym new.0) front
+        ];
+        ahead = λ x e had lt there ends is. elim (later x e lt there ends) [
+          | inl h ↦ cut.ahead x e had lt h.0 ends (sym h.1 ∙ is)
+          | inr new ↦
+              starts-then had (front_of i p.own.seen) lines (new.1 had is)
+              (starts-then (front_of i p.own.seen) (lines ++ lines_of_cell i l.work.noted) lines cut.from.front (lines_of_cell i l.work.noted, refl))
         ];
       }
+
+  -- what a sync wrote stands there, behind more lines
+  wrote-on : (ls ms : List Line) (level next : (k i : ℕ) → List Seen) (k : ℕ) (e : Line) → take k ms ≡ take k ls → ((i : ℕ) → next k i ≡ level k i) → WroteThere g ls level k e → WroteThere g ms next k e
+  wrote-on ls ms level next k e earlier same (inl none) = inl none
+  wrote-on ls ms level next k e earlier same (inr there) = inr (λ i in_range.
+      let h = there i in_range in
+      record {
+        found = h.found;
+        did = h.did ∙ ap (λ (ys : List Line). events_of_cell i (noted_of_work (lines_of_feeder ys))) (sym earlier);
+        behind = same i ∙ h.behind;
+      })
 
   -- a line of a group behind these lines, which looked by a cell that goes on from what its party had seen as the group began
   cut-new : (ls ms : List Line) (level : (k i : ℕ) → List Seen) (p q : Place (Known C)) (now : Option (List ℕ)) (k j n : ℕ) (at : Oid) (l : Line) → KeepsCells g p q → HasFront place image now → length ls ≤ k → k ≡ length ls + j
@@ -140,6 +161,7 @@ module _ {C : Type 0} (g : Config) (valid : IsConfig g) (len : ℕ) (image : Opt
             let early = inside x e is ends in
             starts-then (cell_lines f.from.cell) (front_of i p.own.seen) (level x i) f.since (reach x e (sym (get-left ls ms x early) ∙ is) ends);
         until = λ x e lt is ends. let early = inside x e is ends in absurd (omega (arith, early, lt, le));
+        ahead = λ x e had lt is ends. let early = inside x e is ends in absurd (omega (arith, early, lt, le));
       }
 
   -- ---- where nothing was done
@@ -152,6 +174,7 @@ module _ {C : Type 0} (g : Config) (valid : IsConfig g) (len : ℕ) (image : Opt
   kept-looked ls ps qs old w = record {
     level = w.level;
     reach = λ k e at ends n q party i in_range. let o = old n q party in starts-then (front_of i q.own.seen) (front_of i o.0.own.seen) (w.level k i) (o.2.fronts i in_range) (w.reach k e at ends n o.0 o.1 i in_range);
+    wrote = w.wrote;
     looks = λ k n l q at his party.
         let o = old n q party in
         by-some (λ (on : OnObject). LooksCut g len image place o.0.own.about.openings o.0.own.seen ls w.level k n on.at l) (λ (on : OnObject). LooksCut g len image place q.own.about.openings q.own.seen ls w.level k n on.at l) (on_object l.op)
@@ -211,6 +234,9 @@ module _ {C : Type 0} (g : Config) (valid : IsConfig g) (len : ℕ) (image : Opt
       reach = λ k e at ends n q party i in_range.
           let o = on_each n q party in
           starts-then (front_of i q.own.seen) (front_of i o.from.own.seen) (w.level k i) (o.keeps.fronts i in_range) (w.reach k e (left-at k e at (early-ends k e at ends)) ends n o.from o.at i in_range);
+      wrote = λ k e at ends.
+          let early = early-ends k e at ends in
+          wrote-on ls (ls ++ ms) w.level w.level k e (take-append-le k ls ms (omega (arith, early))) (λ i. refl) (w.wrote k e (left-at k e at early) ends);
       looks = λ k n l q at his party. line-looked k n l q at his (on_each n q party);
     }
 
@@ -218,7 +244,9 @@ module _ {C : Type 0} (g : Config) (valid : IsConfig g) (len : ℕ) (image : Opt
 
   -- Behind it all have seen the same of each cell, which is what this party has seen.
   module _ (ls : List Line) (last : Line) (ps qs : List (Place (Known C))) (f : Place (Known C)) (nobody : caller_of last.op ≡ None) (old : (n : ℕ) (q : Place (Known C)) → get_elem? qs n ≡ some q → Had ps n q)
-      (same : (n : ℕ) (q : Place (Known C)) → get_elem? qs n ≡ some q → (i : ℕ) → IsCell g i → front_of i q.own.seen ≡ front_of i f.own.seen) (w : HaveLooked g len image place ls ps) where
+      (same : (n : ℕ) (q : Place (Known C)) → get_elem? qs n ≡ some q → (i : ℕ) → IsCell g i → front_of i q.own.seen ≡ front_of i f.own.seen)
+      (fresh : (n : ℕ) (p : Place (Known C)) → get_elem? ps n ≡ some p → (i : ℕ) → IsCell g i → (before : List Seen) → front_of i f.own.seen ≡ before ++ lines_of_cell i last.work.noted → StartsWith before (front_of i p.own.seen))
+      (put : (last.work.noted ≡ []) ⊎ ((i : ℕ) → IsCell g i → WroteAt g i (noted_of_work (lines_of_feeder ls)) last.work (front_of i f.own.seen))) (w : HaveLooked g len image place ls ps) where
     abbrev level : (k i : ℕ) → List Seen
     level k i = if nat_lt k (length ls) then w.level k i else front_of i f.own.seen
 
@@ -235,14 +263,18 @@ module _ {C : Type 0} (g : Config) (valid : IsConfig g) (len : ℕ) (image : Opt
     left-of : (x : ℕ) (e : Line) → slice_get (ls ++ last ∷ []) x ≡ Some e → x < length ls → slice_get ls x ≡ Some e
     left-of x e at early = sym (get-left ls (last ∷ []) x early) ∙ at
 
+    last-is : (k : ℕ) (l : Line) → slice_get (ls ++ last ∷ []) k ≡ Some l → length ls ≤ k → (k ≡ length ls) × (l ≡ last)
+    last-is k l at late =
+        let inside = slice_get_within (ls ++ last ∷ []) k l at in
+        let here : k ≡ length ls = omega (arith, late, inside, length-append ls (last ∷ [])) in
+        (here, some-same l last (sym at ∙ (ap (slice_get (ls ++ last ∷ [])) (here ∙ omega arith) ∙ get-right ls (last ∷ []) 0)))
+
     -- a line that is a caller's is another
     early-his : (k n : ℕ) (l : Line) → slice_get (ls ++ last ∷ []) k ≡ Some l → is_of_caller n l.op ≡ true → k < length ls
     early-his k n l at his = elim (cases_lt k (length ls)) [
       | inl early ↦ early
       | inr late ↦
-          let inside = slice_get_within (ls ++ last ∷ []) k l at in
-          let here : k ≡ length ls = omega (arith, late, inside, length-append ls (last ∷ [])) in
-          let is : l ≡ last = some-same l last (sym at ∙ (ap (slice_get (ls ++ last ∷ [])) (here ∙ omega arith) ∙ get-right ls (last ∷ []) 0)) in
+          let is : l ≡ last = (last-is k l at late).1 in
           absurd (false≢true (sym (ap (λ (x : Line). is_of_caller n x.op) is ∙ nobody-callers n last.op nobody) ∙ his))
     ]
 
@@ -257,10 +289,29 @@ module _ {C : Type 0} (g : Config) (valid : IsConfig g) (len : ℕ) (image : Opt
         (λ x e lt there ends. let before : x < length ls = omega (arith, lt, early) in (left-of x e there before, level-old x (cell_of g.cells on.at) before))
         (λ x e lt there ends. elim (cases_lt x (length ls)) [
           | inl before ↦ inl (left-of x e there before, level-old x (cell_of g.cells on.at) before)
-          | inr late ↦ inr (level-new x (cell_of g.cells on.at) late ∙ sym (same n q party (cell_of g.cells on.at) (cell-there g valid on.at)))
+          | inr late ↦
+              let i : ℕ = cell_of g.cells on.at in
+              let in_range : IsCell g i = cell-there g valid on.at in
+              let is : e ≡ last = (last-is x e there late).1 in
+              inr (
+                level-new x i late ∙ sym (same n q party i in_range),
+                λ before whole. fresh n o.0 o.1 i in_range before (sym (level-new x i late) ∙ (whole ∙ ap (λ (y : Line). before ++ lines_of_cell i y.work.noted) is)),
+              )
         ])
         cut)
         (w.looks k n l o.0 (left-of k l at early) his o.1)
+
+    wrote-last : (k : ℕ) (e : Line) → (k ≡ length ls) × (e ≡ last) → length ls ≤ k → (last.work.noted ≡ []) ⊎ ((i : ℕ) → IsCell g i → WroteAt g i (noted_of_work (lines_of_feeder ls)) last.work (front_of i f.own.seen))
+        → WroteThere g (ls ++ last ∷ []) level k e
+    wrote-last k e is late (inl none) = inl (ap (λ (y : Line). y.work.noted) is.1 ∙ none)
+    wrote-last k e is late (inr there) = inr (λ i in_range.
+        let h = there i in_range in
+        let earlier : take k (ls ++ last ∷ []) ≡ ls = ap (λ (y : ℕ). take y (ls ++ last ∷ [])) is.0 ∙ take-append_seam ls (last ∷ []) in
+        record {
+          found = h.found;
+          did = h.did ∙ ap (λ (ys : List Line). events_of_cell i (noted_of_work (lines_of_feeder ys))) (sym earlier);
+          behind = level-new k i late ∙ (h.behind ∙ ap (λ (y : Line). lines_of h.found ++ lines_of_cell i y.work.noted) (sym is.1));
+        })
 
     pub ended-looked : HaveLooked g len image place (ls ++ last ∷ []) qs
     ended-looked = record {
@@ -273,5 +324,9 @@ module _ {C : Type 0} (g : Config) (valid : IsConfig g) (len : ℕ) (image : Opt
                 (starts-then (front_of i q.own.seen) (front_of i o.0.own.seen) (w.level k i) (o.2.fronts i in_range) (w.reach k e (left-of k e at early) ends n o.0 o.1 i in_range))
             | inr late ↦ subst (StartsWith (front_of i q.own.seen)) (same n q party i in_range ∙ sym (level-new k i late)) (starts_whole (front_of i q.own.seen))
           ];
+      wrote = λ k e at ends. elim (cases_lt k (length ls)) [
+        | inl early ↦ wrote-on ls (ls ++ last ∷ []) w.level level k e (take-append-le k ls (last ∷ []) (omega (arith, early))) (λ i. level-old k i early) (w.wrote k e (left-of k e at early) ends)
+        | inr late ↦ wrote-last k e (last-is k e at late) late put
+      ];
       looks = ended-line;
     }

@@ -497,7 +497,7 @@ module _ {P D : Type 0} (cache : Cache) (restored : List Restored) (pools : Ghos
         fed = moved-so-far dbuf_meanings devices cache restored done.feeds begun b new.feeder last.feeder fed-lines
             (λ shard below. made-sees cache turn.work turn.more new last come-lines.feeder.number turn.so.made shard (events_of_feeder callers op) (turn.so.feeds shard below) (asked-gives callers op));
         looked = answered-looked pools cache restored (pools.size start.pool) (pools.told start.pool) start.next trace.blocks (os ++ qs) (rs ++ ss) done new last come-lines looked-lines turn.work turn.more turn.so.made
-            (parted-length cache turn.so.made.lines new.parties.items last.parties.items turn.so.made.parted ∙ come-lines.parties) l (ends-nobody op turn.so.ends).0;
+            (parted-length cache turn.so.made.lines new.parties.items last.parties.items turn.so.made.parted ∙ come-lines.parties) l (ends-nobody op turn.so.ends).0 refl refl;
       };
       begins = λ less. subst (BeginsGroup trace.ops) (sym all-long) (op, at, turn.so.ends);
       goes_on = refl;

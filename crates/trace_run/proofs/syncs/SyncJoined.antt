@@ -13,7 +13,8 @@ use Rattle.turn_table.specs.Places.{SomeHas}
 use Rattle.arc_table.specs.declared.view.Ledger.{Ledger}
 use Rattle.arc_table.specs.declared.view.Mine.{Mine}
 use Rattle.arc_table.specs.Cache.{Cache, IsPartyOf}
-use Rattle.arc_table.specs.Fronts.{list_at, front_of}
+use Rattle.arc_table.specs.declared.view.Line.{Line as Seen}
+use Rattle.arc_table.specs.Fronts.{StartsWith, list_at, front_of}
 use Rattle.arc_table.specs.Geometry.{IsCell, parties_of}
 use Rattle.arc_table.specs.Seen.{AreSeen, HasAll, events_in, seen_of, turn_of, AreEntriesSeen}
 use Rattle.arc_table.specs.Telling.{opening_of}
@@ -182,6 +183,11 @@ module _ (cache : Cache) (p : PartyPlace) (others : List PartyPlace) (stands : S
     all-own shard [] learned = tt
     all-own shard (o ∷ os) learned = (learned.0.own shard, all-own shard os learned.1)
 
+    -- what each had seen of a cell
+    all-seen : (i : ℕ) → IsCell g i → (os : List PartyPlace) → AllByRecursion (λ o. HasLearned g o q) os → AllByRecursion (λ o. StartsWith (front_of i q.own.seen) (front_of i o.own.seen)) os
+    all-seen i range [] learned = tt
+    all-seen i range (o ∷ os) learned = (learned.0.cells i range, all-seen i range os learned.1)
+
     -- to have joined is nothing that is told
     met-told : (did : List Act) (had : List Noted) → HasToldOthers g did had p → HasToldOthers g did had q
     met-told did had before = others-still g did had p q (grown-same g p q met.number met.about met.mine met.self.starts met.self.cells stands.seen stands.cells) before
@@ -248,6 +254,12 @@ module _ (cache : Cache) (p : PartyPlace) (others : List PartyPlace) (stands : S
             ∙ ((λ k. cell-front g stands.valid tick cells xs q r stood.of.config low stood.seen has-all stood.cells s inside i c within k ++ lines_of (synced_in (met.number k) i xs))
             ∙ ap (λ (x : OnHeap). lines_of x.value.history ++ lines_of (synced_in p.number i xs)) (index-at i cells c at));
         met = have-met cache q r then.cells p others met.self.cells met.all;
+        found = λ i c at.
+            let within = slice_get_within cells i c at in
+            let in_range : IsCell g i = let e = s.all in omega (arith, within, e) in
+            let has : front_of i q.own.seen ≡ lines_of c.value.history =
+            cell-front g stands.valid tick cells xs q r stood.of.config low stood.seen has-all stood.cells s inside i c within ∙ ap (λ (x : OnHeap). lines_of x.value.history) (index-at i cells c at) in
+            subst (λ (l : List Seen). AllByRecursion (λ o. StartsWith l (front_of i o.own.seen)) (p ∷ others)) has (met.self.cells i in_range, all-seen i in_range others met.all);
         grown = λ i range. starts-then (front_of i r.own.seen) (front_of i q.own.seen) (front_of i p.own.seen) (then.cells i range) (met.self.cells i range);
         did = all-did;
         fresh = λ own rest i c at. none-at i cells c (t.fresh (untouched-by cache p others stands alone apart everyone count differ q joins own rest)) at;

@@ -1,13 +1,15 @@
 -- A caller's line on an object is answered by the closed cell of its block: the cell goes on from what the line found.
-use Rattle.std.proofs.Common.{◌≡◌, ℕ, zero, suc, ◌+◌, ◌<◌, ◌==◌, true, false, List, [], ◌∷◌, ◌++◌, length, map, take, drop, Option, Some, None, append-nil, append_assoc, refl, sym, ap, ◌∙◌, subst, inl, inr, arith}
+use Rattle.std.proofs.Common.{◌≡◌, ℕ, zero, suc, ◌+◌, ◌<◌, ◌==◌, true, false, List, [], ◌∷◌, ◌++◌, length, map, take, drop, Option, Some, None, append-nil, append_assoc, refl, sym, ap, ◌∙◌, subst, inl, inr, arith, eq-eqb}
 use Rattle.std.specs.Prelude.{◌⊎◌, IfSome, slice_get, slice_index_or}
 use Rattle.std.specs.List.{AllByRecursion}
+use Rattle.std.proofs.lemmas.Bool.{false≢true}
 use Rattle.std.proofs.lemmas.List.{map-append, take-append-drop}
 use Rattle.std.proofs.lemmas.Nat.{mod_below}
 use mathlib.Core.Logic.{dite}
 use mathlib.Core.Option.{some, some-injective, some-ne-none}
 use native.Mathlib.Decide.{ℕ_discrete}
 use lib.ListN.{get_elem?}
+use Rattle.arc_lists.proofs.Tables.{cases_true}
 use Rattle.arc_core.specs.Config.{IsConfig}
 use Rattle.arc_core.specs.declared.config.Config.{Config}
 use Rattle.arc_table.specs.declared.view.Known.{Known}
@@ -21,7 +23,7 @@ use Rattle.arc_table.specs.Items.{lines_in}
 use Rattle.arc_table.proofs.TableLaws.{there}
 use Rattle.dbuf_cells.specs.Places.{cell_of}
 use Rattle.dbuf_cells.specs.Turns.{OnHeap, PartyPlace, dbuf_meanings}
-use Rattle.dbuf_state.specs.Numbers.{event_numbers}
+use Rattle.dbuf_state.specs.Numbers.{event_numbers, number_of}
 use Rattle.dbuf_state.specs.Outline.{outline_after}
 use Rattle.dbuf_state.specs.declared.event.CellEvent.{CellEvent}
 use Rattle.dbuf_state.specs.declared.oid.Oid.{Oid}
@@ -31,21 +33,23 @@ use Rattle.trace_text.specs.declared.op.Op.TheVariants as ops
 use Rattle.trace_text.specs.declared.reply.Reply.{Reply}
 use Rattle.trace_text.specs.declared.reply.Reply.TheVariants as replies
 use Rattle.trace_run.specs.CellEnds.{done_by}
-use Rattle.trace_run.specs.Deeds.{events_of_cell, lines_of_cell, noted_in}
+use Rattle.trace_run.specs.Deeds.{Noted, events_of_cell, lines_of_cell, noted_in}
 use Rattle.trace_run.specs.Lines.{is_of_caller}
 use Rattle.trace_run.specs.ObjectAnswers.{AreAnsweredByCells, IsAnsweredBy, LookedAt}
 use Rattle.trace_run.specs.ObjectLines.{OnObject, cell_lines, on_object}
 use Rattle.trace_run.specs.ObjectReplies.{ActsFor, AnswersObject, BringsAt}
 use Rattle.trace_run.specs.Objects.{Line, OwnEvent, Work, no_work, own_event}
-use Rattle.trace_run.specs.RunWork.{AllFit, FitsBy, lines_of_caller}
+use Rattle.trace_run.specs.RunWork.{AllFit, FitsBy, FitsFeeder, IsSyncedNote, lines_of_caller, lines_of_feeder}
+use Rattle.trace_run.specs.Syncing.{lines_of}
 use Rattle.trace_run.specs.callers.Looking.{HaveLooked, LooksCut}
 use Rattle.trace_run.specs.callers.Together.{ends_group}
 use Rattle.trace_run.specs.callers.WorkLines.{IsWorkOf, NotesLine, noted_of_work}
 use Rattle.trace_run.proofs.CellLemmas.{entries-front, lines-are, opened-so, opening-same}
 use Rattle.trace_run.proofs.callers.CallerActLemmas.{caller-is}
+use Rattle.trace_run.proofs.callers.LineLists.{ends-nobody}
 use Rattle.trace_run.proofs.callers.MeetLemmas.{starts-then}
 use Rattle.trace_run.proofs.deeds.CellsDone.{noted-else}
-use Rattle.trace_run.proofs.theorem.LookCuts.{LookedAs, look-since, look-until}
+use Rattle.trace_run.proofs.theorem.LookCuts.{LookedAs, done-append, done-starts, look-since, look-until}
 
 -- what a party had seen of the cells, and knew of their beginnings, before the cache was closed with what it knows then
 pub record EndsFrom (g : Config) (openings : List (List ℕ)) (seen : List (List Seen)) (w : Known OnHeap) : Type 0 where
@@ -118,6 +122,30 @@ module _ (g : Config) (m i : ℕ) where
   notes-there ops.Feed reply work f = none-there ops.Feed work f.notes
   notes-there (ops.Txg t) reply work f = none-there (ops.Txg t) work f.notes
   notes-there (ops.Cap c) reply work f = none-there (ops.Cap c) work f.notes
+
+-- what a line that ends a group notes is the feeder's
+module _ (g : Config) where
+  ends-synced : (op : Op) (work : Work) → ends_group op ≡ true → FitsFeeder g op work → AllByRecursion (IsSyncedNote g) work.noted
+  ends-synced (ops.Txg t) work ends fits = fits.synced
+  ends-synced (ops.Cap c) work ends fits = subst (λ (w : Work). AllByRecursion (IsSyncedNote g) w.noted) (sym fits) tt
+  ends-synced ops.Feed work ends fits = absurd (false≢true ends)
+  ends-synced (ops.Read n t x window) work ends fits = absurd fits
+  ends-synced (ops.Hold n t x) work ends fits = absurd fits
+  ends-synced (ops.Drop n x) work ends fits = absurd fits
+  ends-synced (ops.Get n t at window) work ends fits = absurd fits
+  ends-synced (ops.Put n t at size fill) work ends fits = absurd fits
+  ends-synced (ops.Patch n t at from bytes) work ends fits = absurd fits
+  ends-synced (ops.Pin n t at) work ends fits = absurd fits
+  ends-synced (ops.Unpin n at) work ends fits = absurd fits
+
+  synced-done : (i : ℕ) (noted : List Noted) → AllByRecursion (IsSyncedNote g) noted → done_by g.callers (events_of_cell i noted) ≡ events_of_cell i noted
+  synced-done i [] all = refl
+  synced-done i (note ∷ noted) all =
+      let his : (number_of note.event == g.callers) ≡ true = ap (λ (v : CellEvent). number_of v == g.callers) all.0.is ∙ eq-eqb g.callers g.callers refl in
+      elim (cases_true (note.cell == i)) [
+        | inl here ↦ rw here (rw his (ap (λ (l : List CellEvent). note.event ∷ l) (synced-done i noted all.1)))
+        | inr other ↦ rw other (synced-done i noted all.1)
+      ]
 
 module _ (cache : Cache) (valid : IsConfig cache.config) (ps : List PartyPlace) (e : Ended OnHeap) (ends : Ends dbuf_meanings cache ps e) where
   abbrev g : Config
@@ -206,6 +234,41 @@ module _ (cache : Cache) (valid : IsConfig cache.config) (ps : List PartyPlace) 
         all-until : k < x → StartsWith (events_of_cell i (noted_of_work (lines_of_caller m (take x ls)))) (done_by m cut.from.cell.value.history)
         all-until lt = look-until i ls levels history m (did i cell (there-closed i range).1 m less) (looked-as m less) x v at_x stops (level-starts x) cut.from.cell.value.history (events_of_cell i l.work.noted) (cut-until n below k l at same cut x v at_x stops lt)
 
+    -- ---- what syncs wrote there
+
+    module _ (n : ℕ) (below : n < g.callers) (k : ℕ) (l : Line) (at : Oid) (cut : Cut k n below at l) (range : IsCell g (cell_of g.cells at)) (x : ℕ) (v : Line) (at_x : slice_get ls x ≡ Some v) (stops : ends_group v.op ≡ true) where
+      abbrev its : ℕ
+      its = cell_of g.cells at
+
+      abbrev found : List CellEvent
+      found = cut.from.cell.value.history
+
+      fits-v : AllByRecursion (IsSyncedNote g) v.work.noted
+      fits-v = ends-synced g v.op v.work stops (subst (λ (c : Option ℕ). FitsBy g c v) (ends-nobody v.op stops).0 (all-slice _ ls fits x v at_x))
+
+      sync-since : x < k → (v.work.noted ≡ []) ⊎ StartsWith (done_by g.callers found) (events_of_cell its (noted_of_work (lines_of_feeder (take x ls))) ++ events_of_cell its v.work.noted)
+      sync-since lt = elim (h.wrote x v at_x stops) [
+        | inl none ↦ inl none
+        | inr wrote ↦
+            let r = wrote its range in
+            let notes : List CellEvent = events_of_cell its v.work.noted in
+            let s = cut.since x v lt at_x stops in
+            let f = entries-front found (r.found ++ notes) s.0 (s.1 ∙ ap (λ (y : List Seen). y ++ s.0) (r.behind ∙ sym (entries-two r.found notes))) in
+            let done : done_by g.callers (r.found ++ notes) ≡ events_of_cell its (noted_of_work (lines_of_feeder (take x ls))) ++ notes =
+            done-append g.callers r.found notes ∙ (λ z. r.did z ++ synced-done g its v.work.noted fits-v z) in
+            inr (subst (StartsWith (done_by g.callers found)) done (done-starts g.callers found (r.found ++ notes) f))
+      ]
+
+      sync-until : k < x → (v.work.noted ≡ []) ⊎ StartsWith (events_of_cell its (noted_of_work (lines_of_feeder (take x ls)))) (done_by g.callers found)
+      sync-until lt = elim (h.wrote x v at_x stops) [
+        | inl none ↦ inl none
+        | inr wrote ↦
+            let r = wrote its range in
+            let s = cut.ahead x v (lines_of r.found) lt at_x stops r.behind in
+            let f = entries-front r.found found s.0 s.1 in
+            inr (subst (λ (y : List CellEvent). StartsWith y (done_by g.callers found)) r.did (done-starts g.callers r.found found f))
+      ]
+
     -- ---- a line
 
     looked : (k n : ℕ) (below : n < g.callers) (l : Line) (at : Oid) → Cut k n below at l → LookedAt g len image place e.cells n ls k at l
@@ -230,6 +293,8 @@ module _ (cache : Cache) (valid : IsConfig cache.config) (ps : List PartyPlace) 
           mine = a.mine;
           since = λ m x v less lt at_x stops. all-since i range n below k l at refl cut m x v less at_x stops lt;
           until = λ m x v less lt at_x stops. all-until i range n below k l at refl cut m x v less at_x stops lt;
+          since_syncs = λ x v lt at_x stops. sync-since n below k l at cut range x v at_x stops lt;
+          until_syncs = λ x v lt at_x stops. sync-until n below k l at cut range x v at_x stops lt;
           brought = subst (λ (x : ℕ × List Mapping). BringsAt len at (outline_after x.0 x.1 a.cell.value.history) l.work.brought) (λ z. (began.0 z, began.1 z)) a.brought;
           acts = subst (λ (x : ℕ × List Mapping). ActsFor g n (own_event l.op) (outline_after x.0 x.1 a.cell.value.history) l.work l.reply) (λ z. (began.0 z, began.1 z)) a.acts;
           now = cut.now;

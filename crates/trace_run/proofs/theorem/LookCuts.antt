@@ -55,10 +55,10 @@ done-all : (m : ℕ) (es : List CellEvent) → AllByRecursion (λ (e : CellEvent
 done-all m [] all = refl
 done-all m (e ∷ es) all = let his = all.0 in rw his (ap (λ (l : List CellEvent). e ∷ l) (done-all m es all.1))
 
-done-append : (m : ℕ) (a b : List CellEvent) → done_by m (a ++ b) ≡ done_by m a ++ done_by m b
+pub done-append : (m : ℕ) (a b : List CellEvent) → done_by m (a ++ b) ≡ done_by m a ++ done_by m b
 done-append m a b = filter-append (λ (e : CellEvent). number_of e == m) a b
 
-done-starts : (m : ℕ) (a b : List CellEvent) → StartsWith a b → StartsWith (done_by m a) (done_by m b)
+pub done-starts : (m : ℕ) (a b : List CellEvent) → StartsWith a b → StartsWith (done_by m a) (done_by m b)
 done-starts m a b s = (done_by m s.0, ap (done_by m) s.1 ∙ done-append m b s.0)
 
 -- a line that ends a group is no caller's

@@ -1,5 +1,5 @@
 -- How callers' lines on objects looked at cells, group by group: behind all that was done before their group, and before what is done behind it.
-use Rattle.std.specs.Prelude.{◌≡◌, ℕ, ◌<◌, true, List, ◌++◌, Option, Some, IfSome, slice_get, take}
+use Rattle.std.specs.Prelude.{◌≡◌, ◌⊎◌, ℕ, ◌<◌, true, List, [], ◌++◌, Option, Some, IfSome, slice_get, take}
 use mathlib.Core.Option.{some}
 use lib.ListN.{get_elem?}
 use Rattle.turn_table.specs.Places.{Place}
@@ -9,15 +9,28 @@ use Rattle.arc_table.specs.declared.view.Line.{Line as Seen}
 use Rattle.arc_table.specs.Fronts.{StartsWith, front_of}
 use Rattle.arc_table.specs.Geometry.{IsCell}
 use Rattle.dbuf_cells.specs.Places.{cell_of}
+use Rattle.dbuf_state.specs.declared.event.CellEvent.{CellEvent}
 use Rattle.dbuf_state.specs.declared.oid.Oid.{Oid}
-use Rattle.trace_run.specs.Deeds.{lines_of_cell}
+use Rattle.trace_run.specs.CellEnds.{done_by}
+use Rattle.trace_run.specs.Deeds.{Noted, events_of_cell, lines_of_cell}
 use Rattle.trace_run.specs.Lines.{is_of_caller}
 use Rattle.trace_run.specs.ObjectLines.{cell_lines, on_object}
 use Rattle.trace_run.specs.ObjectReplies.{AnswersFrom}
-use Rattle.trace_run.specs.Objects.{Line}
-use Rattle.trace_run.specs.RunWork.{lines_of_caller}
+use Rattle.trace_run.specs.Objects.{Line, Work}
+use Rattle.trace_run.specs.RunWork.{lines_of_caller, lines_of_feeder}
+use Rattle.trace_run.specs.Syncing.{lines_of}
 use Rattle.trace_run.specs.callers.Together.{ends_group}
 use Rattle.trace_run.specs.callers.WorkLines.{HasFront, noted_of_work}
+
+-- What all have seen of a cell as a sync has ended: the feeder had done just this to it before, and what the sync wrote stands right behind.
+pub record WroteAt (g : Config) (i : ℕ) (had : List Noted) (work : Work) (seen : List Seen) : Type 0 where
+  pub found : List CellEvent
+  pub did : done_by g.callers found ≡ events_of_cell i had
+  pub behind : seen ≡ lines_of found ++ lines_of_cell i work.noted
+
+-- so it is at the place k of these lines, of each cell, unless nothing was written
+abbrev pub WroteThere : Config → List Line → (level : (k i : ℕ) → List Seen) → (k : ℕ) → Line → Type 0
+WroteThere g lines level k e = (e.work.noted ≡ []) ⊎ ((i : ℕ) → IsCell g i → WroteAt g i (noted_of_work (lines_of_feeder (take k lines))) e.work (level k i))
 
 -- A caller's line at the place k of these looked at the cell of its block. The cell goes on from what all had seen of it as each earlier group ended; and what all had seen as the line's own
 -- group ended, or a later one, goes on from what the line did there.
@@ -28,10 +41,14 @@ pub record LooksCut (g : Config) (pool_len : ℕ) (image : Option (List ℕ)) (p
   pub since : (x : ℕ) (e : Line) → x < k → slice_get lines x ≡ Some e → ends_group e.op ≡ true → StartsWith (cell_lines from.cell) (level x (cell_of g.cells at))
   pub until : (x : ℕ) (e : Line) → k < x → slice_get lines x ≡ Some e → ends_group e.op ≡ true
       → StartsWith (level x (cell_of g.cells at)) (cell_lines from.cell ++ lines_of_cell (cell_of g.cells at) l.work.noted)
+  -- and what the line that ended the group wrote there stands behind what this one found
+  pub ahead : (x : ℕ) (e : Line) (had : List Seen) → k < x → slice_get lines x ≡ Some e → ends_group e.op ≡ true → level x (cell_of g.cells at) ≡ had ++ lines_of_cell (cell_of g.cells at) e.work.noted
+      → StartsWith had (cell_lines from.cell)
 
 -- All lines on objects among these did, where the callers' parties are these, by their numbers. Each has seen of each cell at least what all had seen as each group ended.
 pub record HaveLooked {C : Type 0} (g : Config) (pool_len : ℕ) (image : Option (List ℕ)) (place : ℕ) (lines : List Line) (ps : List (Place (Known C))) : Type 0 where
   pub level : (k i : ℕ) → List Seen
   pub reach : (k : ℕ) (e : Line) → slice_get lines k ≡ Some e → ends_group e.op ≡ true → (n : ℕ) (p : Place (Known C)) → get_elem? ps n ≡ some p → (i : ℕ) → IsCell g i → StartsWith (front_of i p.own.seen) (level k i)
+  pub wrote : (k : ℕ) (e : Line) → slice_get lines k ≡ Some e → ends_group e.op ≡ true → WroteThere g lines level k e
   pub looks : (k n : ℕ) (l : Line) (p : Place (Known C)) → slice_get lines k ≡ Some l → is_of_caller n l.op ≡ true → get_elem? ps n ≡ some p
       → IfSome (on_object l.op) (λ on. LooksCut g pool_len image place p.own.about.openings p.own.seen lines level k n on.at l)
