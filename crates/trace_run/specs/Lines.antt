@@ -1,5 +1,5 @@
 -- Which lines of a trace are one caller's, and which are done in one shard.
-use Rattle.std.specs.Prelude.{ℕ, ◌==◌, nat_lt, Bool, true, false, if◌then◌else◌, List, [], ◌∷◌, Option, Some, None, slice_get}
+use Rattle.std.specs.Prelude.{ℕ, ◌==◌, nat_lt, Bool, false, if◌then◌else◌, List, [], ◌∷◌, Option, Some, None, slice_get}
 use Rattle.std.specs.List.{list_any}
 use Rattle.std.specs.Option.{option_map_or}
 use Rattle.blk_ptr.specs.declared.ptr.Ptr.{Ptr}
@@ -41,6 +41,24 @@ is_undone callers ops.Feed = callers == 1
 -- an operation of the trace is none that the program does yet
 abbrev pub has_undone : Trace → Bool
 has_undone trace = list_any (is_undone trace.config.callers) trace.ops
+
+-- the operation is a sync
+abbrev pub is_sync : Op → Bool
+is_sync (ops.Read n t x window) = false
+is_sync (ops.Hold n t x) = false
+is_sync (ops.Drop n x) = false
+is_sync (ops.Get n t at window) = false
+is_sync (ops.Put n t at size fill) = false
+is_sync (ops.Patch n t at from bytes) = false
+is_sync (ops.Pin n t at) = false
+is_sync (ops.Unpin n at) = false
+is_sync ops.Feed = false
+is_sync (ops.Txg t) = true
+is_sync (ops.Cap c) = false
+
+-- one of these is
+abbrev pub has_sync : List Op → Bool
+has_sync = list_any is_sync
 
 -- the operation is this caller's
 abbrev pub is_of_caller : ℕ → Op → Bool

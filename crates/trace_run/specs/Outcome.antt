@@ -1,7 +1,7 @@
 -- What a run answers, status by status.
 use Rattle.std.specs.Prelude.{◌≡◌, ◌⊎◌, ℕ, ◌+◌, ◌*◌, ◌^◌, ◌<◌, ◌≤◌, List, [], Option, Some, None, filter, is_some, map, replicate, sum_by, Bool, true, false}
 use Rattle.std.specs.Bool.{OnFalse}
-use Rattle.std.specs.List.{AllByRecursion, range_with_len}
+use Rattle.std.specs.List.{range_with_len}
 use Rattle.std.specs.Io.KnownBytes.{Appends}
 use Rattle.trace_text.specs.Grammar.{IsTraceText, IsFirstFault, longest_text}
 use Rattle.trace_text.specs.Pages.{IsFirstPageFault, IsPageText}
@@ -40,7 +40,7 @@ use Rattle.trace_run.specs.Devices.{Finds, IsHandedBack, MayLose, usable}
 use Rattle.trace_run.specs.Explaining.{Explain, RunsAlone}
 use Rattle.trace_run.specs.FeedSeries.{WasFedFrom}
 use Rattle.trace_run.specs.Feeds.{AreFedReplies, is_feed}
-use Rattle.trace_run.specs.Lines.{has_undone, replies_where}
+use Rattle.trace_run.specs.Lines.{has_sync, has_undone, replies_where}
 use Rattle.trace_run.specs.Objects.{ops_of, replies_of}
 use Rattle.trace_run.specs.ObjectAnswers.{AreAnsweredByCells}
 use Rattle.trace_run.specs.one_caller.PlainRun.{images, report_of}
@@ -368,8 +368,8 @@ pub record DoesRun {P D : Type 0} (pool : Ghosts P) (device : Devices D) (events
   pub took : TakesAtMost before.source.told after.source.told (longest_text + 1)
   pub unrun : OnFalse (ran status) ((after.pool ≡ before.pool) × (after.cache ≡ before.cache))
   pub cache : MayLose device before.cache after.cache
-  -- what the pool tells is as it was, but for what syncs of the trace that was read wrote behind its declared blocks
-  pub told : (pool.told after.pool ≡ pool.told before.pool) ⊎ ((trace : Trace) × WasRead before.source after.source trace × LeavesDeclared pool trace.blocks before.pool after.pool)
+  -- what the pool tells is as it was, but for what syncs of the trace that was read, where it asks for some, wrote behind its declared blocks
+  pub told : (pool.told after.pool ≡ pool.told before.pool) ⊎ ((trace : Trace) × WasRead before.source after.source trace × (has_sync trace.ops ≡ true) × LeavesDeclared pool trace.blocks before.pool after.pool)
   pub reported : IfReported report closed (IsReport pool device before after status)
   pub sink : AnswersSink events before.sink after.sink status report
   pub present : is_some report ≡ has_report status

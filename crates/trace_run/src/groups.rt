@@ -19,6 +19,7 @@ ghost use Rattle.trace_run.specs.callers.InOrder.{AreInGroup};
 ghost use Rattle.trace_run.specs.callers.Group.{IsFork, LeavesFront, LeavesPool};
 ghost use Rattle.trace_run.specs.callers.Groups.{AreBetween, DidEndLine, DidLinesAtOnce, AreDone, KeepNothing, MaySync, StepsOn, goes_on};
 ghost use Rattle.trace_run.specs.Meeting.{MayGoOn};
+ghost use Rattle.trace_run.specs.Lines.{has_sync, is_sync};
 ghost use Rattle.trace_run.specs.Tally.{AreDeclared};
 ghost use Rattle.trace_run.specs.callers.Together.{IsFirstPlace, BetweenGroups, ends_group, between_groups};
 
@@ -237,6 +238,7 @@ pub(crate) fn end_line<P: Pool>(
     ensures did { IfOk result (λ done. DidEndLine arcs.now P.Pool op.now (between_groups pool.old syncs.group syncs.next) (between_groups pool.new done.1.group done.1.next) crew done.0 done.2) }
     ensures later { IfOk result (λ done. syncs.next ≤ done.1.next) }
     ensures pool { LeavesFront P.Pool syncs.next pool.old pool.new }
+    ensures still { is_sync op.now ≡ false → LeavesPool P.Pool pool.old pool.new }
 {
     let Crew {
         feeder,
@@ -332,6 +334,7 @@ fn next_group<R: Threads + Wait + Sync, P: Pool, D: CacheDev, G: Gate>(
         → IfOk result (λ done. StepsOn arcs.now restored P.Pool D.CacheDev trace.now start (between_groups pool.new done.1.group done.1.next) was device.new replies.old.items replies.new.items done.2 done.0) }
     ensures later { IfOk result (λ done. syncs.next ≤ done.1.next) }
     ensures pool { LeavesFront P.Pool syncs.next pool.old pool.new }
+    ensures still { has_sync trace.now.ops ≡ false → LeavesPool P.Pool pool.old pool.new }
     ensures used { WasInUse D.CacheDev device.old device.new }
     ensures device { MayBeFed D.CacheDev arcs.now.config device.new }
 {
@@ -403,6 +406,7 @@ pub(crate) fn all_groups<R: Threads + Wait + Sync, P: Pool, D: CacheDev, G: Gate
         → AreBetween arcs.now restored P.Pool D.CacheDev trace.now (between_groups pool.old syncs.group syncs.next) (between_groups pool.old syncs.group syncs.next) device.old device.old [] work crew
         → IfOk result (λ came. (all : RunWork) × AreDone arcs.now restored P.Pool D.CacheDev trace.now (between_groups pool.old syncs.group syncs.next) pool.new device.old device.new came.ending came.replies.items all came.crew) }
     ensures pool { LeavesFront P.Pool syncs.next pool.old pool.new }
+    ensures still { has_sync trace.now.ops ≡ false → LeavesPool P.Pool pool.old pool.new }
     ensures used { WasInUse D.CacheDev device.old device.new }
 {
     let mut crew = crew;

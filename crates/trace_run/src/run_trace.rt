@@ -6,7 +6,7 @@ ghost use Rattle.trace_run.specs.Outcome.{HasRun, IsGenReport};
 ghost use Rattle.trace_run.specs.Devices.{lent_in};
 ghost use Rattle.trace_run.specs.FeedSeries.{LeavesFed};
 ghost use Rattle.trace_run.specs.Feeds.{MayBeFed};
-ghost use Rattle.trace_run.specs.Lines.{has_undone};
+ghost use Rattle.trace_run.specs.Lines.{has_sync, has_undone};
 ghost use Rattle.trace_run.specs.callers.Beside.{WasInUse};
 ghost use Rattle.trace_run.specs.callers.Group.{LeavesDeclared};
 ghost use Rattle.trace_run.specs.callers.Together.{report_status};
@@ -57,6 +57,7 @@ pub(crate) fn run_trace<R: Threads + Wait + Sync, P: Pool, D: CacheDev, G: Gate>
     ensures rebuilt { IfOk result (λ told. told.report.rebuilt ≡ rebuilt) }
     ensures whole { IfOk result (λ told. told.report.short ≡ false) }
     ensures pool { LeavesDeclared P.Pool trace.now.blocks pool.old pool.new }
+    ensures still { has_sync trace.now.ops ≡ false → P.told pool.new ≡ P.told pool.old }
     ensures device { WasInUse D.CacheDev device.old device.new }
 {
     let ran = if trace.config.callers == 1 {

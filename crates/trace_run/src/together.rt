@@ -1,5 +1,5 @@
 //! The run of a trace with several callers over the shared cache.
-ghost use Rattle.std.specs.Prelude.{◌≡◌, ℕ, [], IfOk, List, vec_len};
+ghost use Rattle.std.specs.Prelude.{◌≡◌, ℕ, [], IfOk, List, false, vec_len};
 ghost use Rattle.arc_core.specs.declared.event.Event.{Event};
 ghost use Rattle.arc_core.specs.Operations.{Act};
 ghost use Rattle.arc_table.specs.Ended.{Ends};
@@ -12,8 +12,8 @@ ghost use Rattle.trace_run.specs.FeedSeries.{LeavesFed};
 ghost use Rattle.trace_run.specs.Feeds.{MayBeFed};
 ghost use Rattle.trace_run.specs.RunWork.{RunWork};
 ghost use Rattle.trace_run.specs.callers.Beside.{WasInUse};
-ghost use Rattle.trace_run.specs.one_caller.Alone.{histories_of};
-ghost use Rattle.trace_run.specs.callers.Group.{LeavesDeclared};
+ghost use Rattle.trace_run.specs.callers.Group.{LeavesDeclared, LeavesPool};
+ghost use Rattle.trace_run.specs.Lines.{has_sync};
 ghost use Rattle.trace_run.specs.callers.GroupRun.{HaveClosed, HaveStopped, RanTogether};
 ghost use Rattle.trace_run.specs.one_caller.Alone.{histories_of};
 ghost use Rattle.trace_run.specs.Meeting.{AreWaiting, IsFed, MadeJoined, MayGoOn};
@@ -111,6 +111,7 @@ pub(crate) fn run_together<R: Threads + Wait + Sync, P: Pool, D: CacheDev, G: Ga
     ensures ran { IfOk result (λ ran. (work : RunWork) × RanTogether P.Pool D.CacheDev pool.old pool.new (lent_in device.old) (lent_in device.new) trace.now ran.ending restored.now ran.replies.items work ran.closed
         × LeavesFed D.CacheDev trace.now.config restored.now work.feeds device.old device.new (histories_of ran.closed)) }
     ensures pool { LeavesDeclared P.Pool trace.now.blocks pool.old pool.new }
+    ensures still { has_sync trace.now.ops ≡ false → LeavesPool P.Pool pool.old pool.new }
     ensures device { WasInUse D.CacheDev device.old device.new }
 {
     let (arcs, parties) = open_cache(alloc, trace)?;

@@ -33,8 +33,6 @@ use Rattle.trace_run.specs.one_caller.OverShards.{AreNamed}
 use Rattle.trace_run.specs.Tally.{AreAnswered}
 use Rattle.trace_run.specs.callers.Together.{over_callers}
 use Rattle.trace_run.proofs.callers.AbsorbLemmas.{absorbed-leaves, over-sum, sum-of-faults, sum-of-reads}
-use Rattle.trace_run.proofs.callers.CallerActLemmas.{own-lines}
-use Rattle.trace_run.proofs.LinesLemmas.{lines-calls, lines-kept, lines-told}
 
 -- ---- lists, place by place
 

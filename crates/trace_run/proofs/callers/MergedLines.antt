@@ -1,19 +1,15 @@
 -- The lines of callers, each with its work, put together with the feeder's in the order of the trace's lines.
-use Rattle.std.proofs.Common.{◌≡◌, ℕ, suc, ◌+◌, ◌<◌, ◌≤◌, true, false, List, [], ◌∷◌, Option, Some, None, inl, inr, length, refl, sym, ap, ◌∙◌, subst, arith, eq-eqb, ne_eqb}
-use Rattle.std.specs.Prelude.{◌==◌, ◌⊎◌, filter, if◌then◌else◌, slice_get}
+use Rattle.std.proofs.Common.{◌≡◌, ℕ, suc, ◌+◌, ◌<◌, true, false, List, [], ◌∷◌, Option, Some, inl, inr, length, refl, sym, ap, ◌∙◌, subst, arith, eq-eqb, ne_eqb}
+use Rattle.std.specs.Prelude.{◌==◌, filter, if◌then◌else◌}
 use Rattle.std.specs.List.{AllByRecursion}
 use mathlib.Core.Logic.{dite}
-use mathlib.Core.Option.{some}
 use native.Mathlib.Decide.{ℕ_discrete}
-use lib.ListN.{get_elem?}
 use Rattle.blk_ptr.specs.declared.ptr.Ptr.{Ptr}
 use Rattle.vdev_io.specs.declared.device.CacheDev.{Ghosts as Devices}
 use Rattle.vdev_io.specs.declared.pool.Pool.{Ghosts}
 use Rattle.arc_core.specs.declared.config.Config.{Config}
-use Rattle.turn_table.specs.Places.{Place}
 use Rattle.arc_table.specs.Cache.{Cache}
 use Rattle.arc_table.specs.Items.{Meanings}
-use Rattle.arc_table.specs.declared.view.Known.{Known}
 use Rattle.dbuf_cells.specs.Turns.{OnHeap, PartyPlace}
 use Rattle.trace_text.specs.declared.op.Op.{Op}
 use Rattle.trace_text.specs.declared.op.Op.TheVariants as ops
@@ -28,7 +24,7 @@ use Rattle.trace_run.specs.Objects.{Line, no_work}
 use Rattle.trace_run.specs.RunWork.{AllFit, FitsBy, FitsFeeder, lines_of_caller}
 use Rattle.trace_run.specs.callers.Beside.{WorksBeside}
 use Rattle.trace_run.specs.callers.DeviceForks.{AllAsk, HaveRead}
-use Rattle.trace_run.specs.callers.Group.{DidGroup, HaveWorked, RepliedAt, WorkedAt}
+use Rattle.trace_run.specs.callers.Group.{DidGroup, HaveWorked, WorkedAt}
 use Rattle.trace_run.specs.callers.Groups.{DidLinesAtOnce}
 use Rattle.trace_run.specs.callers.InOrder.{AreInGroup, AreInOrder, HaveReplies}
 use Rattle.trace_run.specs.callers.WorkLines.{AreLinesOf, AsksGiven, IsWorkOf}

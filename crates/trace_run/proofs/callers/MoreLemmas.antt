@@ -1,22 +1,19 @@
 -- Several callers behind the lines of one group more: what they and the feeder have come to.
-use Rattle.std.proofs.Common.{◌≡◌, ℕ, zero, suc, ◌+◌, ◌-◌, ◌<◌, ◌≤◌, Bool, true, false, List, [], ◌∷◌, ◌++◌, Option, Some, None, length, map, take, refl, sym, ap, ◌∙◌, subst, inl, inr, arith, append-nil, length-append}
+use Rattle.std.proofs.Common.{◌≡◌, ℕ, zero, suc, ◌+◌, ◌-◌, ◌<◌, ◌≤◌, false, List, [], ◌∷◌, ◌++◌, Option, Some, length, map, refl, sym, ap, ◌∙◌, subst, inl, inr, arith, append-nil}
 use Rattle.std.specs.Prelude.{slice_get}
-use Rattle.std.specs.List.{AllByRecursion}
 use Rattle.std.proofs.lemmas.Bool.{cases_lt, false≢true}
 use Rattle.std.proofs.lemmas.List.Elements.{filter-append}
 use Rattle.std.proofs.lemmas.Option.{slice_get_within}
-use mathlib.Core.Option.{some, some-injective}
+use mathlib.Core.Option.{some-injective}
 use Rattle.blk_ptr.specs.declared.ptr.Ptr.{Ptr}
 use Rattle.vdev_io.specs.declared.device.CacheDev.{Ghosts as Devices}
 use Rattle.vdev_io.specs.declared.pool.Pool.{Ghosts}
 use Rattle.arc_core.specs.Config.{IsConfig}
 use Rattle.arc_core.specs.declared.config.Config.{Config}
-use Rattle.arc_core.specs.declared.event.Event.{Event}
 use Rattle.arc_core.specs.declared.served.Restored.{Restored}
 use Rattle.arc_core.specs.Operations.{Act}
 use Rattle.arc_table.specs.declared.about.About.{About}
 use Rattle.arc_table.specs.Cache.{Cache}
-use Rattle.arc_table.specs.Fronts.{StartsWith}
 use Rattle.arc_table.specs.Items.{Meanings}
 use Rattle.arc_table.specs.Seen.{seen_of}
 use Rattle.dbuf_cells.specs.Turns.{OnHeap, PartyPlace}
@@ -25,28 +22,27 @@ use Rattle.trace_text.specs.declared.reply.Reply.{Reply}
 use Rattle.trace_run.specs.declared.device.Device.{Device}
 use Rattle.trace_run.specs.declared.groups.Crew.{Crew}
 use Rattle.trace_run.specs.declared.kept_blocks.KeptBlock.{KeptBlock}
-use Rattle.trace_run.specs.Acts.{events_of_feeder}
 use Rattle.trace_run.specs.Deeds.{KeepsCells, Noted}
 use Rattle.trace_run.specs.FeedEvents.{AreFeedsTold, feeds_told}
 use Rattle.trace_run.specs.Feeds.{FeedDone, IsIdleFeeder, is_feed}
 use Rattle.trace_run.specs.KeptBlocks.{read_of}
 use Rattle.trace_run.specs.KeptReads.{KeptRead}
 use Rattle.trace_run.specs.Lines.{caller_of, replies_where}
-use Rattle.trace_run.specs.Meeting.{HasSettled, IsFed, Waits}
+use Rattle.trace_run.specs.Meeting.{IsFed, Waits}
 use Rattle.trace_run.specs.ObjectLines.{on_object}
 use Rattle.trace_run.specs.Objects.{Line, Work, no_work, ops_of, replies_of}
 use Rattle.trace_run.specs.Restores.{events_by_feeder, restores_in}
-use Rattle.trace_run.specs.RunWork.{FitsBy, IsRunWork, IsSyncWork, RunWork, acts_of_syncs, kept_after_lines, lines_of_caller, lines_of_feeder, noted_of_syncs}
+use Rattle.trace_run.specs.RunWork.{FitsBy, IsSyncWork, RunWork, acts_of_syncs, kept_after_lines, lines_of_caller, lines_of_feeder, noted_of_syncs}
 use Rattle.trace_run.specs.callers.Beside.{WorksBeside}
 use Rattle.trace_run.specs.callers.Group.{HasWorked}
-use Rattle.trace_run.specs.callers.Groups.{AreEndLines, ComesAt, DidLinesAtOnce, HaveCome, IsEndLine}
+use Rattle.trace_run.specs.callers.Groups.{AreEndLines, ComesAt, DidLinesAtOnce, HaveCome}
 use Rattle.trace_run.specs.callers.InOrder.{AreInGroup}
-use Rattle.trace_run.specs.callers.Together.{AreCut, IsCut, IsFirstPlace, ends_group}
-use Rattle.trace_run.specs.callers.WorkLines.{AnswersLines, AreLinesOf, HasFront, acts_of_work, noted_of_work}
+use Rattle.trace_run.specs.callers.Together.{AreCut, IsFirstPlace, ends_group}
+use Rattle.trace_run.specs.callers.WorkLines.{AnswersLines, HasFront, acts_of_work, noted_of_work}
 use Rattle.trace_run.proofs.WorkLemmas.{still-answers}
 use Rattle.trace_run.proofs.callers.BesideLemmas.{fed-idle}
 use Rattle.trace_run.proofs.callers.FrontLemmas.{answers-front}
-use Rattle.trace_run.proofs.callers.GroupLists.{Cuts, cut-before, cuts-more, get-left, get-right}
+use Rattle.trace_run.proofs.callers.GroupLists.{cut-before, cuts-more, get-left, get-right}
 use Rattle.trace_run.proofs.callers.LineLists.{AreInside, acts-lines, all-inside, answers-lines, are-append, kept-lines, lines-long, lines-still, noted-append}
 use Rattle.trace_run.proofs.callers.MeetLemmas.{starts-then}
 use Rattle.trace_run.proofs.feeds.FedLemmas.{HasFedMore, as-told, ends-beside, fed-again, fed-beside, group-acts, group-noted, ops-are, told-beside, told-then}

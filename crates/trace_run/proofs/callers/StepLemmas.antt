@@ -1,5 +1,5 @@
 -- One group more of several callers: what their pool counts then, which groups were done, and what stands before the next one, or how the lines end.
-use Rattle.std.proofs.Common.{◌≡◌, ◌⊎◌, ℕ, zero, suc, ◌+◌, ◌%◌, ◌^◌, ◌<◌, ◌≤◌, Bool, true, false, Option, List, [], ◌∷◌, ◌++◌, Some, None, Result, Ok, Err, length, map, take, drop, refl, sym, ap, ◌∙◌, subst, arith, append_assoc, append-nil, length-append, ◌-◌, inl, inr, if◌then◌else◌}
+use Rattle.std.proofs.Common.{◌≡◌, ◌⊎◌, ℕ, zero, suc, ◌+◌, ◌%◌, ◌^◌, ◌<◌, ◌≤◌, Bool, true, false, Option, List, [], ◌∷◌, ◌++◌, Some, None, Result, Ok, Err, length, take, drop, refl, sym, ap, ◌∙◌, subst, arith, append_assoc, append-nil, length-append, ◌-◌, inl, inr, if◌then◌else◌}
 use Rattle.std.specs.Prelude.{count_by, filter, slice_get, slice_range}
 use Rattle.std.specs.Option.{option_map}
 use Rattle.std.proofs.lemmas.Bool.{false≢true}
@@ -34,7 +34,7 @@ use Rattle.trace_run.specs.Devices.{lent_in}
 use Rattle.trace_run.specs.Acts.{events_of_feeder}
 use Rattle.trace_run.specs.FeedSeries.{AreMadeSoFar}
 use Rattle.trace_run.specs.Feeds.{AreFedReplies, IsIdleFeeder, is_feed}
-use Rattle.trace_run.specs.Lines.{caller_of, is_of_caller, replies_where}
+use Rattle.trace_run.specs.Lines.{caller_of, is_of_caller, replies_where, has_sync, is_sync}
 use Rattle.trace_run.specs.Meeting.{MadeJoined, MayGoOn}
 use Rattle.trace_run.specs.Objects.{Line, ops_of, replies_of, Work, no_work}
 use Rattle.trace_run.specs.Opened.{AreOpened}
@@ -110,6 +110,12 @@ module _ (ls ms : List Line) (callers : ℕ) where
   failed-more = over-same callers (failed (ls ++ ms)) (λ n. failed ls n + failed ms n) (λ n below. failed-one n) ∙ over-add callers (failed ls) (failed ms)
 
 -- ---- the pool
+
+pub leaves-same : {P : Type 0} (pools : Ghosts P) (a : P) → LeavesPool pools a a
+leaves-same pools a = record { size = refl; told = refl; faults = omega arith }
+
+pub leaves-then : {P : Type 0} (pools : Ghosts P) (a b c : P) → LeavesPool pools a b → LeavesPool pools b c → LeavesPool pools a c
+leaves-then pools a b c first second = record { size = second.size ∙ first.size; told = second.told ∙ first.told; faults = omega (arith, first.faults, second.faults) }
 
 pub unused-leaves : {P : Type 0} (pools : Ghosts P) (a b c : P) → IsUnused pools a b → LeavesPool pools b c → LeavesPool pools a c
 unused-leaves pools a b c first second = record { size = second.size ∙ first.size; told = second.told ∙ first.told; faults = omega (arith, first.faults, second.faults) }
@@ -695,6 +701,25 @@ next-forked cache restored pools devices trace start was begun is after rs w cre
     last = λ t never. absurd never;
   },
 )
+
+-- ---- where no line asks for a sync
+
+none-at : (os : List Op) (k : ℕ) (op : Op) → has_sync os ≡ false → slice_get os k ≡ Some op → is_sync op ≡ false
+none-at [] k op none at = cc
+none-at (o ∷ os) zero op none at = elim (cases_true (is_sync o)) [
+  | inl is ↦ absurd (false≢true (sym none ∙ (λ i. is i || has_sync os)))
+  | inr not_it ↦ (let same : o ≡ op = cc in ap is_sync (sym same) ∙ not_it)
+]
+none-at (o ∷ os) (suc k) op none at = elim (cases_true (is_sync o)) [
+  | inl is ↦ absurd (false≢true (sym none ∙ (λ i. is i || has_sync os)))
+  | inr not_it ↦ none-at os k op ((λ i. sym not_it i || has_sync os) ∙ none) at
+]
+
+-- the pool tells what it told behind the next group
+pub next-still : {P : Type 0} (pools : Ghosts P) (trace : Trace) (os : List Op) → os ≡ trace.ops → (was from to fin : P) (end : ℕ) (op : Op) → slice_get os end ≡ Some op → IsUnused pools was from → LeavesPool pools from to
+    → (is_sync op ≡ false → LeavesPool pools to fin) → has_sync trace.ops ≡ false → LeavesPool pools was fin
+next-still pools trace os is_os was from to fin end op at unused leaves still none =
+    leaves-then pools was to fin (unused-leaves pools was from to unused leaves) (still (none-at os end op (ap has_sync is_os ∙ none) at))
 
 -- ---- all steps
 

@@ -1,5 +1,5 @@
 -- What the outline of a cell that was found tells: the same, whether evictions are due or not; and where a Load is legal, no bytes.
-use Rattle.std.proofs.Common.{◌≡◌, ℕ, ◌&&◌, true, false, not, List, [], ◌∷◌, Option, Some, None, refl, sym, ap, ◌∙◌}
+use Rattle.std.proofs.Common.{◌≡◌, ℕ, true, false, not, List, [], ◌∷◌, Option, Some, None, refl, ap, ◌∙◌}
 use Rattle.std.proofs.lemmas.Bool.{false≢true}
 use Rattle.std.specs.Option.{option_map, option_map_or}
 use Rattle.arc_core.specs.declared.event.Event.{Event}
@@ -7,7 +7,6 @@ use Rattle.dbuf_cells.specs.Putting.{ReleasesAtMost, no_hold, one_hold}
 use Rattle.dbuf_cells.specs.Turns.{AreEvictions, OnHeap, outline_in}
 use Rattle.dbuf_state.proofs.Changes.{view-found}
 use Rattle.dbuf_state.proofs.IndexLemmas.{and-parts}
-use Rattle.dbuf_state.specs.Dbufs.{plain_dbuf}
 use Rattle.dbuf_state.specs.Objects.{Block, Cached, Dirty, Evicting, IsLegal, PlainDbuf, Uncached, evicting_after, is_cached, is_due, is_uncached}
 use Rattle.dbuf_state.specs.Objects as plain
 use Rattle.dbuf_state.specs.Outline.{Outline, OutlineDbuf, after, after_all, dbuf_oid, is_cached_at, outline_dbuf}

@@ -1,7 +1,6 @@
 -- The events of feeds: those of a group's lines are those of the feeds that were made, and the feeder's party has seen them behind what it had. And what the cache device was asked for by a group with feeds.
 use Rattle.std.proofs.Common.{◌≡◌, ◌+◌, ◌<◌, ◌≤◌, ℕ, zero, suc, Bool, true, false, List, [], ◌∷◌, ◌++◌, Option, Some, None, length, take, refl, sym, ap, ◌∙◌, subst, inl, inr, arith, append-nil, append_assoc}
 use Rattle.std.specs.Prelude.{◌⊎◌, filter, map, slice_get}
-use Rattle.std.specs.Option.{option_map_or}
 use Rattle.std.proofs.lemmas.Bool.{false≢true}
 use Rattle.std.specs.List.{AllByRecursion}
 use Rattle.std.proofs.lemmas.List.{length-map, map-append}
@@ -47,9 +46,9 @@ use Rattle.trace_run.specs.Objects.{Line, no_work, ops_of, replies_of}
 use Rattle.trace_run.specs.Restores.{events_by_feeder, restores_in}
 use Rattle.trace_run.specs.RunWork.{AllFit, FitsBy, lines_of_caller, lines_of_feeder}
 use Rattle.trace_run.specs.KeptReads.{KeptRead}
-use Rattle.trace_run.specs.callers.Beside.{LendsAndFeeds, WorksBeside}
+use Rattle.trace_run.specs.callers.Beside.{WorksBeside}
 use Rattle.trace_run.specs.callers.DeviceForks.{UsedAtOnce, UsedInGroups}
-use Rattle.trace_run.specs.callers.Groups.{AreEndLines, IsEndLine}
+use Rattle.trace_run.specs.callers.Groups.{AreEndLines}
 use Rattle.trace_run.specs.callers.InOrder.{AreInGroup}
 use Rattle.trace_run.specs.callers.Together.{GroupLines}
 use Rattle.trace_run.specs.callers.WorkLines.{AreLinesOf, acts_of_work, acts_with_op, noted_of_work}

@@ -1,5 +1,5 @@
 -- What the feeds of a run leave of the cache device: from the histories of the closed cache, also where none was made; and from what a start found.
-use Rattle.std.proofs.Common.{◌≡◌, ◌≢◌, ◌+◌, ◌*◌, ◌<◌, ◌≤◌, ℕ, zero, suc, ◌==◌, true, false, IsTrue, if◌then◌else◌, List, [], ◌∷◌, ◌++◌, Option, Some, None, length, map, refl, sym, ap, ◌∙◌, subst, inl, inr, arith, append-nil, append_assoc, ne_eqb}
+use Rattle.std.proofs.Common.{◌≡◌, ◌≢◌, ◌<◌, ◌≤◌, ℕ, zero, suc, IsTrue, List, [], ◌∷◌, ◌++◌, Option, Some, None, length, map, refl, sym, ap, ◌∙◌, subst, inl, inr, arith, append-nil}
 use Rattle.std.specs.Prelude.{slice_index_or}
 use Rattle.std.specs.List.{AllByRecursion}
 use Rattle.std.proofs.lemmas.Bool.{cases_lt}
@@ -26,7 +26,7 @@ use Rattle.arc_table.specs.Views.{newcomer}
 use Rattle.arc_table.proofs.SeenLemmas.{events-map}
 use Rattle.dbuf_cells.specs.Turns.{OnHeap, dbuf_meanings}
 use Rattle.l2_dev.specs.Cursor.{CursorState}
-use Rattle.l2_dev.specs.Rebuilding.{HaveKeys, IsOpened, ring_end_of}
+use Rattle.l2_dev.specs.Rebuilding.{IsOpened, ring_end_of}
 use Rattle.l2_feed.specs.Series.{GivesNone}
 use Rattle.trace_text.specs.declared.op.Op.{Op}
 use Rattle.trace_text.specs.declared.rebuilt.Rebuilt.{Rebuilt}
@@ -36,9 +36,9 @@ use Rattle.trace_text.specs.declared.trace.Trace.{Trace}
 use Rattle.trace_run.specs.declared.device.Device.{Device}
 use Rattle.trace_run.specs.declared.device.Device.TheVariants as device
 use Rattle.trace_run.specs.Acts.{events_of_feeder}
-use Rattle.trace_run.specs.Devices.{Finds, IsFoundOn, IsRightKind, WasLent, cursor_in, device_of}
+use Rattle.trace_run.specs.Devices.{Finds, IsRightKind, WasLent, cursor_in, device_of}
 use Rattle.trace_run.specs.Explaining.{Explain}
-use Rattle.trace_run.specs.FeedEvents.{events_of_line, events_of_lines, feeds_behind, was_fed}
+use Rattle.trace_run.specs.FeedEvents.{events_of_lines, was_fed}
 use Rattle.trace_run.specs.FeedSeries.{AreInTurnOf, AreMadeSoFar, LeavesFed, SeesMore, WasFedFrom}
 use Rattle.trace_run.specs.Feeds.{FeedDone}
 use Rattle.trace_run.specs.Restores.{events_by_feeder, found_keys, restores_in}

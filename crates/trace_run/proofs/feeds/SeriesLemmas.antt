@@ -1,5 +1,5 @@
 -- The feeds of a run, one after another: what one group more adds, and what they leave of the cache device.
-use Rattle.std.proofs.Common.{◌≡◌, ◌≢◌, ◌+◌, ◌*◌, ◌^◌, ◌<◌, ◌≤◌, ℕ, zero, suc, ◌==◌, false, IsTrue, if◌then◌else◌, List, [], ◌∷◌, ◌++◌, Option, Some, None, length, refl, sym, ap, ◌∙◌, subst, inl, inr, arith, append-nil, append_assoc, ne_eqb}
+use Rattle.std.proofs.Common.{◌≡◌, ◌+◌, ◌*◌, ◌^◌, ◌<◌, ◌≤◌, ℕ, zero, suc, ◌==◌, false, IsTrue, if◌then◌else◌, List, [], ◌∷◌, ◌++◌, length, refl, sym, ap, ◌∙◌, subst, inl, inr, arith, append-nil, append_assoc, ne_eqb}
 use Rattle.std.specs.Prelude.{◌⊎◌, slice_index_or}
 use Rattle.std.specs.List.{AllByRecursion}
 use Rattle.std.proofs.lemmas.Bool.{cases_lt}
@@ -18,8 +18,7 @@ use Rattle.arc_core.specs.declared.event.Event.TheVariants.{Restore}
 use Rattle.arc_core.specs.declared.served.Restored.{Restored}
 use Rattle.arc_core.proofs.Stepping.{prefix-legal}
 use Rattle.arc_core.specs.Operations.{has_its_number, own_events}
-use Rattle.arc_core.specs.PlainShard.{place_of}
-use Rattle.arc_core.specs.Replay.{is_legal_history, replay}
+use Rattle.arc_core.specs.Replay.{is_legal_history}
 use Rattle.turn_table.specs.Places.{Place}
 use Rattle.arc_table.specs.declared.view.Known.{Known}
 use Rattle.arc_table.specs.Cache.{Cache}
@@ -49,7 +48,7 @@ use Rattle.trace_run.specs.declared.device.Device.{Device}
 use Rattle.trace_run.specs.declared.device.Device.TheVariants as device
 use Rattle.trace_run.specs.Devices.{WasLent as WasLentOut, WasOnlyRead}
 use Rattle.trace_run.specs.FeedSeries.{AreAllDone, AreInTurn, AreInTurnOf, AreMadeSoFar, GoOn, LeavesFed, SeesMore, StandsBetween, WasFed, WasMade, reports_of}
-use Rattle.trace_run.specs.Feeds.{FeedDone, MadeFeed, MadeFeeds, MadeFeedsOf}
+use Rattle.trace_run.specs.Feeds.{FeedDone, MadeFeeds, MadeFeedsOf}
 use Rattle.trace_run.specs.KeptBlocks.{Stands}
 use Rattle.trace_run.specs.Restores.{restores_in}
 use Rattle.trace_run.specs.callers.Beside.{LendsAndFeeds}

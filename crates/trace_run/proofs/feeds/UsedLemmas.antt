@@ -1,5 +1,5 @@
 -- How the lines `feed` of a run are answered, over all its groups; and a cache device that no line feeds was only lent.
-use Rattle.std.proofs.Common.{◌≡◌, ◌≤◌, ℕ, true, false, Bool, if◌then◌else◌, List, [], ◌∷◌, ◌++◌, Option, Some, None, length, map, refl, sym, ap, ◌∙◌, subst, inl, inr, arith}
+use Rattle.std.proofs.Common.{◌≡◌, ◌≤◌, ℕ, true, false, Bool, if◌then◌else◌, List, [], ◌∷◌, ◌++◌, Option, Some, None, length, refl, sym, ap, ◌∙◌, subst, inl, inr, arith}
 use Rattle.std.specs.Prelude.{◌⊎◌, filter}
 use Rattle.std.specs.List.{list_any}
 use Rattle.std.proofs.lemmas.Bool.{false≢true}
@@ -8,7 +8,6 @@ use Rattle.std.proofs.lemmas.List.Elements.{filter-append}
 use Rattle.arc_lists.proofs.Tables.{cases_true}
 use Rattle.blk_ptr.specs.declared.ptr.Ptr.{Ptr}
 use Rattle.vdev_io.specs.declared.device.CacheDev.{Ghosts}
-use Rattle.vdev_io.specs.Calls.{DeviceCall, MakesDeviceCalls}
 use Rattle.turn_table.specs.Places.{Place}
 use Rattle.arc_table.specs.declared.view.Known.{Known}
 use Rattle.arc_table.specs.Cache.{Cache}
@@ -21,7 +20,7 @@ use Rattle.trace_run.specs.declared.device.Device.TheVariants as device
 use Rattle.trace_run.specs.declared.ran.Ending.{Ending}
 use Rattle.trace_run.specs.declared.ran.Ending.TheVariants.{Fork, Full, Sync, Whole}
 use Rattle.trace_run.specs.Devices.{WasLent}
-use Rattle.trace_run.specs.Feeds.{AreFedReplies, AsksForFeeds, AsksOfFeeds, FeedDone, MadeFeedsOf, is_feed}
+use Rattle.trace_run.specs.Feeds.{AreFedReplies, AsksOfFeeds, FeedDone, MadeFeedsOf, is_feed}
 use Rattle.trace_run.specs.Lines.{is_undone, replies_where}
 use Rattle.trace_run.specs.Objects.{Line, ops_of, replies_of}
 use Rattle.trace_run.specs.RunWork.{plain_lines}

@@ -1,17 +1,17 @@
 -- A sync changes no byte in front of the place from which it writes.
-use Rattle.std.proofs.Common.{◌≡◌, ◌⊎◌, ℕ, zero, suc, ◌+◌, ◌<◌, ◌≤◌, ◌-◌, min, List, [], ◌∷◌, ◌++◌, length, take, drop, Option, Some, None, Result, Ok, Err, refl, sym, ap, ◌∙◌, subst, inl, inr, arith}
+use Rattle.std.proofs.Common.{◌≡◌, ◌⊎◌, ℕ, zero, suc, ◌+◌, ◌≤◌, ◌-◌, min, List, [], ◌∷◌, ◌++◌, length, take, drop, Option, Some, None, Result, Ok, Err, refl, sym, ap, ◌∙◌, subst, inl, inr, arith}
 use Rattle.std.specs.Option.{option_map}
 use Rattle.std.proofs.lemmas.Bool.{cases_lt}
 use Rattle.std.proofs.lemmas.List.{length-take, take-append-le}
 use Rattle.arc_core.specs.declared.config.Config.{Config}
 use Rattle.dbuf_cells.specs.Turns.{OnHeap, PartyPlace}
 use Rattle.txg_sync.specs.Items.{SyncItem, at_place, bytes_of_due, items_from, need_of, tells_written, written_over}
-use Rattle.txg_sync.specs.Syncing.{AnswersSync, AnswersWith, HasFailedOnce, IsUnharmed, RefusedAt, RefusedFirst, StopsAt, TellsTorn}
+use Rattle.txg_sync.specs.Syncing.{AnswersSync, AnswersWith, HasFailedOnce, IsUnharmed, RefusedAt, RefusedFirst, TellsTorn}
 use Rattle.txg_sync.specs.declared.due.Due.{Due}
 use Rattle.txg_sync.specs.declared.syncing.SyncFault.{SyncFault}
 use Rattle.txg_sync.specs.declared.syncing.SyncFault.TheVariants as fault
 use Rattle.txg_sync.specs.declared.syncing.Synced.{Synced}
-use Rattle.vdev_io.specs.Device.{IsTorn, put}
+use Rattle.vdev_io.specs.Device.{put}
 use Rattle.vdev_io.specs.Faults.{CountsOne, last_count}
 use Rattle.vdev_io.specs.declared.pool.Pool.{Ghosts}
 use Rattle.vdev_io.proofs.SectorLaws.{put_length}

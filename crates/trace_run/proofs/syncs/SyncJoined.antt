@@ -1,22 +1,20 @@
 -- The feeder syncs while all other parties have joined it: what it and they are then. And where no line made a block dirty, nothing is written.
-use Rattle.std.proofs.Common.{◌≡◌, ◌≢◌, ◌⊎◌, ℕ, zero, suc, ◌+◌, ◌<◌, ◌≤◌, true, false, List, [], ◌∷◌, ◌++◌, length, map, Option, Some, None, Result, Ok, Err, refl, sym, ap, ◌∙◌, subst, inl, inr, arith}
+use Rattle.std.proofs.Common.{◌≡◌, ◌≢◌, ◌⊎◌, ℕ, zero, suc, ◌+◌, ◌<◌, true, false, List, [], ◌∷◌, ◌++◌, length, map, Option, Some, None, Result, Ok, Err, refl, sym, ap, ◌∙◌, subst, inl, inr, arith}
 use Rattle.std.specs.Prelude.{slice_get, slice_index_or}
 use Rattle.std.specs.List.{AllByRecursion}
 use Rattle.std.proofs.lemmas.Bool.{false≢true}
 use Rattle.std.proofs.lemmas.List.Elements.{All-from_recursion, recursion_from_All}
 use Rattle.std.proofs.lemmas.List.Sorted.{All-permutation}
 use Rattle.std.proofs.lemmas.Option.{slice_get_within}
-use Rattle.blk_ptr.specs.Hash.{shard_of}
 use Rattle.arc_core.specs.declared.config.Config.{Config}
-use Rattle.arc_core.specs.Operations.{Act, Tell, acts_in, moments, own_moments}
+use Rattle.arc_core.specs.Operations.{Act, moments, own_moments}
 use Rattle.turn_table.specs.Places.{SomeHas}
 use Rattle.arc_table.specs.declared.view.Ledger.{Ledger}
-use Rattle.arc_table.specs.declared.view.Mine.{Mine}
 use Rattle.arc_table.specs.Cache.{Cache, IsPartyOf}
 use Rattle.arc_table.specs.declared.view.Line.{Line as Seen}
 use Rattle.arc_table.specs.Fronts.{StartsWith, list_at, front_of}
 use Rattle.arc_table.specs.Geometry.{IsCell, parties_of}
-use Rattle.arc_table.specs.Seen.{AreSeen, HasAll, events_in, seen_of, turn_of, AreEntriesSeen}
+use Rattle.arc_table.specs.Seen.{HasAll, events_in, seen_of, turn_of, AreEntriesSeen}
 use Rattle.arc_table.specs.Telling.{opening_of}
 use Rattle.dbuf_cells.specs.Turns.{KeepsClaims, OnHeap, PartyPlace, dbuf_meanings}
 use Rattle.dbuf_cells.specs.declared.kept.Kept.{Kept as Block}
@@ -41,7 +39,7 @@ use Rattle.vdev_io.specs.declared.pool.Pool.{Ghosts}
 use Rattle.txg_sync.specs.Turns.{SyncsCells, synced_in}
 use Rattle.txg_sync.specs.declared.due.Due.{Due}
 use Rattle.trace_run.specs.callers.Group.{LeavesPool}
-use Rattle.trace_run.specs.Deeds.{HasToldOthers, Noted, events_of_cell, lines_of_cell}
+use Rattle.trace_run.specs.Deeds.{HasToldOthers, Noted, events_of_cell}
 use Rattle.trace_run.specs.KeptBlocks.{Stands}
 use Rattle.trace_run.specs.Making.{AreNoEntries}
 use Rattle.trace_run.specs.Meeting.{AreLast, HasLearned, IsApart, JoinAll, PartAll}
@@ -56,7 +54,7 @@ use Rattle.trace_run.proofs.syncs.SyncWrites.{all-synced, cell-front, inserts, s
 use Rattle.trace_run.proofs.syncs.SyncTold.{others-synced}
 use Rattle.trace_run.proofs.callers.MeetLemmas.{HaveJoined, have-met, left_alone, own-seen-more, parted_from, starts-events, joined_of, starts-then}
 use Rattle.trace_run.proofs.syncs.SyncOwned.{AreDoneFrom, DidSo, IsDone}
-use Rattle.trace_run.specs.MadeLines.{made_from, made_of}
+use Rattle.trace_run.specs.MadeLines.{made_from}
 use Rattle.trace_run.specs.CellEnds.{done_by}
 
 -- ---- cells to which nothing was done have no dirty block

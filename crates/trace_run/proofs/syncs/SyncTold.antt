@@ -1,9 +1,7 @@
 -- How what the feeder did is told, once it synced.
-use Rattle.std.proofs.Common.{◌≡◌, ◌≢◌, ◌⊎◌, ◌==◌, ℕ, ◌<◌, ◌≤◌, Bool, true, false, if◌then◌else◌, List, [], ◌∷◌, ◌++◌, map, refl, sym, ap, ◌∙◌, subst, inl, inr, arith, append-nil, ne_eqb}
-use Rattle.std.specs.Prelude.{filter}
+use Rattle.std.proofs.Common.{◌≡◌, ◌≢◌, ◌⊎◌, ◌==◌, ℕ, ◌<◌, true, false, List, [], ◌∷◌, ◌++◌, map, refl, sym, ap, ◌∙◌, subst, inl, inr, arith, ne_eqb}
 use Rattle.std.specs.List.{AllByRecursion}
 use Rattle.std.specs.Option.{option_map_or}
-use Rattle.std.proofs.lemmas.Bool.{eqb-true}
 use Rattle.std.proofs.lemmas.List.Elements.{filter-append}
 use Rattle.arc_lists.proofs.Tables.{cases_true}
 use Rattle.blk_ptr.specs.Hash.{shard_of}
@@ -11,13 +9,10 @@ use Rattle.blk_ptr.specs.declared.key.Key.{Key}
 use Rattle.arc_core.specs.declared.config.Config.{Config}
 use Rattle.arc_core.specs.declared.event.Event.{Event}
 use Rattle.arc_core.specs.declared.event.Event.TheVariants.{Insert}
-use Rattle.arc_core.specs.Operations.{Act, Tell, Writes, acts_in, event_key, moments, number_of, own_moments}
-use Rattle.arc_table.specs.declared.view.Line.{Line}
+use Rattle.arc_core.specs.Operations.{Act, Writes, acts_in, event_key, number_of}
 use Rattle.arc_table.specs.declared.view.Line.TheVariants as line
 use Rattle.arc_table.specs.Geometry.{IsCell, cell_number, parties_of}
-use Rattle.arc_table.specs.Seen.{seen_of, turn_of}
-use Rattle.arc_table.specs.Telling.{opening_of}
-use Rattle.arc_table.specs.Told.{IsTold}
+use Rattle.arc_table.specs.Seen.{turn_of}
 use Rattle.dbuf_cells.specs.Turns.{PartyPlace}
 use Rattle.dbuf_state.specs.declared.event.CellEvent.{CellEvent}
 use Rattle.dbuf_state.specs.declared.event.CellEvent.TheVariants.{Synced as WasSynced}

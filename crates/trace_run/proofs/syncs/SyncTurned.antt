@@ -1,6 +1,6 @@
 -- What a sync comes to between two groups: its work, where its Inserts stand, and the cells that it took.
-use Rattle.std.proofs.Common.{◌≡◌, ◌⊎◌, ◌==◌, ℕ, zero, suc, ◌+◌, ◌<◌, ◌≤◌, Bool, true, false, if◌then◌else◌, List, [], ◌∷◌, ◌++◌, length, map, Option, Some, None, Result, Ok, Err, refl, sym, ap, ◌∙◌, subst, inl, inr, arith, append-nil, append_assoc, ne_eqb}
-use Rattle.std.specs.Prelude.{slice_get, slice_index_or}
+use Rattle.std.proofs.Common.{◌≡◌, ◌⊎◌, ◌==◌, ℕ, zero, suc, ◌<◌, true, false, if◌then◌else◌, List, [], ◌∷◌, ◌++◌, Result, Ok, Err, refl, sym, ap, ◌∙◌, subst, inl, inr, arith, append-nil, ne_eqb}
+use Rattle.std.specs.Prelude.{slice_index_or}
 use Rattle.std.specs.List.{AllByRecursion}
 use Rattle.std.proofs.lemmas.Bool.{false≢true}
 use Rattle.std.proofs.lemmas.Option.{slice_get_within}
@@ -10,20 +10,13 @@ use lib.ListN.{get_elem?}
 use Rattle.arc_lists.proofs.Tables.{cases_true}
 use Rattle.blk_ptr.specs.Hash.{shard_of}
 use Rattle.blk_ptr.specs.declared.key.Key.{Key}
-use Rattle.arc_core.specs.Replay.{replay}
-use Rattle.arc_core.specs.Step.{is_new_here}
-use Rattle.arc_core.specs.Operations.{Writes, acts_in, event_key, number_of, own_events}
+use Rattle.arc_core.specs.Operations.{acts_in, event_key, number_of, own_events}
 use Rattle.arc_core.specs.declared.config.Config.{Config}
 use Rattle.arc_core.specs.declared.event.Event.{Event}
-use Rattle.arc_core.specs.declared.event.Event.TheVariants.{Insert}
-use Rattle.arc_table.specs.declared.view.Line.{Line as Seen}
 use Rattle.arc_table.specs.Cache.{Cache}
 use Rattle.arc_table.specs.Fronts.{StartsWith, front_of}
 use Rattle.arc_table.specs.Geometry.{IsCell, cell_number, parties_of}
-use Rattle.arc_table.specs.TableLaws.{starts_whole}
-use Rattle.arc_table.specs.Telling.{opening_of}
 use Rattle.dbuf_cells.specs.Turns.{OnHeap, PartyPlace}
-use Rattle.dbuf_state.specs.declared.event.CellEvent.TheVariants.{Synced as WasSynced}
 use Rattle.txg_sync.specs.Items.{SyncItem, items_from}
 use Rattle.txg_sync.specs.Syncing.{AnswersWith}
 use Rattle.txg_sync.specs.Turns.{synced_in}
@@ -33,14 +26,13 @@ use Rattle.txg_sync.specs.declared.syncing.Synced.{Synced as SyncAnswer}
 use Rattle.vdev_io.specs.declared.pool.Pool.{Ghosts}
 use Rattle.trace_run.specs.declared.groups.Crew.{Crew}
 use Rattle.trace_run.specs.CellEnds.{done_by}
-use Rattle.trace_run.specs.Deeds.{Noted, acts_of_events, events_of_cell, events_there, lines_of_cell, with_number}
+use Rattle.trace_run.specs.Deeds.{acts_of_events, events_of_cell, events_there, lines_of_cell, with_number}
 use Rattle.trace_run.specs.MadeLines.{made_of}
 use Rattle.trace_run.specs.Objects.{Line, Nothing, Work}
 use Rattle.trace_run.specs.Openings.{Knows}
 use Rattle.trace_run.specs.RunWork.{IsInserted, IsSyncWork, IsSyncedNote, lines_of_caller, lines_of_feeder}
-use Rattle.trace_run.specs.Syncing.{HasDoneTo, IsInsert, SyncedJoined, SyncsJoined, comes_in, insert_noted, insert_of, inserts_in, inserts_noted, lines_of, noted_of, wants_memory}
+use Rattle.trace_run.specs.Syncing.{HasDoneTo, IsInsert, SyncedJoined, SyncsJoined, comes_in, insert_of, inserts_in, inserts_noted, lines_of, noted_of, wants_memory}
 use Rattle.trace_run.specs.callers.Groups.{StoodSo}
-use Rattle.trace_run.specs.callers.Together.{EndsGroup, BetweenGroups, GroupLines, OfCells, SyncsGroup, WorkInGroups}
 use Rattle.trace_run.specs.callers.WorkLines.{noted_of_work}
 use Rattle.trace_run.proofs.callers.MeetLemmas.{starts-then}
 use Rattle.trace_run.proofs.syncs.SyncTold.{inserts-acts}

@@ -14,7 +14,7 @@ use Rattle.trace_run.specs.callers.Beside.{WasInUse}
 use Rattle.trace_run.specs.callers.Group.{LeavesDeclared, LeavesPool}
 use Rattle.trace_run.specs.callers.DeviceForks.{GivesFork, GivesForks, TakesForkBack, TakesForksBack, UsedAtOnce, UsedInGroups}
 use Rattle.trace_run.specs.callers.Together.{GroupLines, groups_done}
-use Rattle.trace_run.specs.Devices.{Finds, IsHandedBack, IsRightKind, MayLose, WasLent, WasOnlyRead, device_of, lent_in, usable}
+use Rattle.trace_run.specs.Devices.{Finds, IsHandedBack, IsRightKind, MayLose, WasLent, device_of, lent_in, usable}
 use Rattle.trace_run.specs.DeviceUse.{WasUsed}
 use Rattle.trace_run.specs.Feeds.{AreFedReplies, AsksOfFeeds, FeedDone, is_feed}
 use Rattle.trace_run.specs.Lines.{replies_where}

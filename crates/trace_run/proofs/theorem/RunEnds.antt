@@ -1,6 +1,6 @@
 -- What the closed cache of several callers' run explains: their lines with their work, the feeder's syncs and feeds, and the cells' ends.
-use Rattle.std.proofs.Common.{◌≡◌, ◌≢◌, ℕ, zero, suc, ◌+◌, ◌<◌, ◌≤◌, ◌==◌, Bool, true, false, if◌then◌else◌, List, [], ◌∷◌, ◌++◌, length, length-append, get_or, map, take, Option, Some, None, append-nil, append_assoc, refl, sym, ap, ◌∙◌, subst, inl, inr, arith, eq-eqb, ne_eqb}
-use Rattle.std.specs.Prelude.{filter, slice_get, slice_index_or, sum_by}
+use Rattle.std.proofs.Common.{◌≡◌, ℕ, zero, suc, ◌+◌, ◌<◌, ◌==◌, Bool, true, false, List, [], ◌∷◌, ◌++◌, length, get_or, map, take, Option, Some, append-nil, append_assoc, refl, sym, ap, ◌∙◌, subst, inl, inr, arith, eq-eqb, ne_eqb}
+use Rattle.std.specs.Prelude.{filter, slice_get, sum_by}
 use Rattle.std.specs.List.{AllByRecursion}
 use Rattle.std.proofs.lemmas.Bool.{eqb-true}
 use Rattle.std.proofs.lemmas.List.{length-map}
@@ -14,7 +14,7 @@ use Rattle.arc_core.specs.Config.{IsConfig}
 use Rattle.arc_core.specs.declared.config.Config.{Config}
 use Rattle.arc_core.specs.declared.event.Event.{Event}
 use Rattle.arc_core.specs.declared.served.Restored.{Restored}
-use Rattle.arc_core.specs.Operations.{Act, Fails, GivesBack, Keeps, Loads, MakesPrivate, Reads, RunsOut, RunsOutAtDbuf, Tell, Writes, actor_of, acts_in, moments, own_events, own_moments, pool_reads}
+use Rattle.arc_core.specs.Operations.{Act, Fails, GivesBack, Keeps, Loads, MakesPrivate, Reads, RunsOut, RunsOutAtDbuf, Tell, Writes, actor_of, moments, own_events, own_moments, pool_reads}
 use Rattle.arc_core.specs.ShardLog.{ShardLog}
 use Rattle.arc_table.specs.declared.about.About.{About}
 use Rattle.arc_table.specs.declared.view.Known.{Known}
@@ -26,7 +26,7 @@ use Rattle.arc_table.specs.Geometry.{IsCell, parties_of}
 use Rattle.arc_table.specs.Seen.{events_in, seen_of}
 use Rattle.arc_table.specs.TableLaws.{get_front, within}
 use Rattle.arc_table.specs.Telling.{opening_of}
-use Rattle.arc_table.proofs.TableLaws.{get_last, there}
+use Rattle.arc_table.proofs.TableLaws.{get_last}
 use Rattle.dbuf_cells.specs.Turns.{OnHeap, PartyPlace, dbuf_meanings}
 use Rattle.dbuf_state.specs.Numbers.{event_numbers}
 use Rattle.trace_text.specs.declared.op.Op.{Op}
@@ -44,7 +44,6 @@ use Rattle.trace_run.specs.Feeds.{FeedDone}
 use Rattle.trace_run.specs.KeptBlocks.{Stands, holds_in, read_of}
 use Rattle.trace_run.specs.KeptReads.{KeptRead}
 use Rattle.trace_run.specs.Lines.{caller_of, is_of_caller, replies_where}
-use Rattle.trace_run.specs.MadeLines.{made_of}
 use Rattle.trace_run.specs.ObjectAnswers.{AreAnsweredByCells}
 use Rattle.trace_run.specs.Meeting.{AllKeepCells, HasSettled, HaveGivenBack, HaveParted, IsLevel, Waits, drops_from}
 use Rattle.trace_run.specs.callers.Looking.{HaveLooked}
@@ -62,7 +61,7 @@ use Rattle.trace_run.specs.callers.WorkLines.{AnswersLines, AreLinesOf, calls_of
 use Rattle.trace_run.proofs.CellLemmas.{all-empty}
 use Rattle.trace_run.proofs.callers.AfterEnds.{crew-long, last-same, same-long}
 use Rattle.trace_run.proofs.callers.CallerActLemmas.{caller-is}
-use Rattle.trace_run.proofs.callers.GroupCounts.{IsLineAct, acts-counted, over-same, reads_of_act}
+use Rattle.trace_run.proofs.callers.GroupCounts.{IsLineAct, acts-counted, reads_of_act}
 use Rattle.trace_run.proofs.callers.GroupRunLemmas.{come-wait, gave-at, gone-long, gone-stopped, lines-acts, lines-noted}
 use Rattle.trace_run.proofs.callers.MeetLemmas.{all-before, starts-then}
 use Rattle.trace_run.proofs.one_caller.TellLemmas.{all-map}
@@ -72,7 +71,7 @@ use Rattle.trace_run.proofs.theorem.LineActs.{Own, caller-own, own-fits}
 use Rattle.trace_run.proofs.theorem.AnsweredCells.{EndsFrom, all-by-cells, goes-on, slice-of}
 use Rattle.trace_run.proofs.theorem.EndLemmas.{shown-at}
 use Rattle.trace_run.proofs.theorem.LineAnswers.{IsOfOne, lines-answered, own-lines-of}
-use Rattle.trace_run.proofs.theorem.WorkEnds.{HasEndedWork, IsCallersAct, acts-same, begins-seen, own-told, reads-counted, work-explains, work-level}
+use Rattle.trace_run.proofs.theorem.WorkEnds.{HasEndedWork, IsCallersAct, acts-same, own-told, reads-counted, work-explains, work-level}
 
 -- ---- lines that are not answered add nothing
 

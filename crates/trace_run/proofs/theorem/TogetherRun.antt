@@ -1,6 +1,6 @@
 -- What the run of several callers came to, from what they were between its groups and how its cache closed.
-use Rattle.std.proofs.Common.{◌≡◌, ℕ, zero, suc, ◌+◌, ◌*◌, ◌<◌, ◌≤◌, ◌^◌, ◌==◌, Bool, true, false, cond, List, [], ◌∷◌, ◌++◌, length, length-append, map, take, drop, min, Option, Some, None, inl, inr, refl, sym, ap, ◌∙◌, subst, arith}
-use Rattle.std.specs.Prelude.{count_by, filter, slice_get, slice_index_or, sum_by}
+use Rattle.std.proofs.Common.{◌≡◌, ℕ, zero, suc, ◌+◌, ◌*◌, ◌<◌, ◌≤◌, ◌^◌, ◌==◌, Bool, false, cond, List, [], ◌∷◌, ◌++◌, length, length-append, map, take, drop, min, Option, Some, inl, inr, refl, sym, ap, ◌∙◌, subst, arith}
+use Rattle.std.specs.Prelude.{count_by, slice_get, slice_index_or, sum_by}
 use Rattle.std.specs.List.{AllByRecursion}
 use Rattle.std.specs.Option.{option_map_or}
 use Rattle.std.proofs.lemmas.Bool.{cases_lt}
@@ -31,7 +31,6 @@ use Rattle.vdev_io.specs.Faults.{CountsOne, Rose, last_count}
 use Rattle.vdev_io.specs.declared.device.CacheDev.{Ghosts as Devices}
 use Rattle.vdev_io.specs.declared.pool.Pool.{Ghosts}
 use Rattle.trace_text.specs.declared.op.Op.{Op}
-use Rattle.trace_text.specs.declared.op.Op.TheVariants as ops
 use Rattle.trace_text.specs.declared.reply.Reply.{Reply}
 use Rattle.trace_text.specs.declared.trace.Trace.{Trace}
 use Rattle.trace_text.specs.Grammar.{IsFormed}
@@ -56,7 +55,7 @@ use Rattle.trace_run.specs.RunWork.{IsRunWork, RunWork, lines_of_caller, noted_b
 use Rattle.trace_run.specs.callers.DeviceForks.{UsedInGroups}
 use Rattle.trace_run.specs.callers.GroupRun.{HaveClosed, RanTogether}
 use Rattle.trace_run.specs.callers.Groups.{AreDone, EndsLines, HaveCome, IsEndLine, StoodSo}
-use Rattle.trace_run.specs.callers.Together.{AreCut, BetweenGroups, EndsRun, IsCutLast, GroupLines, StoodThen, StopsSo, StopsSync, WorkInGroups, answered_ops, between_groups, faults_told, groups_done, over_callers, reads_of_caller}
+use Rattle.trace_run.specs.callers.Together.{AreCut, EndsRun, IsCutLast, StoodThen, StopsSo, StopsSync, WorkInGroups, answered_ops, between_groups, faults_told, groups_done, over_callers, reads_of_caller}
 use Rattle.trace_run.specs.callers.WorkLines.{calls_of_lines, effect_with}
 use Rattle.trace_run.proofs.callers.AbsorbLemmas.{over-few}
 use Rattle.trace_run.proofs.callers.CallerActLemmas.{line-kind}

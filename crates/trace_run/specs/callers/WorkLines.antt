@@ -14,7 +14,7 @@ use Rattle.arc_table.specs.declared.view.Line.{Line as Seen}
 use Rattle.arc_table.specs.Geometry.{cell_number}
 use Rattle.arc_table.specs.Reading.{KeepsDevice, Outside}
 use Rattle.dbuf_cells.specs.Places.{cell_of}
-use Rattle.dbuf_cells.specs.Turns.{OnHeap, PartyPlace}
+use Rattle.dbuf_cells.specs.Turns.{PartyPlace}
 use Rattle.dbuf_state.specs.declared.oid.Oid.{Oid}
 use Rattle.trace_text.specs.declared.op.Op.{Op}
 use Rattle.trace_text.specs.declared.op.Op.TheVariants as ops

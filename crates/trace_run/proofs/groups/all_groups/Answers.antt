@@ -4,7 +4,7 @@ use Rattle.trace_run.specs.callers.Groups.{AreBetween}
 use Rattle.trace_run.specs.callers.Together.{between_groups}
 use Rattle.trace_run.proofs.callers.FrontLemmas.{front-before, front-same, front-then}
 use Rattle.trace_run.proofs.callers.InUse.{in-use-same, in-use-then}
-use Rattle.trace_run.proofs.callers.StepLemmas.{all-stepped, not-stepped, stepped}
+use Rattle.trace_run.proofs.callers.StepLemmas.{all-stepped, leaves-same, leaves-then, not-stepped, stepped}
 use Rattle.trace_run.proofs.groups.all_groups.Goals as goal
 
 pub loop-alloc-init : goal.loop-alloc-init
@@ -16,6 +16,7 @@ loop-alloc-init g c = record {
   );
   later = omega arith;
   leaves = front-same g.P.Pool c.args.syncs.next c.args.pool.now;
+  still = λ none. leaves-same g.P.Pool c.args.pool.now;
   used = in-use-same g.D.CacheDev c.args.device.now;
   device = c.requires.device;
 }
@@ -54,6 +55,7 @@ loop-alloc-preserved g c = record {
   later = let a = c.loop-alloc.invariant.later in let b = c.in_ok-after.ensures.later in omega (arith, a, b);
   leaves = front-then g.P.Pool c.args.syncs.next c.args.pool.now c.loop-alloc.pool c.next_group.new.pool c.loop-alloc.invariant.leaves
       (front-before g.P.Pool c.args.syncs.next c.loop-alloc.syncs.next c.loop-alloc.pool c.next_group.new.pool c.loop-alloc.invariant.later c.in_ok-after.ensures.pool);
+  still = λ none. leaves-then g.P.Pool c.args.pool.now c.loop-alloc.pool c.next_group.new.pool (c.loop-alloc.invariant.still none) (c.in_ok-after.ensures.still none);
   used = in-use-then g.D.CacheDev c.args.device.now c.loop-alloc.device c.next_group.new.device c.loop-alloc.invariant.used c.in_ok-after.ensures.used;
   device = c.in_ok-after.ensures.device;
 }

@@ -1,4 +1,4 @@
-use Rattle.std.proofs.Common.{◌≡◌, List, Vec, Global, length, map, vec_len, subst, arith}
+use Rattle.std.proofs.Common.{◌≡◌, Vec, Global, length, map, vec_len, subst, arith}
 use Rattle.std.specs.Prelude.{filter}
 use Rattle.dbuf_cells.specs.Turns.{dbuf_meanings}
 use Rattle.trace_text.specs.declared.reply.Reply.{Reply}

@@ -14,7 +14,7 @@ use Rattle.trace_run.proofs.callers.BesideLemmas.{fed-idle}
 use Rattle.trace_run.proofs.callers.EndLineLemmas.{IsUnused}
 use Rattle.trace_run.proofs.callers.GroupRunLemmas.{come-named, may-start}
 use Rattle.trace_run.proofs.callers.InUse.{tried-in-use}
-use Rattle.trace_run.proofs.callers.StepLemmas.{next-ended, next-forked, next-halted, next-last, next-may, next-number, next-sync, range-declared, range-group}
+use Rattle.trace_run.proofs.callers.StepLemmas.{next-ended, next-forked, next-halted, next-last, next-may, next-number, next-still, next-sync, range-declared, range-group}
 use Rattle.trace_run.proofs.groups.next_group.Goals as goal
 
 -- ---- the lines of the group
@@ -146,3 +146,29 @@ pub returns-in-Err-clause-used : goal.returns-in-Err-clause-used
 returns-in-Err-clause-used g c =
     let tried = c.lines_at_once.ensures.tried in
     tried-in-use dbuf_meanings g.D.CacheDev c.args.arcs.now _ c.args.device.now c.lines_at_once.new.device c.args.crew.feeder tried.0 tried.1
+
+-- ---- the pool, where no sync is asked for
+
+pub returns-in_ok-push-in-Ok-came-clause-still : goal.returns-in_ok-push-in-Ok-came-clause-still
+returns-in_ok-push-in-Ok-came-clause-still g c =
+    let unused : IsUnused g.P.Pool c.args.pool.now c.forks.new.pool = record { size = c.in-Ok.ensures.keeps.size; told = c.in-Ok.ensures.keeps.told; reads = c.in-Ok.ensures.unread; faults = c.in-Ok.ensures.unfailed } in
+    let here : slice_get c.as_slice-ops.result.now c.group_end-to.result ≡ Some c.in-Some.op.now = slice_get_read c.as_slice-ops.result.now _ c.group_end-to.result c.in-Some.op.now refl c.in-Some.ensures.lookup.3.0 c.in-Some.ensures.lookup.1 in
+    next-still g.P.Pool c.args.trace.now c.as_slice-ops.result.now c.as_slice-ops.ensures c.args.pool.now c.forks.new.pool c.lines_at_once.new.pool c.end_line.new.pool c.group_end-to.result c.in-Some.op.now here unused c.lines_at_once.ensures.pool c.in_ok-crew-2.ensures.still
+
+pub returns-in_err-push-in-Ok-came-clause-still : goal.returns-in_err-push-in-Ok-came-clause-still
+returns-in_err-push-in-Ok-came-clause-still g c =
+    let unused : IsUnused g.P.Pool c.args.pool.now c.forks.new.pool = record { size = c.in-Ok.ensures.keeps.size; told = c.in-Ok.ensures.keeps.told; reads = c.in-Ok.ensures.unread; faults = c.in-Ok.ensures.unfailed } in
+    let here : slice_get c.as_slice-ops.result.now c.group_end-to.result ≡ Some c.in-Some.op.now = slice_get_read c.as_slice-ops.result.now _ c.group_end-to.result c.in-Some.op.now refl c.in-Some.ensures.lookup.3.0 c.in-Some.ensures.lookup.1 in
+    next-still g.P.Pool c.args.trace.now c.as_slice-ops.result.now c.as_slice-ops.ensures c.args.pool.now c.forks.new.pool c.lines_at_once.new.pool c.end_line.new.pool c.group_end-to.result c.in-Some.op.now here unused c.lines_at_once.ensures.pool c.in_ok-crew-2.ensures.still
+
+pub returns-in-Err-clause-still : goal.returns-in-Err-clause-still
+returns-in-Err-clause-still g c =
+    let unused : IsUnused g.P.Pool c.args.pool.now c.forks.new.pool = record { size = c.in-Ok.ensures.keeps.size; told = c.in-Ok.ensures.keeps.told; reads = c.in-Ok.ensures.unread; faults = c.in-Ok.ensures.unfailed } in
+    let here : slice_get c.as_slice-ops.result.now c.group_end-to.result ≡ Some c.in-Some.op.now = slice_get_read c.as_slice-ops.result.now _ c.group_end-to.result c.in-Some.op.now refl c.in-Some.ensures.lookup.3.0 c.in-Some.ensures.lookup.1 in
+    next-still g.P.Pool c.args.trace.now c.as_slice-ops.result.now c.as_slice-ops.ensures c.args.pool.now c.forks.new.pool c.lines_at_once.new.pool c.end_line.new.pool c.group_end-to.result c.in-Some.op.now here unused c.lines_at_once.ensures.pool c.in_ok-crew-2.ensures.still
+
+pub returns-in_err-crew-2-clause-still : goal.returns-in_err-crew-2-clause-still
+returns-in_err-crew-2-clause-still g c =
+    let unused : IsUnused g.P.Pool c.args.pool.now c.forks.new.pool = record { size = c.in-Ok.ensures.keeps.size; told = c.in-Ok.ensures.keeps.told; reads = c.in-Ok.ensures.unread; faults = c.in-Ok.ensures.unfailed } in
+    let here : slice_get c.as_slice-ops.result.now c.group_end-to.result ≡ Some c.in-Some.op.now = slice_get_read c.as_slice-ops.result.now _ c.group_end-to.result c.in-Some.op.now refl c.in-Some.ensures.lookup.3.0 c.in-Some.ensures.lookup.1 in
+    next-still g.P.Pool c.args.trace.now c.as_slice-ops.result.now c.as_slice-ops.ensures c.args.pool.now c.forks.new.pool c.lines_at_once.new.pool c.end_line.new.pool c.group_end-to.result c.in-Some.op.now here unused c.lines_at_once.ensures.pool c.in_err-crew-2.ensures.still

@@ -1,17 +1,14 @@
-use Rattle.std.proofs.Common.{◌≡◌, List, refl, sym, ap, subst, inl, arith}
+use Rattle.std.proofs.Common.{◌≡◌, List, sym, ap, subst, arith}
 use Rattle.arc_core.specs.declared.served.Restored.{Restored}
 use Rattle.trace_run.specs.one_caller.Alone.{RanAlone, ends_in, histories_of}
 use Rattle.trace_run.specs.FeedSeries.{LeavesFed}
 use Rattle.trace_run.specs.Restores.{found_keys}
 use Rattle.trace_run.specs.Devices.{lent_in}
 use Rattle.trace_run.specs.one_caller.Lent.{ReadsAlone}
-use Rattle.trace_run.specs.callers.Beside.{WasInUse}
-use Rattle.trace_run.specs.callers.Group.{LeavesDeclared}
 use Rattle.trace_run.specs.callers.GroupRun.{RanTogether}
 use Rattle.trace_run.specs.Outcome.{HasRun}
 use Rattle.trace_run.specs.RunWork.{RunWork}
 use Rattle.trace_run.specs.callers.Together.{report_of_closed}
-use Rattle.trace_run.proofs.callers.InUse.{lent-in-use}
 use Rattle.trace_run.proofs.feeds.LeftLemmas.{unfed-left}
 use Rattle.trace_run.proofs.theorem.DeviceUsed.{leaves-declared, lent-only}
 use Rattle.trace_run.proofs.theorem.RanLemmas.{alone-has-run, together-has-run}
@@ -64,4 +61,16 @@ pub returns-in_err-reported-clause-pool : goal.returns-in_err-reported-clause-po
 returns-in_err-reported-clause-pool g c = elim c.if-trace-eq1.branch [
   | then-trace-eq1+in_ok-ran w ↦ rw w.pool-is (leaves-declared g.P.Pool c.args.trace.now.blocks c.args.pool.now w.run_alone.new.pool (let k = w.run_alone.ensures.pool in record { size = k.size; told = k.told; faults = omega (arith, k.faults) }))
   | else-trace-eq1+in_ok-ran-2 w ↦ rw w.pool-is w.run_together.ensures.pool
+]
+
+pub returns-clause-still : goal.returns-clause-still
+returns-clause-still g c = elim c.if-trace-eq1.branch [
+  | then-trace-eq1+in_ok-ran w ↦ rw w.pool-is (λ none. w.run_alone.ensures.pool.told)
+  | else-trace-eq1+in_ok-ran-2 w ↦ rw w.pool-is (λ none. (w.run_together.ensures.still none).told)
+]
+
+pub returns-in_err-reported-clause-still : goal.returns-in_err-reported-clause-still
+returns-in_err-reported-clause-still g c = elim c.if-trace-eq1.branch [
+  | then-trace-eq1+in_ok-ran w ↦ rw w.pool-is (λ none. w.run_alone.ensures.pool.told)
+  | else-trace-eq1+in_ok-ran-2 w ↦ rw w.pool-is (λ none. (w.run_together.ensures.still none).told)
 ]

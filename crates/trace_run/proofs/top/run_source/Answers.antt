@@ -7,7 +7,9 @@ use Rattle.trace_run.specs.DeviceUse.{WasUsed}
 use Rattle.trace_run.specs.Devices.{Finds, MayLose, cursor_in, device_of, lent_in, usable}
 use Rattle.trace_run.specs.declared.device.Device.{Device}
 use Rattle.trace_text.specs.declared.rebuilt.Rebuilt.{Rebuilt}
+use Rattle.arc_lists.proofs.Tables.{cases_true}
 use Rattle.trace_run.specs.FeedSeries.{WasFedFrom}
+use Rattle.trace_run.specs.Lines.{has_sync}
 use Rattle.trace_run.specs.Feeds.{IsOpenedAt, MayBeFed}
 use Rattle.trace_run.specs.Outcome.{HasRun}
 use Rattle.trace_run.specs.Restores.{found_keys}
@@ -58,7 +60,10 @@ returns-in-Ok-ran-clause-does g c =
       took = search rules;
       unrun = search rules;
       cache = subst (MayLose g.D.CacheDev c.args.cache.now) (sym c.back.ensures) (found-kept g.D.CacheDev c.args.cache.now begun c.run_trace-ran.new.device first c.in-Ok-begin.begun.rebuilt found lent);
-      told = inr (trace, c.in-Ok.ensures.read, subst (λ (t : Trace). LeavesDeclared g.P.Pool t.blocks c.args.pool.now c.run_trace-ran.new.pool) bounded c.run_trace-ran.ensures.pool);
+      told = elim (cases_true (has_sync trace.ops)) [
+        | inl asks ↦ inr (trace, c.in-Ok.ensures.read, asks, subst (λ (t : Trace). LeavesDeclared g.P.Pool t.blocks c.args.pool.now c.run_trace-ran.new.pool) bounded c.run_trace-ran.ensures.pool)
+        | inr none ↦ inl (c.run_trace-ran.ensures.still (ap (λ (t : Trace). has_sync t.ops) bounded ∙ none))
+      ];
       reported = reported-so g.P.Pool g.D.CacheDev _ _ _ told.report told.closed c.deliver.result.report c.deliver.result.closed c.deliver.ensures.same (record {
         trace = trace;
         read = c.in-Ok.ensures.read;
@@ -73,6 +78,29 @@ returns-in-Ok-ran-clause-does g c =
         told = c.deliver.ensures.full;
         whole = c.in-Ok-ran.ensures.whole;
       });
+      sink = search rules;
+      present = search rules;
+    }
+
+pub returns-in-Err-ran-clause-does : goal.returns-in-Err-ran-clause-does
+returns-in-Err-ran-clause-does g c =
+    let trace : Trace = c.in-Ok.trace in
+    let bounded : c.with_bound-trace.result ≡ with_bound trace (device_len g.D.CacheDev.size c.args.cache.now) = c.with_bound-trace.ensures.bounded ∙ ap (with_bound trace) c.device_len.ensures in
+    let begun : Device g.row.D.Denot = c.in-Ok-begin.begun.device in
+    let first = cursor_in begun in
+    let found : Finds g.D.CacheDev c.args.cache.now (device_of begun) first c.in-Ok-begin.begun.rebuilt =
+    subst (λ (o : Option g.row.D.Denot). Finds g.D.CacheDev o (device_of begun) first c.in-Ok-begin.begun.rebuilt) c.take.ensures.value c.in-Ok-begin.ensures.found in
+    let lent : WasInUse g.D.CacheDev begun c.run_trace-ran.new.device = c.run_trace-ran.ensures.device in
+    record {
+      source = search rules;
+      took = search rules;
+      unrun = search rules;
+      cache = subst (MayLose g.D.CacheDev c.args.cache.now) (sym c.back.ensures) (found-kept g.D.CacheDev c.args.cache.now begun c.run_trace-ran.new.device first c.in-Ok-begin.begun.rebuilt found lent);
+      told = elim (cases_true (has_sync trace.ops)) [
+        | inl asks ↦ inr (trace, c.in-Ok.ensures.read, asks, subst (λ (t : Trace). LeavesDeclared g.P.Pool t.blocks c.args.pool.now c.run_trace-ran.new.pool) bounded c.run_trace-ran.ensures.pool)
+        | inr none ↦ inl (c.run_trace-ran.ensures.still (ap (λ (t : Trace). has_sync t.ops) bounded ∙ none))
+      ];
+      reported = search rules;
       sink = search rules;
       present = search rules;
     }
