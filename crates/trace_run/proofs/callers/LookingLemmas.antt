@@ -89,8 +89,8 @@ module _ {C : Type 0} (g : Config) (valid : IsConfig g) (len : ℕ) (image : Opt
       → ((x : ℕ) (e : Line) → x < k → slice_get ms x ≡ Some e → ends_group e.op ≡ true → (slice_get ls x ≡ Some e) × (next x (cell_of g.cells at) ≡ level x (cell_of g.cells at)))
       → ((x : ℕ) (e : Line) → k < x → slice_get ms x ≡ Some e → ends_group e.op ≡ true
       → ((slice_get ls x ≡ Some e) × (next x (cell_of g.cells at) ≡ level x (cell_of g.cells at)))
-          ⊎ ((next x (cell_of g.cells at) ≡ front_of (cell_of g.cells at) q.own.seen)
-          × ((had : List Seen) → next x (cell_of g.cells at) ≡ had ++ lines_of_cell (cell_of g.cells at) e.work.noted → StartsWith had (front_of (cell_of g.cells at) p.own.seen))))
+      ⊎ ((next x (cell_of g.cells at) ≡ front_of (cell_of g.cells at) q.own.seen)
+      × ((had : List Seen) → next x (cell_of g.cells at) ≡ had ++ lines_of_cell (cell_of g.cells at) e.work.noted → StartsWith had (front_of (cell_of g.cells at) p.own.seen))))
       → LooksCut g len image place p.own.about.openings p.own.seen ls level k n at l → LooksCut g len image place q.own.about.openings q.own.seen ms next k n at l
   cut-on ls ms level next p q k n at l keeps earlier before later cut =
       let i : ℕ = cell_of g.cells at in
