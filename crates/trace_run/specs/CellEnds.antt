@@ -29,7 +29,7 @@ use Rattle.trace_text.specs.declared.trace.Trace.{Trace}
 use Rattle.trace_run.specs.Deeds.{HasToldOthers, Noted, acts_of_events, events_of_cell, events_there}
 use Rattle.trace_run.specs.KeptBlocks.{Stands}
 use Rattle.trace_run.specs.Making.{AreEventsSeen, AreNoEntries}
-use Rattle.trace_run.specs.Meeting.{HasSettled, HaveParted, IsLevel}
+use Rattle.trace_run.specs.Meeting.{HasSettled, HaveParted, IsLevel, SeesEntries}
 use Rattle.trace_run.specs.Openings.{Knows, opening_map}
 
 -- the entry that the number n makes of each cell at the end
@@ -97,6 +97,7 @@ pub record EndedCells (cache : Cache) (p : PartyPlace) (olds : List PartyPlace) 
   pub grows : (i : ℕ) → IsCell cache.config i → StartsWith (front_of i q.own.seen) (front_of i p.own.seen)
   pub same : (before : ℕ → List Line) → IsLevel cache.config before p → AllByRecursion (IsLevel cache.config before) olds
       → (shard : ℕ) → events_in (lines shard) ≡ events_in (before shard) ++ events_there cache.config shard drops
+  pub same_cells : (entries : ℕ → List Line) → SeesEntries cache.config entries p → AllByRecursion (SeesEntries cache.config entries) olds → (i : ℕ) → IsCell cache.config i → front_of i q.own.seen ≡ entries i ++ end_entry p.number i
   -- where one other party has seen all that both made, it is what that one had seen
   pub one : (o : PartyPlace) → olds ≡ o ∷ [] → AreEventsSeen cache.config p.number p.own.mine o.own.seen
       → (shard : ℕ) → seen_of cache.config shard q ≡ seen_of cache.config shard o ++ events_there cache.config shard drops

@@ -80,6 +80,10 @@ module _ {C : Type 0} where
   abbrev pub IsLevel : Config → (ℕ → List Line) → Place (Known C) → Type 0
   IsLevel g lines p = (shard : ℕ) → front_of (turn_of g shard) p.own.seen ≡ lines shard
 
+  -- these entries of each cell are what the party has seen
+  abbrev pub SeesEntries : Config → (ℕ → List Line) → Place (Known C) → Type 0
+  SeesEntries g entries p = (i : ℕ) → IsCell g i → front_of i p.own.seen ≡ entries i
+
   -- A party that stands by itself with these kept reads, and has done these acts, and this to cells.
   pub record Waits (cache : Cache) (n : ℕ) (acts : List Act) (noted : List Noted) (kept : List KeptBlock) (p : Place (Known C)) : Type 0 where
     pub number : p.number ≡ n
@@ -161,6 +165,8 @@ module _ {C : Type 0} where
     pub fed : (openings : List (List ℕ)) (fed since : (shard : ℕ) → List Event) (acts : List Act) (noted : List Noted) → kept ≡ [] → IsFed cache openings fed since acts noted p → IsFed cache openings fed since acts noted last
     pub drops : (before : ℕ → List Line) → IsLevel cache.config before p → AllByRecursion (IsLevel cache.config before) others
         → (shard : ℕ) → events_in (lines shard) ≡ events_in (before shard) ++ events_of_drops p.number (holds_in cache.config shard (map read_of kept))
+    -- and of cells they have seen no more than before, where all had seen the same
+    pub same_cells : (entries : ℕ → List Line) → SeesEntries cache.config entries p → AllByRecursion (SeesEntries cache.config entries) others → AllByRecursion (SeesEntries cache.config entries) news
 
 module _ {C : Type 0} where
   -- a party that keeps these reads, and all other parties, each by itself
@@ -215,6 +221,9 @@ module _ {C : Type 0} where
     pub lines : ℕ → List Line
     pub level : AllByRecursion (IsLevel cache.config lines) ps
     pub drops : (shard : ℕ) → events_in (lines shard) ≡ first shard ++ drops_from cache.config shard 0 kept
+    -- where all had seen the same, it is that
+    pub same : (before : ℕ → List Line) → IsLevel cache.config before old → AllByRecursion (IsLevel cache.config before) olds → (shard : ℕ) → first shard ≡ events_in (before shard)
+    pub same_cells : (entries : ℕ → List Line) → SeesEntries cache.config entries old → AllByRecursion (SeesEntries cache.config entries) olds → AllByRecursion (SeesEntries cache.config entries) ps
 
 -- ---- what the feeder does while all callers have joined it
 
@@ -254,6 +263,7 @@ module _ {C : Type 0} where
     pub one : (o : Place (Known C)) → olds ≡ o ∷ [] → AreEventsSeen cache.config p.number p.own.mine o.own.seen → (shard : ℕ) → front shard ≡ seen_of cache.config shard o
     -- where all had seen the same, it is that
     pub same : (before : ℕ → List Line) → IsLevel cache.config before p → AllByRecursion (IsLevel cache.config before) olds → (shard : ℕ) → front shard ≡ events_in (before shard)
+    pub same_cells : (entries : ℕ → List Line) → SeesEntries cache.config entries p → AllByRecursion (SeesEntries cache.config entries) olds → AllByRecursion (SeesEntries cache.config entries) (q ∷ news)
 
   -- the feeder gave every shard this capacity
   abbrev pub Resized : Cache → (c : ℕ) → Place (Known C) → List (Place (Known C)) → Place (Known C) → List (Place (Known C)) → Type 0

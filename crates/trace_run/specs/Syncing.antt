@@ -34,7 +34,7 @@ use Rattle.trace_run.specs.Deeds.{HasToldOthers, Noted, acts_of_events, events_o
 use Rattle.trace_run.specs.KeptBlocks.{Stands}
 use Rattle.trace_run.specs.MadeLines.{made_of}
 use Rattle.trace_run.specs.Making.{AreEventsSeen, AreNoEntries}
-use Rattle.trace_run.specs.Meeting.{HasSettled, HaveMet, HaveParted, IsLevel}
+use Rattle.trace_run.specs.Meeting.{HasSettled, HaveMet, HaveParted, IsLevel, SeesEntries}
 
 -- the event that takes a block in, under its cell's number
 abbrev pub insert_of : Config → (tick : ℕ) → SyncItem → Event
@@ -108,6 +108,7 @@ pub record SyncsJoined (cache : Cache) (tick : ℕ) (p : PartyPlace) (olds : Lis
   pub one : (o : PartyPlace) → olds ≡ o ∷ [] → AreEventsSeen cache.config p.number p.own.mine o.own.seen → (shard : ℕ) → front shard ≡ seen_of cache.config shard o
   -- where all had seen the same, it is that
   pub same : (before : ℕ → List Line) → IsLevel cache.config before p → AllByRecursion (IsLevel cache.config before) olds → (shard : ℕ) → front shard ≡ events_in (before shard)
+  pub same_cells : (entries : ℕ → List Line) → SeesEntries cache.config entries p → AllByRecursion (SeesEntries cache.config entries) olds → (i : ℕ) (c : OnHeap) → slice_get cells i ≡ Some c → lines_of c.value.history ≡ entries i
   pub count : length cells ≡ cache.config.cells
   pub sound : (i : ℕ) (c : OnHeap) → slice_get cells i ≡ Some c → IsSound c.value
   pub began : (i : ℕ) (c : OnHeap) → slice_get cells i ≡ Some c → opening_numbers c.value.limit c.value.opening ≡ slice_index_or p.own.about.openings i []

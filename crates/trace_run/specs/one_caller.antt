@@ -5,6 +5,6 @@ pub mod InTurn
 pub mod Lent
 pub mod OneCaller
 pub mod OverShards
-pub mod PlainObjects
 pub mod PlainReport
 pub mod PlainRun
+pub mod Sequence

@@ -13,6 +13,7 @@ use Rattle.arc_core.specs.Operations.{Act}
 use Rattle.arc_table.specs.declared.view.Line.{Line as Seen}
 use Rattle.arc_table.specs.Geometry.{cell_number}
 use Rattle.arc_table.specs.Reading.{KeepsDevice, Outside}
+use Rattle.arc_table.specs.Seen.{HasAll}
 use Rattle.dbuf_cells.specs.Places.{cell_of}
 use Rattle.dbuf_cells.specs.Turns.{PartyPlace, OnHeap}
 use Rattle.dbuf_state.specs.declared.oid.Oid.{Oid}
@@ -26,10 +27,13 @@ use Rattle.trace_run.specs.Deeds.{HasToldAll, KeepsCells, Noted}
 use Rattle.trace_run.specs.Effects.{Effect, Answered, calls_of, effect_of}
 use Rattle.trace_run.specs.KeptReads.{KeptRead}
 use Rattle.trace_run.specs.DeviceReads.{AsksFor, LineAsks, size_asked}
+use Rattle.trace_run.specs.Lines.{shard_of_line}
 use Rattle.trace_run.specs.ObjectLines.{DidObjectLine, OnObject, on_object}
 use Rattle.trace_run.specs.ObjectReplies.{AnswersFrom, LooksFrom}
 use Rattle.trace_run.specs.Objects.{Brought, GoesTogether, Line, Loaded, NotesNothing, NotesOwn, Nothing, OwnEvent, Refused, Work, acts_of_bringing, no_work, own_event}
+use Rattle.trace_run.specs.one_caller.Asking.{AsksLine}
 use Rattle.trace_run.specs.one_caller.OneCaller.{kept_after}
+use Rattle.trace_run.specs.Reads.{now_of}
 use Rattle.trace_run.specs.Tally.{AnswersNow}
 
 -- what a reply says was done, where this was brought for its line: a block that was brought was read, whatever the line did with it then
@@ -133,11 +137,12 @@ pub record AtWork (P D : Type 0) : Type 0 where
   pub outside : Outside P D
 
 module _ {P D : Type 0} (pools : PoolGhosts P) (devices : DeviceGhosts D) (g : Config) (blocks : List Ptr) where
-  -- a line on no object is as before, and one on an object keeps no read
+  -- A line on no object is as before, and what a party that has every number asked the device for follows from the shard. One on an object keeps no read.
   abbrev pub DidLineBy : Option OnObject → Line → (old new : AtWork P D) → Type 0
   DidLineBy None l old new = (l.work ≡ no_work)
       × DidLine g pools blocks l.op l.reply (at old.party old.kept old.outside.pool) (at new.party new.kept new.outside.pool)
       × LineAsks devices blocks l.op l.reply old.outside.device new.outside.device
+      × (HasAll old.party → (calls : List Call) × AsksLine devices blocks (now_of g (shard_of_line g.shards blocks l.op) old.party) l.op l.reply calls old.outside.device new.outside.device)
   DidLineBy (Some on) l old new = (new.kept ≡ old.kept) × DidWorkLine pools devices g blocks old.kept old.outside new.outside old.party new.party l
 
   -- the operation was answered so, with some work beside its reply
