@@ -5,4 +5,5 @@ pub mod LeftLemmas
 pub mod PickedLemmas
 pub mod SeriesLemmas
 pub mod StartLemmas
+pub mod TurnFeeds
 pub mod UsedLemmas

@@ -50,6 +50,15 @@ none-cut k at = let inside = slice_get_within {A = AnsweredLine} [] k _ at in ab
 
 -- ---- a new crew
 
+-- what is so of each party that has done nothing yet
+pub all-opened : {C : Type 0} (cache : Cache) (whole : List (Place (Known C))) (crew : Crew C) → AreOpened cache whole → whole ≡ crew.parties.items ++ crew.feeder ∷ [] → (P : Place (Known C) → Type 0) → ((n : ℕ) (p : Place (Known C)) → IsOpened cache n p → P p)
+    → AllByRecursion P crew.parties.items × P crew.feeder
+all-opened {C} cache whole crew opened is P so = from crew.parties.items crew.feeder (λ n p at. (n, opened.each n p (ap (λ (l : List (Place (Known C))). get_elem? l n) is ∙ at)))
+  where
+    from : (ps : List (Place (Known C))) (p : Place (Known C)) → ((n : ℕ) (x : Place (Known C)) → get_elem? (ps ++ p ∷ []) n ≡ some x → (m : ℕ) × IsOpened cache m x) → AllByRecursion P ps × P p
+    from [] p each = let h = each 0 p refl in (tt, so h.0 p h.1)
+    from (x ∷ ps) p each = let h = each 0 x refl in let rest = from ps p (λ n y at. each (suc n) y at) in ((so h.0 x h.1, rest.0), rest.1)
+
 module _ {C : Type 0} (cache : Cache) (whole : List (Place (Known C))) (crew : Crew C) (opened : AreOpened cache whole) (is : whole ≡ crew.parties.items ++ crew.feeder ∷ []) (none : KeepNothing crew.kept.items) (count : length crew.kept.items ≡ length crew.parties.items) where
   opened-at : (n : ℕ) (p : Place (Known C)) → get_elem? (crew.parties.items ++ crew.feeder ∷ []) n ≡ some p → IsOpened cache n p
   opened-at n p at = opened.each n p (ap (λ (l : List (Place (Known C))). get_elem? l n) is ∙ at)
@@ -141,16 +150,8 @@ module _ {C : Type 0} (cache : Cache) (restored : List Restored) (len : ℕ) (im
     (is : whole ≡ old.parties.items ++ old.feeder ∷ []) (before : HaveCome cache [] len image place blocks [] [] (plain_work [] []) old)
     (made : MadeJoined cache (restores_in cache.config restored) old.feeder old.parties.items new.feeder new.parties.items) (kept : new.kept.items ≡ old.kept.items) where
   -- nobody had seen anything
-  nothing-seen : (p : Place (Known C)) (n : ℕ) → IsOpened cache n p → IsLevel cache.config (λ shard. []) p
-  nothing-seen p n new_one shard = ap (front_of (turn_of cache.config shard)) new_one.new.seen
-
-  level-from : (ps : List (Place (Known C))) (p : Place (Known C)) → ((n : ℕ) (x : Place (Known C)) → get_elem? (ps ++ p ∷ []) n ≡ some x → (m : ℕ) × IsOpened cache m x)
-      → AllByRecursion (IsLevel cache.config (λ shard. [])) ps × IsLevel cache.config (λ shard. []) p
-  level-from [] p each = let h = each 0 p refl in (tt, nothing-seen p h.0 h.1)
-  level-from (x ∷ ps) p each = let h = each 0 x refl in let rest = level-from ps p (λ n y at. each (suc n) y at) in ((nothing-seen x h.0 h.1, rest.0), rest.1)
-
   all-level : AllByRecursion (IsLevel cache.config (λ shard. [])) old.parties.items × IsLevel cache.config (λ shard. []) old.feeder
-  all-level = level-from old.parties.items old.feeder (λ n x at. (n, opened.each n x (ap (λ (l : List (Place (Known C))). get_elem? l n) is ∙ at)))
+  all-level = all-opened cache whole old opened is (IsLevel cache.config (λ shard. [])) (λ n p new_one shard. ap (front_of (turn_of cache.config shard)) new_one.new.seen)
 
   -- so they have seen the restores, and nothing else
   pub restores-seen : (shard : ℕ) → seen_of cache.config shard new.feeder ≡ restores_in cache.config restored shard

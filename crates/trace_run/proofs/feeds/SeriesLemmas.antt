@@ -44,11 +44,13 @@ use Rattle.l2_feed.specs.Shape.{AreFed, FedShard, IsUnwritten, IsWritten}
 use Rattle.l2_feed.proofs.Between.{places_go}
 use Rattle.l2_feed.proofs.Ends.{done_is_whole, newest_stay, takes_few_laps}
 use Rattle.l2_feed.proofs.InTurn.{crashes_restore, feeds_keep, lent_keep, restored_newest}
+use Rattle.trace_text.specs.declared.op.Op.{Op}
+use Rattle.trace_text.specs.declared.reply.Reply.{Reply}
 use Rattle.trace_run.specs.declared.device.Device.{Device}
 use Rattle.trace_run.specs.declared.device.Device.TheVariants as device
-use Rattle.trace_run.specs.Devices.{WasLent as WasLentOut, WasOnlyRead}
+use Rattle.trace_run.specs.Devices.{WasLent as WasLentOut, WasOnlyRead, lent_in}
 use Rattle.trace_run.specs.FeedSeries.{AreAllDone, AreInTurn, AreInTurnOf, AreMadeSoFar, GoOn, LeavesFed, SeesMore, StandsBetween, WasFed, WasMade, reports_of}
-use Rattle.trace_run.specs.Feeds.{FeedDone, MadeFeeds, MadeFeedsOf}
+use Rattle.trace_run.specs.Feeds.{AreFedReplies, FeedDone, MadeFeeds, MadeFeedsOf}
 use Rattle.trace_run.specs.KeptBlocks.{Stands}
 use Rattle.trace_run.specs.Restores.{restores_in}
 use Rattle.trace_run.specs.callers.Beside.{LendsAndFeeds}
@@ -137,6 +139,19 @@ module _ {C D : Type 0} (m : Meanings C) (devices : Ghosts D) (cache : Cache) wh
       (turn-feeds (fs ++ f ∷ []) gs a made.0 c x f.after z p made.1 r still.stands
       (turn-feed fs f a b made.0 x p q made.1 (subst (λ (s : CursorState). AreInTurn m devices cache fs a b x s p q) (sym made.2) turn) was) made.4)
 
+  -- one more, behind which the feeder has seen what it had and maybe more
+  turn-one : (fs gs : List FeedDone) (a b c : D) (x y z : CursorState) (p q r : Place (Known C)) → length gs ≡ 1 → ((shard : ℕ) → shard < cache.config.shards → StartsWith (seen_of cache.config shard r) (seen_of cache.config shard q)) → AreInTurn m devices cache fs a b x y p q
+      → MadeFeeds m devices cache gs b c y z q r → AreInTurn m devices cache (fs ++ gs) a c x z p r
+  turn-one fs [] a b c x y z p q r one starts turn made = absurd (omega (arith, one))
+  turn-one fs (f ∷ g ∷ gs) a b c x y z p q r one starts turn made = absurd (omega (arith, one))
+  turn-one fs (f ∷ []) a b c x y z p q r one starts turn (to, s, same, made, rest) =
+      let was : WasMade m devices cache f b to q s = record {
+        made = made;
+        starts = λ shard below. subst (λ (t : Place (Known C)). StartsWith (seen_of cache.config shard t) (seen_of cache.config shard q)) rest.2 (starts shard below);
+      } in
+      subst (λ (t : D × CursorState × Place (Known C)). AreInTurn m devices cache (fs ++ f ∷ []) a t.0 x t.1 p t.2) (λ i. (sym rest.0 i, sym rest.1 i, sym rest.2 i))
+      (turn-feed fs f a b to x p q s (subst (λ (t : CursorState). AreInTurn m devices cache fs a b x t p q) (sym same) turn) was)
+
   -- ---- the device of a run
 
   moved : (fs : List FeedDone) (a b : Device D) (p q r : Place (Known C)) → AreInTurnOf m devices cache fs a b p q → ((shard : ℕ) → shard < cache.config.shards → SeesMore cache.config (seen_of cache.config shard q) (seen_of cache.config shard r)) → AreInTurnOf m devices cache fs a b p r
@@ -190,6 +205,24 @@ module _ {C D : Type 0} (m : Meanings C) (devices : Ghosts D) (cache : Cache) wh
   fed-on fs gs (device.Ready a) device.None c p q r stands turn made = absurd turn
   fed-on fs gs (device.Ready a) (device.Short b) c p q r stands turn made = absurd turn
 
+  one-on : (fs gs : List FeedDone) (a b c : Device D) (p q r : Place (Known C)) (line : Op) (rs : List Reply) → AreFedReplies (lent_in b) (line ∷ []) gs rs → ((shard : ℕ) → shard < cache.config.shards → StartsWith (seen_of cache.config shard r) (seen_of cache.config shard q))
+      → AreInTurnOf m devices cache fs a b p q → MadeFeedsOf m devices cache gs b c q r → AreInTurnOf m devices cache (fs ++ gs) a c p r
+  one-on fs gs device.None device.None device.None p q r line rs answered starts turn made = no-more fs gs turn made.0
+  one-on fs gs (device.Short a) (device.Short b) (device.Short c) p q r line rs answered starts turn made = no-more fs gs turn made.0
+  one-on fs gs (device.Ready a) (device.Ready b) (device.Ready c) p q r line rs answered starts turn made = turn-one fs gs a.dev b.dev c.dev a.cursor b.cursor c.cursor p q r answered.0 starts turn made.1
+  one-on fs gs device.None device.None (device.Short c) p q r line rs answered starts turn made = absurd made
+  one-on fs gs device.None device.None (device.Ready c) p q r line rs answered starts turn made = absurd made
+  one-on fs gs (device.Short a) (device.Short b) device.None p q r line rs answered starts turn made = absurd made
+  one-on fs gs (device.Short a) (device.Short b) (device.Ready c) p q r line rs answered starts turn made = absurd made
+  one-on fs gs (device.Ready a) (device.Ready b) device.None p q r line rs answered starts turn made = absurd made
+  one-on fs gs (device.Ready a) (device.Ready b) (device.Short c) p q r line rs answered starts turn made = absurd made
+  one-on fs gs device.None (device.Short b) c p q r line rs answered starts turn made = absurd turn
+  one-on fs gs device.None (device.Ready b) c p q r line rs answered starts turn made = absurd turn
+  one-on fs gs (device.Short a) device.None c p q r line rs answered starts turn made = absurd turn
+  one-on fs gs (device.Short a) (device.Ready b) c p q r line rs answered starts turn made = absurd turn
+  one-on fs gs (device.Ready a) device.None c p q r line rs answered starts turn made = absurd turn
+  one-on fs gs (device.Ready a) (device.Short b) c p q r line rs answered starts turn made = absurd turn
+
   -- before the first group
   pub none-so-far : (restored : List Restored) (a : Device D) (p : Place (Known C)) → ((shard : ℕ) → seen_of cache.config shard p ≡ restores_in cache.config restored shard) → AreMadeSoFar m devices cache restored [] a a p
   none-so-far restored device.None p begun = record { first = p; begun = begun; turn = refl }
@@ -203,6 +236,11 @@ module _ {C D : Type 0} (m : Meanings C) (devices : Ghosts D) (cache : Cache) wh
     begun = so_far.begun;
     turn = lent-on (fs ++ gs) a used.later c so_far.first q (fed-on fs gs a used.lent used.later so_far.first p q stands (lent-on fs a b used.lent so_far.first p so_far.turn used.gave) used.made) used.took;
   }
+
+  -- one line more that asks for a feed, and was answered so
+  pub one-so-far : (restored : List Restored) (fs gs : List FeedDone) (a b c : Device D) (p q : Place (Known C)) (line : Op) (rs : List Reply) → AreFedReplies (lent_in b) (line ∷ []) gs rs
+      → ((shard : ℕ) → shard < cache.config.shards → StartsWith (seen_of cache.config shard q) (seen_of cache.config shard p)) → MadeFeedsOf m devices cache gs b c p q → AreMadeSoFar m devices cache restored fs a b p → AreMadeSoFar m devices cache restored (fs ++ gs) a c q
+  one-so-far restored fs gs a b c p q line rs answered starts made so_far = record { first = so_far.first; begun = so_far.begun; turn = one-on fs gs a b c so_far.first p q line rs answered starts so_far.turn made }
 
   -- what the feeder does, or learns, behind a group
   pub moved-so-far : (restored : List Restored) (fs : List FeedDone) (a b : Device D) (p q : Place (Known C)) → AreMadeSoFar m devices cache restored fs a b p

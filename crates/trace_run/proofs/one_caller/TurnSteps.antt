@@ -1,19 +1,16 @@
 -- One caller, one step more: its own lines up to one that is no caller's, or that one.
-use Rattle.std.proofs.Common.{◌≡◌, ◌≢◌, ◌⊎◌, ℕ, zero, suc, ◌+◌, ◌%◌, ◌^◌, ◌<◌, ◌≤◌, Bool, true, false, Option, List, [], ◌∷◌, ◌++◌, Some, None, Result, Ok, Err, length, map, take, drop, refl, sym, ap, ◌∙◌, subst, arith, append_assoc, append-nil, length-append, inl, inr}
+use Rattle.std.proofs.Common.{◌≡◌, ◌≢◌, ℕ, zero, suc, ◌+◌, ◌^◌, ◌<◌, ◌≤◌, true, false, Option, List, [], ◌∷◌, ◌++◌, Some, None, Result, Ok, Err, length, take, drop, refl, sym, ap, ◌∙◌, subst, arith, append-nil, length-append, inl, inr}
 use Rattle.std.specs.Prelude.{count_by, filter, slice_get, slice_range}
 use Rattle.std.specs.List.{AllByRecursion}
-use Rattle.std.specs.Option.{option_map}
 use Rattle.std.proofs.lemmas.Bool.{false≢true}
 use Rattle.std.proofs.lemmas.Option.{get_or_from_slice_get, slice_get_within}
 use Rattle.std.proofs.Math.Seq.{take-add, take-suc}
 use mathlib.Core.Option.{some}
 use lib.ListN.{get_elem?}
-use Rattle.blk_ptr.specs.declared.ptr.Ptr.{Ptr}
 use Rattle.arc_core.specs.declared.config.Config.{Config}
 use Rattle.arc_core.specs.declared.served.Restored.{Restored}
 use Rattle.arc_table.specs.Cache.{Cache}
-use Rattle.arc_table.specs.Fronts.{StartsWith, front_of}
-use Rattle.arc_table.specs.Geometry.{IsCell, parties_of}
+use Rattle.arc_table.specs.Geometry.{parties_of}
 use Rattle.arc_table.specs.Seen.{seen_of}
 use Rattle.arc_table.specs.declared.about.About.{About}
 use Rattle.dbuf_cells.specs.Turns.{OnHeap, PartyPlace, dbuf_meanings}
@@ -22,7 +19,7 @@ use Rattle.trace_text.specs.declared.op.Op.{Op}
 use Rattle.trace_text.specs.declared.op.Op.TheVariants as ops
 use Rattle.trace_text.specs.declared.reply.Reply.{Reply}
 use Rattle.trace_text.specs.declared.trace.Trace.{Trace}
-use Rattle.vdev_io.specs.Calls.{KeepsPool, MakesCalls}
+use Rattle.vdev_io.specs.Calls.{KeepsPool}
 use Rattle.vdev_io.specs.Faults.{last_count}
 use Rattle.vdev_io.specs.declared.device.CacheDev.{Ghosts as Devices}
 use Rattle.vdev_io.specs.declared.pool.Pool.{Ghosts}
@@ -40,39 +37,41 @@ use Rattle.arc_core.specs.Operations.{Act}
 use Rattle.trace_run.specs.Deeds.{Noted}
 use Rattle.trace_run.specs.Devices.{IsHandedBack, WasLent, lent_in}
 use Rattle.trace_run.specs.Meeting.{MayGoOn, Waits}
+use Rattle.trace_run.specs.FeedEvents.{AreFeedsTold, is_fed}
 use Rattle.trace_run.specs.FeedSeries.{AreMadeSoFar}
-use Rattle.trace_run.specs.Feeds.{AreFedReplies, AsksOfFeeds, DoesFeeds, FeedDone, IsIdleFeeder, MadeFeedsOf, is_feed}
+use Rattle.trace_run.specs.Feeds.{AreFedReplies, FeedDone, IsIdleFeeder, MadeFeedsOf, is_feed}
 use Rattle.trace_run.specs.Lines.{caller_of, is_of_caller, replies_where}
-use Rattle.trace_run.specs.Objects.{Line, Work, no_work, ops_of, replies_of}
-use Rattle.trace_run.specs.Openings.{Knows, openings_of}
-use Rattle.trace_run.specs.RunWork.{AllFit, FitsBy, RunWork, lines_of_caller, plain_work}
-use Rattle.trace_run.specs.callers.Beside.{FeedsBeside}
-use Rattle.trace_run.specs.callers.Group.{AllWorked, LeavesFront, LeavesPool, WorkedAt}
-use Rattle.trace_run.specs.callers.Groups.{AreBetween, DidEndLine, DidLines, HaveCome, HaveCounted, HaveReached, MaySync, StoodSo, goes_on}
+use Rattle.trace_run.specs.Objects.{Line, no_work, ops_of, replies_of}
+use Rattle.trace_run.specs.Openings.{AllKnow, openings_of}
+use Rattle.trace_run.specs.RunWork.{AllFit, FitsBy, RunWork, lines_of_caller}
+use Rattle.trace_run.specs.callers.Group.{AllWorked, LeavesPool, WorkedAt}
+use Rattle.trace_run.specs.callers.Groups.{AreEndLines, DidEndLine, HaveCome, HaveCounted, HaveReached, MaySync, goes_on}
 use Rattle.trace_run.specs.callers.InOrder.{AreInGroup}
-use Rattle.trace_run.specs.callers.Together.{BetweenGroups, EndsBy, IsCutLast, OfCells, between_groups, ends_group, over_callers}
-use Rattle.trace_run.specs.callers.WorkLines.{AreLinesOf, HasFront, IsWorkOf, calls_of_lines}
-use Rattle.trace_run.specs.one_caller.InTurn.{AreDoneInTurn, AreInTurn, AreOwn, DidOtherLine, DidOwnLines, FeederSteps, FeederUses, LineSteps, LineUses, StepsInTurn, UsedInTurn, WorkInTurn}
-use Rattle.trace_run.proofs.DeviceLemmas.{lent-same}
+use Rattle.trace_run.specs.callers.Together.{BetweenGroups, IsCutLast, between_groups, over_callers}
+use Rattle.trace_run.specs.callers.WorkLines.{AreLinesOf, IsWorkOf, calls_of_lines}
+use Rattle.trace_run.specs.one_caller.InTurn.{AreDoneInTurn, AreInTurn, AreOwn, DidFeed, DidOtherLine, DidOwnLines, GoInSequence, IsOfTrace, StandAt, StepsInTurn}
+use Rattle.trace_run.specs.one_caller.Sequence.{AreInSequence, Sequence, begins_so}
 use Rattle.trace_run.proofs.RunLemmas.{calls-faults, calls-reads}
 use Rattle.trace_run.proofs.callers.BesideLemmas.{fed-idle}
 use Rattle.trace_run.proofs.callers.EndLineLemmas.{Halted, Turned, end-halted, end-turned}
 use Rattle.trace_run.proofs.callers.EndedLemmas.{asked-gives, have-come-ended, have-come-stopped, made-sees, stopped-cut, with_end, with_stop}
 use Rattle.trace_run.proofs.callers.GroupCounts.{over-zero}
 use Rattle.trace_run.proofs.callers.GroupRunLemmas.{all-callers, may-resize}
-use Rattle.trace_run.proofs.callers.FrontLemmas.{front-before, front-same, pool-front}
+use Rattle.trace_run.proofs.callers.FrontLemmas.{front-before, pool-front}
 use Rattle.trace_run.proofs.callers.LineLists.{all-inside, calls-few, ends-nobody, lines-failed, lines-long, nobody-callers}
-use Rattle.trace_run.proofs.callers.GroupsLemmas.{parted-length}
+use Rattle.trace_run.proofs.callers.GroupsLemmas.{parted-at, parted-length}
 use Rattle.trace_run.proofs.callers.LookedLemmas.{answered-looked, lines-looked, stopped-looked}
-use Rattle.trace_run.proofs.callers.MoreLemmas.{fed-about, have-come-more, with_lines}
+use Rattle.trace_run.proofs.callers.MeetLemmas.{parted-waits}
+use Rattle.trace_run.proofs.callers.MoreLemmas.{have-come-by, with_lines}
 use Rattle.trace_run.proofs.callers.StepLemmas.{asked, counted-more, failed, range-at, told-of}
-use Rattle.trace_run.proofs.feeds.FedLemmas.{asks-of, fed-beside, ops-are}
-use Rattle.trace_run.proofs.feeds.FeedLemmas.{made-none}
-use Rattle.trace_run.proofs.feeds.SeriesLemmas.{group-so-far, moved-so-far}
-use Rattle.trace_run.proofs.one_caller.OwnLines.{own-whole}
-use Rattle.trace_run.proofs.one_caller.TurnLists.{AreMine, own-turn, own-uses, turn-append, turn-as, uses-append}
+use Rattle.trace_run.proofs.feeds.FedLemmas.{HasFedMore, group-ends, made-shaped, ops-are, replies-told}
+use Rattle.trace_run.proofs.feeds.SeriesLemmas.{moved-so-far}
+use Rattle.trace_run.proofs.feeds.TurnFeeds.{joined-more, joined-so-far, parted-more, parted-so-far}
+use Rattle.trace_run.proofs.one_caller.SequenceEnds.{halted-goes, turned-goes}
+use Rattle.trace_run.proofs.one_caller.TurnBegins.{parted-know}
+use Rattle.trace_run.proofs.one_caller.TurnLists.{AreMine, sequence-append}
 use Rattle.trace_run.proofs.theorem.DeviceUsed.{back-same, back-then, lent-only}
-use Rattle.trace_run.proofs.syncs.SyncTurned.{AreToldOf, stood-more}
+use Rattle.trace_run.proofs.syncs.SyncTurned.{AreToldOf}
 
 -- ---- lines of the one caller
 
@@ -148,33 +147,6 @@ ok-same a b is = cc
 ok-err : (a : Reply) (e : Ending) → ◌≡◌ {A = Result Reply Ending} (Ok a) (Err e) → ⊥
 ok-err a e is = cc
 
--- a line that ends a group
-ends-steps : {P : Type 0} (pools : Ghosts P) (config : Config) (Cells : OfCells) (before : List Line) (op : Op) (reply : Reply) (work : Work) (from to : BetweenGroups P) → EndsBy pools config Cells before op reply work from to → FeederSteps pools config Cells before op reply work from to
-ends-steps pools config Cells before (ops.Txg t) reply work from to s = s
-ends-steps pools config Cells before (ops.Cap c) reply work from to s = s
-ends-steps pools config Cells before ops.Feed reply work from to never = absurd never
-ends-steps pools config Cells before (ops.Read n t x window) reply work from to never = absurd never
-ends-steps pools config Cells before (ops.Hold n t x) reply work from to never = absurd never
-ends-steps pools config Cells before (ops.Drop n x) reply work from to never = absurd never
-ends-steps pools config Cells before (ops.Get n t at window) reply work from to never = absurd never
-ends-steps pools config Cells before (ops.Put n t at size fill) reply work from to never = absurd never
-ends-steps pools config Cells before (ops.Patch n t at start bytes) reply work from to never = absurd never
-ends-steps pools config Cells before (ops.Pin n t at) reply work from to never = absurd never
-ends-steps pools config Cells before (ops.Unpin n at) reply work from to never = absurd never
-
-ends-uses : {D : Type 0} (devices : Devices D) (blocks : List Ptr) (op : Op) (reply : Reply) (a : Option D) → ends_group op ≡ true → FeederUses devices blocks op reply [] a a
-ends-uses devices blocks (ops.Txg t) reply a ends = (refl, refl)
-ends-uses devices blocks (ops.Cap c) reply a ends = (refl, refl)
-ends-uses devices blocks ops.Feed reply a ends = absurd (false≢true ends)
-ends-uses devices blocks (ops.Read n t x window) reply a ends = absurd (false≢true ends)
-ends-uses devices blocks (ops.Hold n t x) reply a ends = absurd (false≢true ends)
-ends-uses devices blocks (ops.Drop n x) reply a ends = absurd (false≢true ends)
-ends-uses devices blocks (ops.Get n t at window) reply a ends = absurd (false≢true ends)
-ends-uses devices blocks (ops.Put n t at size fill) reply a ends = absurd (false≢true ends)
-ends-uses devices blocks (ops.Patch n t at start bytes) reply a ends = absurd (false≢true ends)
-ends-uses devices blocks (ops.Pin n t at) reply a ends = absurd (false≢true ends)
-ends-uses devices blocks (ops.Unpin n at) reply a ends = absurd (false≢true ends)
-
 stops-in-turn : {P D : Type 0} (cache : Cache) (restored : List Restored) (pools : Ghosts P) (devices : Devices D) (trace : Trace) (start after : BetweenGroups P) (begun is : Device D) (replied replies : List Reply) (ending : Ending) (work : RunWork) (crew : Crew OnHeap) → goes_on ending ≡ false
     → AreDoneInTurn cache restored pools devices trace start after.pool begun is ending replies work crew → StepsInTurn cache restored pools devices trace start after begun is replied replies ending crew
 stops-in-turn cache restored pools devices trace start after begun is replied replies Whole work crew stops over = absurd (false≢true (sym stops))
@@ -208,15 +180,15 @@ leaves-same pools a = record { size = refl; told = refl; faults = omega arith }
 -- ---- one step
 
 module _ {P D : Type 0} (cache : Cache) (restored : List Restored) (pools : Ghosts P) (devices : Devices D) (trace : Trace) (start was : BetweenGroups P) (begun a : Device D) (rs : List Reply) (w : RunWork) (old : Crew OnHeap)
-    (few : length trace.ops ≤ 1000000) (one : cache.config.callers ≡ 1) (between : AreInTurn cache restored pools devices trace start was begun a rs w old) (more : length rs < length trace.ops) where
-  abbrev Cells : PartyPlace → OfCells
-  Cells p = StoodSo (openings_of trace) cache.config p
-
+    (few : length trace.ops ≤ 1000000) (config : cache.config ≡ trace.config) (one : cache.config.callers ≡ 1) (between : AreInTurn cache restored pools devices trace start was begun a rs w old) (more : length rs < length trace.ops) where
   abbrev os : List Op
   os = take (length rs) trace.ops
 
   abbrev reached : HaveReached cache restored pools devices trace start was begun a Whole rs w old
   reached = between.reached
+
+  abbrev begins : Sequence P D
+  begins = begins_so trace.config restored start (lent_in begun)
 
   long : length w.lines ≡ length rs
   long = let l = lines-long os rs w.lines reached.come.did.lines in l.1 ∙ sym l.0
@@ -224,18 +196,32 @@ module _ {P D : Type 0} (cache : Cache) (restored : List Restored) (pools : Ghos
   idle : IsIdleFeeder cache old.feeder
   idle = fed-idle cache old.feeder.own.about.openings _ _ _ _ old.feeder reached.come.feeder
 
-  -- lines of one kind: the caller's own, or one of the feeder's
-  module _ (qs : List Op) (ss : List Reply) (to : P) (b : Device D) (new : Crew OnHeap) (did : DidLines dbuf_meanings cache pools devices trace.blocks qs was.pool a b old new ss) (again : IsIdleFeeder cache new.feeder) (own : AreInGroup cache.config.callers qs)
-      (inside : length rs + length qs ≤ length trace.ops) (taken : take (length rs + length qs) trace.ops ≡ os ++ qs) (leaves : LeavesPool pools was.pool to)
-      (reads : pools.reads was.pool + 16000000 ≤ last_count → pools.reads to ≡ pools.reads was.pool + over_callers cache.config.callers (asked did.lines))
-      (faults : pools.faults was.pool + 16000000 ≤ last_count → pools.faults to ≡ pools.faults was.pool + over_callers cache.config.callers (failed did.lines))
-      (turned : (before : List Line) → WorkInTurn pools cache.config (Cells new.feeder) before did.lines was (between_groups to was.group was.next))
-      (asks : UsedInTurn devices trace.blocks did.lines did.beside.feeds (lent_in a) (lent_in b)) (unfed : did.beside.feeds ≡ [] → IsHandedBack devices (lent_in a) (lent_in b)) where
-    abbrev pub done : RunWork
-    done = with_lines w did.lines did.beside.feeds
+  of-trace : IsOfTrace cache trace old
+  of-trace = record { config = config; callers = ap (λ (g : Config). g.callers) (sym config) ∙ one; knows = between.knows }
 
-    same-these : (length ss ≡ length qs) × (length did.lines ≡ length qs)
-    same-these = lines-long qs ss did.lines did.are
+  stands-now : StandAt trace.config between.at old
+  stands-now = subst (λ (g : Config). StandAt g between.at old) config between.stands
+
+  goes-further : (ms : List Line) (fs : List FeedDone) (to : BetweenGroups P) (b : Device D) (new : Crew OnHeap) → GoInSequence pools devices trace ms fs was to (lent_in a) (lent_in b) old new
+      → (next : Sequence P D) × (next.pool ≡ to) × (next.device ≡ lent_in b) × StandAt cache.config next new × AreInSequence pools devices trace (w.lines ++ ms) (w.feeds ++ fs) begins next
+  goes-further ms fs to b new goes =
+      let (next, pool, device, stands, lines) = goes between.at between.pool between.device stands-now in
+      (next, pool, device, subst (λ (g : Config). StandAt g next new) (sym config) stands, sequence-append pools devices trace w.lines ms w.feeds fs begins between.at next between.lines lines)
+
+  -- lines of one kind: the caller's own, or one of the feeder's
+  module _ (qs : List Op) (ss : List Reply) (to : P) (b : Device D) (new : Crew OnHeap) (ms : List Line) (are : AreLinesOf qs ss ms) (fits : AllFit cache.config ms)
+      (worked : AllWorked cache pools trace.blocks (length old.parties.items) was.pool (λ n. lines_of_caller n ms) old.kept.items old.parties.items new.kept.items new.parties.items)
+      (feeds : List FeedDone) (fed : HasFedMore cache feeds old.feeder new.feeder) (told_more : AreFeedsTold cache.config qs ss feeds) (ends : AreEndLines qs ss) (so_far : AreMadeSoFar dbuf_meanings devices cache restored (w.feeds ++ feeds) begun b new.feeder)
+      (own : AreInGroup cache.config.callers qs) (inside : length rs + length qs ≤ length trace.ops) (taken : take (length rs + length qs) trace.ops ≡ os ++ qs) (leaves : LeavesPool pools was.pool to)
+      (reads : pools.reads was.pool + 16000000 ≤ last_count → pools.reads to ≡ pools.reads was.pool + over_callers cache.config.callers (asked ms))
+      (faults : pools.faults was.pool + 16000000 ≤ last_count → pools.faults to ≡ pools.faults was.pool + over_callers cache.config.callers (failed ms))
+      (knows : AllKnow (openings_of trace) (new.feeder ∷ new.parties.items))
+      (goes : GoInSequence pools devices trace ms feeds was (between_groups to was.group was.next) (lent_in a) (lent_in b) old new) (unfed : feeds ≡ [] → IsHandedBack devices (lent_in a) (lent_in b)) where
+    abbrev pub done : RunWork
+    done = with_lines w ms feeds
+
+    same-these : (length ss ≡ length qs) × (length ms ≡ length qs)
+    same-these = lines-long qs ss ms are
 
     pub both-long : length (rs ++ ss) ≡ length rs + length qs
     both-long = omega (arith, length-append rs ss, same-these.0)
@@ -245,39 +231,44 @@ module _ {P D : Type 0} (cache : Cache) (restored : List Restored) (pools : Ghos
 
     come-lines : HaveCome cache restored (pools.size start.pool) (pools.told start.pool) start.next trace.blocks (os ++ qs) (rs ++ ss) done new
     come-lines =
-        have-come-more dbuf_meanings cache restored pools devices (pools.size start.pool) (pools.told start.pool) start.next trace.blocks os qs rs ss w was.pool a b old new reached.come between.goes_on did own again reached.first reached.counted.keeps.size
-        reached.counted.keeps.told
+        have-come-by cache restored pools devices (pools.size start.pool) (pools.told start.pool) start.next trace.blocks os qs rs ss w was.pool old new reached.come between.goes_on ms are fits worked feeds fed told_more ends own reached.first
+        reached.counted.keeps.size reached.counted.keeps.told
 
-    grown : (i : ℕ) → IsCell cache.config i → StartsWith (front_of i new.feeder.own.seen) (front_of i old.feeder.own.seen)
-    grown = (fed-beside dbuf_meanings devices cache qs (length old.parties.items) ss a b old.feeder new.feeder did.beside idle again).same.keeps.fronts
+    further : (next : Sequence P D) × (next.pool ≡ between_groups to was.group was.next) × (next.device ≡ lent_in b) × StandAt cache.config next new × AreInSequence pools devices trace (w.lines ++ ms) (w.feeds ++ feeds) begins next
+    further = goes-further ms feeds (between_groups to was.group was.next) b new goes
 
     pub turn-more : AreInTurn cache restored pools devices trace start (between_groups to was.group was.next) begun b (rs ++ ss) done new
-    turn-more = record {
-      reached = record {
-        few = omega (arith, both-long, inside);
-        come = subst (λ (l : List Op). HaveCome cache restored (pools.size start.pool) (pools.told start.pool) start.next trace.blocks l (rs ++ ss) done new) (sym all-taken) come-lines;
-        knows = ap (λ (x : About). x.openings) (fed-about dbuf_meanings devices cache qs (length old.parties.items) ss a b old.feeder new.feeder did.beside idle again) ∙ reached.knows;
-        first = reached.first;
-        behind = reached.behind;
-        counted = counted-more pools start.next cache.config.callers w.lines did.lines start.pool was.pool to (omega (arith, more, few, long)) (omega (arith, one)) reached.counted (pool-front pools start.next was.pool to leaves) reads faults;
-        groups = λ several. absurd (omega (arith, one, several));
-        used = λ several. absurd (omega (arith, one, several));
-        fed = group-so-far dbuf_meanings devices cache restored w.feeds did.beside.feeds begun a b old.feeder new.feeder reached.come.feeder.stands reached.fed did.beside.used;
-        looked = lines-looked pools cache restored (pools.size start.pool) (pools.told start.pool) start.next trace.blocks os rs w old new reached.come reached.looked did.lines (all-inside cache.config.callers qs ss did.lines own did.are) was.pool
-            (subst (λ (k : ℕ). AllWorked cache pools trace.blocks k was.pool (λ n. lines_of_caller n did.lines) old.kept.items old.parties.items new.kept.items new.parties.items) reached.come.parties did.worked) reached.counted.keeps.size reached.counted.keeps.told;
-      };
-      goes_on = refl;
-      may_sync = record {
-        born = between.may_sync.born;
-        few = omega (arith, between.may_sync.few, both-long);
-        aligned = between.may_sync.aligned;
-        inside = omega (arith, between.may_sync.inside, leaves.size);
-      };
-      steps = turn-append pools cache.config (Cells new.feeder) [] w.lines did.lines start was (between_groups to was.group was.next)
-          (turn-as pools cache.config (Cells old.feeder) (Cells new.feeder) (stood-more (openings_of trace) cache.config old.feeder new.feeder grown) [] w.lines start was between.steps) (turned w.lines);
-      asks = uses-append devices trace.blocks w.lines did.lines w.feeds did.beside.feeds (lent_in begun) (lent_in a) (lent_in b) between.asks asks;
-      unfed = λ none. back-then devices (lent_in begun) (lent_in a) (lent_in b) (between.unfed (none-before w.feeds did.beside.feeds none)) (unfed (none-behind w.feeds did.beside.feeds none));
-    }
+    turn-more =
+        let (next, pool, device, stands, lines) = further in
+        record {
+          reached = record {
+            few = omega (arith, both-long, inside);
+            come = subst (λ (l : List Op). HaveCome cache restored (pools.size start.pool) (pools.told start.pool) start.next trace.blocks l (rs ++ ss) done new) (sym all-taken) come-lines;
+            knows = knows.0;
+            first = reached.first;
+            behind = reached.behind;
+            counted = counted-more pools start.next cache.config.callers w.lines ms start.pool was.pool to (omega (arith, more, few, long)) (omega (arith, one)) reached.counted (pool-front pools start.next was.pool to leaves) reads faults;
+            groups = λ several. absurd (omega (arith, one, several));
+            used = λ several. absurd (omega (arith, one, several));
+            fed = so_far;
+            looked = lines-looked pools cache restored (pools.size start.pool) (pools.told start.pool) start.next trace.blocks os rs w old new reached.come reached.looked ms (all-inside cache.config.callers qs ss ms own are) was.pool
+                (subst (λ (k : ℕ). AllWorked cache pools trace.blocks k was.pool (λ n. lines_of_caller n ms) old.kept.items old.parties.items new.kept.items new.parties.items) reached.come.parties worked) reached.counted.keeps.size reached.counted.keeps.told;
+          };
+          goes_on = refl;
+          may_sync = record {
+            born = between.may_sync.born;
+            few = omega (arith, between.may_sync.few, both-long);
+            aligned = between.may_sync.aligned;
+            inside = omega (arith, between.may_sync.inside, leaves.size);
+          };
+          knows = knows;
+          at = next;
+          pool = pool;
+          device = device;
+          stands = stands;
+          lines = lines;
+          unfed = λ none. back-then devices (lent_in begun) (lent_in a) (lent_in b) (between.unfed (none-before w.feeds feeds none)) (unfed (none-behind w.feeds feeds none));
+        }
 
   -- ---- the caller's own lines
 
@@ -306,32 +297,32 @@ module _ {P D : Type 0} (cache : Cache) (restored : List Restored) (pools : Ghos
       worked = rw whole own_lines.worked;
     }
 
-    abbrev own-did : DidLines dbuf_meanings cache pools devices trace.blocks qs was.pool a b old new ss
-    own-did = record {
-      lines = ms;
-      are = own_lines.are;
-      fits = own-fits cache.config ms mine own_lines.worked.fits;
-      worked = record {
-        kepts = ap length own_lines.new_is.0 ∙ sym (ap length own_lines.old_is.1);
-        parties = ap length own_lines.new_is.1 ∙ sym (ap length own_lines.old_is.1);
-        forks = λ n. was.pool;
-        done = λ n. to;
-        size = λ n below. refl;
-        told = λ n below. refl;
-        each = λ n below. subst (λ (m : ℕ). WorkedAt cache pools trace.blocks m was.pool to (lines_of_caller m ms) old.kept.items old.parties.items new.kept.items new.parties.items) (sym (zero-only n below)) worked-zero;
-      };
-      beside = record {
-        feeds = [];
-        used = record {
-          lent = b;
-          later = b;
-          gave = lent;
-          made = subst (λ (q : PartyPlace). MadeFeedsOf dbuf_meanings devices cache [] b b old.feeder q) (sym own_lines.feeder) (made-none dbuf_meanings devices cache b old.feeder);
-          took = lent-same devices b;
-        };
-        answered = let none = none-asks qs ss own in subst (λ (x : List Op × List Reply). AreFedReplies (lent_in a) x.0 [] x.1) (λ i. (sym none.0 i, sym none.1 i)) (none-answered-of (lent_in a));
-      };
+    own-worked : AllWorked cache pools trace.blocks (length old.parties.items) was.pool (λ n. lines_of_caller n ms) old.kept.items old.parties.items new.kept.items new.parties.items
+    own-worked = record {
+      kepts = ap length own_lines.new_is.0 ∙ sym (ap length own_lines.old_is.1);
+      parties = ap length own_lines.new_is.1 ∙ sym (ap length own_lines.old_is.1);
+      forks = λ n. was.pool;
+      done = λ n. to;
+      size = λ n below. refl;
+      told = λ n below. refl;
+      each = λ n below. subst (λ (m : ℕ). WorkedAt cache pools trace.blocks m was.pool to (lines_of_caller m ms) old.kept.items old.parties.items new.kept.items new.parties.items) (sym (zero-only n below)) worked-zero;
     }
+
+    own-told : AreFeedsTold cache.config qs ss []
+    own-told = record { told = ap (filter is_fed) (none-asks qs ss own).1; shapes = tt }
+
+    own-ends : AreEndLines qs ss
+    own-ends k op there none = absurd (not-both op (own k op there) none)
+      where
+        not-both : (op : Op) → caller_of op ≡ Some 0 → caller_of op ≡ None → ⊥
+        not-both op his none = cc
+
+    own-knows : AllKnow (openings_of trace) (new.feeder ∷ new.parties.items)
+    own-knows =
+        let had : AllKnow (openings_of trace) (own_lines.from ∷ []) = subst (AllKnow (openings_of trace)) own_lines.old_is.1 between.knows.1 in (
+          ap (λ (x : About). x.openings) own_lines.parted.about ∙ between.knows.0,
+          subst (AllKnow (openings_of trace)) (sym own_lines.new_is.1) (ap (λ (x : About). x.openings) own_lines.worked.cells.about ∙ had.0, tt),
+        )
 
     few-here : length ms ≤ 1000000
     few-here = let l = lines-long qs ss ms own_lines.are in omega (arith, l.1, inside, few)
@@ -352,15 +343,15 @@ module _ {P D : Type 0} (cache : Cache) (restored : List Restored) (pools : Ghos
 
     pub own-more : AreInTurn cache restored pools devices trace start (between_groups to was.group was.next) begun b (rs ++ ss) (with_lines w ms []) new
     own-more =
-        turn-more qs ss to b new own-did (subst (IsIdleFeeder cache) (sym own_lines.feeder) idle) (own-group cache.config.callers qs (omega (arith, one)) own) inside (take-add (length rs) (length qs) trace.ops ∙ ap (λ (l : List Op). os ++ l) here) (keeps-leaves pools was.pool to keeps) reads-here faults-here
-        (λ before. own-turn pools cache.config (Cells new.feeder) before ms was.pool to was.group was.next mine own_lines.worked.calls) (own-uses devices trace.blocks ms (lent_in a) (lent_in b) mine own_lines.asked) (λ none. lent-only devices a b lent)
+        turn-more qs ss to b new ms own_lines.are (own-fits cache.config ms mine own_lines.worked.fits) own-worked [] (parted-more dbuf_meanings devices cache own_lines.seen old.feeder new.feeder idle own_lines.parted) own-told own-ends
+        (parted-so-far dbuf_meanings devices cache own_lines.seen old.feeder new.feeder idle own_lines.parted restored w.feeds begun a b lent reached.fed) (own-group cache.config.callers qs (omega (arith, one)) own) inside
+        (take-add (length rs) (length qs) trace.ops ∙ ap (λ (l : List Op). os ++ l) here) (keeps-leaves pools was.pool to keeps) reads-here faults-here own-knows (own_lines.sequence trace of-trace refl was.group was.next) (λ none. lent-only devices a b lent)
 
   -- ---- a feed
 
-  module _ (at : slice_get trace.ops (length rs) ≡ Some ops.Feed) (reply : Reply) (b : Device D) (new : Crew OnHeap) (fed : DoesFeeds dbuf_meanings devices cache (ops.Feed ∷ []) (reply ∷ []) a b old.feeder new.feeder) (again : IsIdleFeeder cache new.feeder)
-      (same_parties : new.parties.items ≡ old.parties.items) (same_kept : new.kept.items ≡ old.kept.items) where
+  module _ (at : slice_get trace.ops (length rs) ≡ Some ops.Feed) (fin : BetweenGroups P) (b : Device D) (new : Crew OnHeap) (came : Result Reply Ending) (f : DidFeed cache pools devices was fin a b old new came) where
     abbrev fed-line : Line
-    fed-line = record { op = ops.Feed; reply = reply; work = no_work }
+    fed-line = record { op = ops.Feed; reply = f.reply; work = no_work }
 
     room : length rs < length trace.ops
     room = slice_get_within trace.ops (length rs) ops.Feed at
@@ -368,40 +359,45 @@ module _ {P D : Type 0} (cache : Cache) (restored : List Restored) (pools : Ghos
     still-worked : (n : ℕ) → n < length old.parties.items → WorkedAt cache pools trace.blocks n was.pool was.pool [] old.kept.items old.parties.items new.kept.items new.parties.items
     still-worked n below =
         let c = reached.come.each n (omega (arith, below, reached.come.parties)) in
+        let x = parted-at cache f.made.lines n old.parties.items new.parties.items c.party f.made.parted c.at.party_at in
         record {
           old = c.reads;
           from = c.party;
           before = c.at;
           new = c.reads;
-          to = c.party;
-          after = record { kept_at = ap (λ (l : List (List KeptBlock)). get_elem? l n) same_kept ∙ c.at.kept_at; party_at = ap (λ (l : List PartyPlace). get_elem? l n) same_parties ∙ c.at.party_at };
+          to = x.0;
+          after = record { kept_at = ap (λ (l : List (List KeptBlock)). get_elem? l n) f.kept ∙ c.at.kept_at; party_at = x.1 };
           worked = record {
             fits = tt;
-            waits = λ acts noted waits. subst (λ (x : List Act × List Noted). Waits cache n x.0 x.1 c.reads c.party) (λ i. (sym (append-nil acts) i, sym (append-nil noted) i)) waits;
+            waits = λ acts noted waits. subst (λ (y : List Act × List Noted). Waits cache n y.0 y.1 c.reads x.0) (λ i. (sym (append-nil acts) i, sym (append-nil noted) i)) (parted-waits cache f.made.lines c.party x.0 x.2 n acts noted c.reads waits);
             keeps = refl;
-            cells = record { about = refl; fronts = λ i range. ([], sym (append-nil _)) };
+            cells = (x.2.same c.reads c.come.waits.stands).keeps;
             answers = λ acts noted told place. tt;
             looks = λ acts noted told. tt;
             calls = refl;
           };
         }
 
-    abbrev feed-did : DidLines dbuf_meanings cache pools devices trace.blocks (ops.Feed ∷ []) was.pool a b old new (reply ∷ [])
-    feed-did = record {
-      lines = fed-line ∷ [];
-      are = (refl, refl, tt);
-      fits = (refl, tt);
-      worked = record {
-        kepts = ap length same_kept ∙ (reached.come.kepts ∙ sym reached.come.parties);
-        parties = ap length same_parties;
-        forks = λ n. was.pool;
-        done = λ n. was.pool;
-        size = λ n below. refl;
-        told = λ n below. refl;
-        each = still-worked;
-      };
-      beside = record { feeds = fed.feeds; used = record { lent = a; later = b; gave = lent-same devices a; made = fed.made; took = lent-same devices b }; answered = fed.answered };
+    feed-worked : AllWorked cache pools trace.blocks (length old.parties.items) was.pool (λ n. lines_of_caller n (fed-line ∷ [])) old.kept.items old.parties.items new.kept.items new.parties.items
+    feed-worked = record {
+      kepts = ap length f.kept ∙ (reached.come.kepts ∙ sym reached.come.parties);
+      parties = parted-length cache f.made.lines old.parties.items new.parties.items f.made.parted;
+      forks = λ n. was.pool;
+      done = λ n. was.pool;
+      size = λ n below. refl;
+      told = λ n below. refl;
+      each = still-worked;
     }
+
+    feed-told : AreFeedsTold cache.config (ops.Feed ∷ []) (f.reply ∷ []) f.fed.feeds
+    feed-told = record { told = replies-told (lent_in a) (ops.Feed ∷ []) f.fed.feeds (f.reply ∷ []) f.fed.answered; shapes = made-shaped dbuf_meanings devices cache f.fed.feeds a b f.joined f.worked f.fed.made }
+
+    feed-group : AreInGroup cache.config.callers (ops.Feed ∷ [])
+    feed-group zero op there = inr (let is : op ≡ ops.Feed = cc in ap is_feed is)
+    feed-group (suc k) op there = let never = slice_get_within {A = Op} [] k op there in absurd (omega (arith, never))
+
+    feed-knows : AllKnow (openings_of trace) (new.feeder ∷ new.parties.items)
+    feed-knows = (ap (λ (x : About). x.openings) f.made.about ∙ between.knows.0, parted-know cache (openings_of trace) f.made.lines old.parties.items new.parties.items f.made.parted between.knows.1)
 
     none-asked : over_callers cache.config.callers (asked (fed-line ∷ [])) ≡ 0
     none-asked = ap (λ (n : ℕ). over_callers n (asked (fed-line ∷ []))) one ∙ only-one (asked (fed-line ∷ []))
@@ -409,21 +405,21 @@ module _ {P D : Type 0} (cache : Cache) (restored : List Restored) (pools : Ghos
     none-failed : over_callers cache.config.callers (failed (fed-line ∷ [])) ≡ 0
     none-failed = ap (λ (n : ℕ). over_callers n (failed (fed-line ∷ []))) one ∙ only-one (failed (fed-line ∷ []))
 
-    pub fed-more-turn : AreInTurn cache restored pools devices trace start was begun b (rs ++ reply ∷ []) (with_lines w (fed-line ∷ []) fed.feeds) new
+    one-more : length rs + length (ops.Feed ∷ []) ≡ suc (length rs)
+    one-more = omega arith
+
+    taken-one : take (suc (length rs)) trace.ops ≡ os ++ ops.Feed ∷ []
+    taken-one = take-suc trace.ops (length rs) ops.Feed room ∙ ap (λ (o : Op). os ++ o ∷ []) (get_or_from_slice_get trace.ops (length rs) ops.Feed ops.Feed at)
+
+    pub fed-more-turn : AreInTurn cache restored pools devices trace start was begun b (rs ++ f.reply ∷ []) (with_lines w (fed-line ∷ []) f.fed.feeds) new
     fed-more-turn =
-        turn-more (ops.Feed ∷ []) (reply ∷ []) was.pool b new feed-did again (λ k op there. inr (feed-only k op there)) (omega (arith, room)) (ap (λ (n : ℕ). take n trace.ops) one-more ∙ taken-one) (leaves-same pools was.pool)
-        (λ full. omega (arith, none-asked)) (λ full. omega (arith, none-failed)) (λ before. (was, refl, refl)) ((lent_in b), fed.feeds, [], sym (append-nil fed.feeds), (fed.answered, asks-of dbuf_meanings devices cache fed.feeds a b old.feeder new.feeder fed.made), (refl, refl))
-        (λ none. made-back dbuf_meanings devices cache fed.feeds a b old.feeder new.feeder none fed.made)
-      where
-        feed-only : (k : ℕ) (op : Op) → slice_get (ops.Feed ∷ []) k ≡ Some op → is_feed op ≡ true
-        feed-only zero op there = cc
-        feed-only (suc k) op there = let never = slice_get_within {A = Op} [] k op there in absurd (omega (arith, never))
-
-        one-more : length rs + length (ops.Feed ∷ []) ≡ suc (length rs)
-        one-more = omega arith
-
-        taken-one : take (suc (length rs)) trace.ops ≡ os ++ ops.Feed ∷ []
-        taken-one = take-suc trace.ops (length rs) ops.Feed room ∙ ap (λ (o : Op). os ++ o ∷ []) (get_or_from_slice_get trace.ops (length rs) ops.Feed ops.Feed at)
+        turn-more (ops.Feed ∷ []) (f.reply ∷ []) was.pool b new (fed-line ∷ []) (refl, refl, tt) (refl, tt) feed-worked f.fed.feeds
+        (joined-more dbuf_meanings devices cache f.fed.feeds a b old.feeder new.feeder f.joined f.worked old.parties.items new.parties.items idle.number f.fed.made f.made f.met f.parted f.again) feed-told
+        (group-ends (lent_in a) cache.config.callers (ops.Feed ∷ []) (f.reply ∷ []) f.fed.feeds feed-group refl f.fed.answered)
+        (joined-so-far dbuf_meanings devices cache f.fed.feeds a b old.feeder new.feeder f.joined f.worked old.parties.items new.parties.items idle.number f.fed.made f.made f.met f.parted restored w.feeds begun ops.Feed (f.reply ∷ []) f.fed.answered reached.fed)
+        feed-group (omega (arith, room)) (ap (λ (n : ℕ). take n trace.ops) one-more ∙ taken-one) (leaves-same pools was.pool) (λ full. omega (arith, none-asked)) (λ full. omega (arith, none-failed)) feed-knows
+        (subst (λ (x : BetweenGroups P). GoInSequence pools devices trace (fed-line ∷ []) f.fed.feeds was x (lent_in a) (lent_in b) old new) f.stays (f.sequence trace of-trace))
+        (λ none. made-back dbuf_meanings devices cache f.fed.feeds a b f.joined f.worked none f.fed.made)
 
   -- ---- a line that ends a group
 
@@ -443,9 +439,6 @@ module _ {P D : Type 0} (cache : Cache) (restored : List Restored) (pools : Ghos
   module _ (op : Op) (at : slice_get trace.ops (length rs) ≡ Some op) (last : Crew OnHeap) (fin : BetweenGroups P) where
     room-here : length rs < length trace.ops
     room-here = slice_get_within trace.ops (length rs) op at
-
-    grown-to : ((i : ℕ) → IsCell cache.config i → StartsWith (front_of i last.feeder.own.seen) (front_of i old.feeder.own.seen)) → WorkInTurn pools cache.config (Cells last.feeder) [] w.lines start was
-    grown-to grown = turn-as pools cache.config (Cells old.feeder) (Cells last.feeder) (stood-more (openings_of trace) cache.config old.feeder last.feeder grown) [] w.lines start was between.steps
 
     module _ (reply : Reply) (turn : Turned cache pools (openings_of trace) w.lines op reply was fin old last) where
       abbrev l : Line
@@ -469,13 +462,19 @@ module _ {P D : Type 0} (cache : Cache) (restored : List Restored) (pools : Ghos
           (λ full. let none = over-zero cache.config.callers (asked (l ∷ [])) (λ n below. ap (λ (ls : List Line). length (calls_of_lines ls)) (not-read n)) in let same = turn.reads in omega (arith, none, same))
           (λ full. let none = over-zero cache.config.callers (failed (l ∷ [])) (λ n below. ap (λ (ls : List Line). count_by is_pool_fault (replies_of ls)) (not-read n)) in let same = turn.faults in omega (arith, none, same))
 
+      further-end : (next : Sequence P D) × (next.pool ≡ fin) × (next.device ≡ lent_in a) × StandAt cache.config next last × AreInSequence pools devices trace (w.lines ++ l ∷ []) (w.feeds ++ []) begins next
+      further-end = goes-further (l ∷ []) [] fin a last (turned-goes cache pools devices trace (openings_of trace) w.lines op reply was fin old last turn of-trace (lent_in a))
+
+      end-knows : AllKnow (openings_of trace) (last.feeder ∷ last.parties.items)
+      end-knows = (ap (λ (x : About). x.openings) turn.so.made.about ∙ between.knows.0, parted-know cache (openings_of trace) turn.so.made.lines old.parties.items last.parties.items turn.so.made.parted between.knows.1)
+
       pub ended-turn : AreInTurn cache restored pools devices trace start fin begun a (rs ++ reply ∷ []) (with_end w l) last
-      ended-turn = record {
+      ended-turn = let (next, pool, device, stands, lines) = further-end in record {
         reached = record {
           few = omega (arith, all-long, room-here);
           come = subst (λ (x : List Op). HaveCome cache restored (pools.size start.pool) (pools.told start.pool) start.next trace.blocks x (rs ++ reply ∷ []) (with_end w l) last) (sym all-taken-end)
               (have-come-ended pools devices cache restored (pools.size start.pool) (pools.told start.pool) start.next trace.blocks os rs w turn.more old last reached.come between.goes_on l turn.so);
-          knows = ap (λ (x : About). x.openings) turn.so.made.about ∙ reached.knows;
+          knows = end-knows.0;
           first = reached.first;
           behind = omega (arith, reached.behind, turn.later);
           counted = counted-end;
@@ -493,16 +492,17 @@ module _ {P D : Type 0} (cache : Cache) (restored : List Restored) (pools : Ghos
           aligned = turn.aligned;
           inside = turn.inside;
         };
-        steps = turn-append pools cache.config (Cells last.feeder) [] w.lines (l ∷ []) start was fin (grown-to turn.so.made.cells)
-            (fin, subst (λ (o : Option ℕ). LineSteps pools cache.config (Cells last.feeder) w.lines o l was fin) (sym nobody) (ends-steps pools cache.config (Cells last.feeder) w.lines op reply turn.work was fin turn.ends), refl);
-        asks = subst (λ (fs : List FeedDone). UsedInTurn devices trace.blocks (w.lines ++ l ∷ []) fs (lent_in begun) (lent_in a)) (append-nil w.feeds)
-            (uses-append devices trace.blocks w.lines (l ∷ []) w.feeds [] (lent_in begun) (lent_in a) (lent_in a) between.asks
-            ((lent_in a), [], [], refl, subst (λ (o : Option ℕ). LineUses devices trace.blocks o l [] (lent_in a) (lent_in a)) (sym nobody) (ends-uses devices trace.blocks op reply (lent_in a) turn.so.ends), (refl, refl)));
+        knows = end-knows;
+        at = next;
+        pool = pool;
+        device = device;
+        stands = stands;
+        lines = subst (λ (fs : List FeedDone). AreInSequence pools devices trace (w.lines ++ l ∷ []) fs begins next) (append-nil w.feeds) lines;
         unfed = between.unfed;
       }
 
     pub halted-turn : (ending : Ending) (h : Halted cache pools trace rs w ending was fin.pool old last) → AreDoneInTurn cache restored pools devices trace start fin.pool begun a ending rs (with_stop w h.work) last
-    halted-turn ending h = record {
+    halted-turn ending h = let (then, device, stands, ends) = halted-goes cache pools devices trace rs w ending was fin.pool old last h of-trace (lent_in a) between.at between.pool between.device stands-now in record {
       done = record {
         now = was;
         reached = record {
@@ -523,8 +523,12 @@ module _ {P D : Type 0} (cache : Cache) (restored : List Restored) (pools : Ghos
         last = λ t stopped shard below. subst (λ (tick : ℕ). IsCutLast cache.config restored trace.blocks shard tick (with_stop w h.work) (seen_of cache.config shard last.feeder)) (sym (h.ticks t stopped))
             (stopped-cut pools devices cache restored (pools.size start.pool) (pools.told start.pool) start.next trace.blocks os rs w h.more old last reached.come between.goes_on h.tick h.work h.so shard below);
       };
-      steps = grown-to h.so.made.cells;
-      asks = between.asks;
+      at = between.at;
+      lines = between.lines;
+      last = then;
+      ends = ends;
+      device = device;
+      stands = subst (λ (g : Config). StandAt g then last) (sym config) stands;
       unfed = between.unfed;
     }
 
@@ -546,12 +550,11 @@ module _ {P D : Type 0} (cache : Cache) (restored : List Restored) (pools : Ghos
   step-other op at fin b last came reply all told did is = elim did [
     | inl feed ↦
         let f = feed.1 in
-        let same : f.reply ≡ reply = ok-same f.reply reply (sym f.answer ∙ told) in
-        let asks : DoesFeeds dbuf_meanings devices cache (ops.Feed ∷ []) (reply ∷ []) a b old.feeder last.feeder = subst (λ (r : Reply). DoesFeeds dbuf_meanings devices cache (ops.Feed ∷ []) (r ∷ []) a b old.feeder last.feeder) same f.fed in (
-          with_lines w (record { op = ops.Feed; reply = reply; work = no_work } ∷ []) asks.feeds,
-          subst (λ (x : List Reply × BetweenGroups P). AreInTurn cache restored pools devices trace start x.1 begun b x.0 (with_lines w (record { op = ops.Feed; reply = reply; work = no_work } ∷ []) asks.feeds) last) (λ i. (sym is i, sym f.stays i))
-              (fed-more-turn (at ∙ ap (λ (o : Op). Some o) feed.0) reply b last asks f.again f.parties f.kept),
-          omega (arith, ap length is, length-append rs (reply ∷ [])),
+        let same : all ≡ rs ++ f.reply ∷ [] = is ∙ ap (λ (r : Reply). rs ++ r ∷ []) (sym (ok-same f.reply reply (sym f.answer ∙ told))) in
+        let work : RunWork = with_lines w (record { op = ops.Feed; reply = f.reply; work = no_work } ∷ []) f.fed.feeds in (
+          work,
+          subst (λ (x : List Reply × BetweenGroups P). AreInTurn cache restored pools devices trace start x.1 begun b x.0 work last) (λ i. (sym same i, sym f.stays i)) (fed-more-turn (at ∙ ap (λ (o : Op). Some o) feed.0) fin b last came f),
+          omega (arith, ap length same, length-append rs (f.reply ∷ [])),
         )
     | inr end ↦
         let ended = subst (DidEndLine cache pools op was fin old last) told end.0 in
@@ -573,20 +576,18 @@ module _ {P D : Type 0} (cache : Cache) (restored : List Restored) (pools : Ghos
         stops-in-turn cache restored pools devices trace start fin begun b rs rs ending (with_stop w h.work) last h.stops (subst (λ (d : Device D). AreDoneInTurn cache restored pools devices trace start fin.pool begun d ending rs (with_stop w h.work) last) (sym end.1) (halted-turn op at last fin ending h))
   ]
 
--- ---- before the first line
-
-pub turn-begun : {P D : Type 0} (cache : Cache) (restored : List Restored) (pools : Ghosts P) (devices : Devices D) (trace : Trace) (start : BetweenGroups P) (was : Device D) (crew : Crew OnHeap)
-    → AreBetween cache restored pools devices trace start start was was [] (plain_work [] []) crew → AreInTurn cache restored pools devices trace start start was was [] (plain_work [] []) crew
-turn-begun cache restored pools devices trace start was crew between = record { reached = between.reached; goes_on = refl; may_sync = between.may_sync; steps = refl; asks = (refl, refl); unfed = λ none. back-same devices (lent_in was) (lent_in was) refl }
-
 -- ---- all steps
 
 pub all-in-turn : {P D : Type 0} (cache : Cache) (restored : List Restored) (pools : Ghosts P) (devices : Devices D) (trace : Trace) (start after : BetweenGroups P) (begun is : Device D) (replies : List Reply) (w : RunWork) (crew : Crew OnHeap)
     → AreInTurn cache restored pools devices trace start after begun is replies w crew → length trace.ops ≤ length replies → AreDoneInTurn cache restored pools devices trace start after.pool begun is Whole replies w crew
-all-in-turn cache restored pools devices trace start after begun is replies w crew between all = record {
+all-in-turn {P} cache restored pools devices trace start after begun is replies w crew between all = record {
   done = record { now = after; reached = between.reached; ended = (between.goes_on, omega (arith, between.reached.few, all), refl); last = λ t never. absurd never };
-  steps = between.steps;
-  asks = between.asks;
+  at = between.at;
+  lines = between.lines;
+  last = between.at;
+  ends = (between.goes_on, ap (λ (x : BetweenGroups P). x.pool) (sym between.pool), refl);
+  device = between.device;
+  stands = between.stands;
   unfed = between.unfed;
 }
 

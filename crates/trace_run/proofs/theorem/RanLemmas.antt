@@ -25,6 +25,7 @@ use Rattle.trace_run.specs.CellEnds.{AreCellsOf}
 use Rattle.trace_run.specs.Devices.{IsHandedBack}
 use Rattle.trace_run.specs.Lines.{has_further}
 use Rattle.trace_run.specs.one_caller.InTurn.{RunsInTurn}
+use Rattle.trace_run.specs.one_caller.Sequence.{begins_so}
 use Rattle.trace_run.proofs.one_caller.TurnAnswers.{turn-answered}
 use Rattle.std.proofs.lemmas.Bool.{false≢true}
 use Rattle.trace_run.specs.ObjectAnswers.{IsAnsweredBy}
@@ -145,7 +146,7 @@ module _ {P D : Type 0} (pools : Ghosts P) (devices : DeviceGhosts D) (before af
       kept = ran.kept;
       used = λ two. absurd (omega (arith, two, one));
       unfed = runs.unfed;
-      answered = turn-answered devices trace.blocks work.lines work.feeds lent back runs.used;
+      answered = turn-answered pools devices trace work.lines work.feeds (begins_so trace.config (found_keys rebuilt) (between_groups before 1 ran.place) lent) runs.reached runs.lines;
       plain = λ _ done. absurd (false≢true (sym done ∙ further));
       status = refl;
     },

@@ -91,6 +91,8 @@ pub record AreInTurn {P D : Type 0} (cache : Cache) (restored : List Restored) (
   pub reached : HaveReached cache restored pools devices trace before now was is Whole replies work crew
   pub goes_on : work.stopped ≡ no_work
   pub may_sync : MaySync pools (length replies) now
+  -- all parties know how the cells began
+  pub knows : AllKnow (openings_of trace) (crew.feeder ∷ crew.parties.items)
   pub at : Sequence P D
   pub pool : at.pool ≡ now
   pub device : at.device ≡ lent_in is

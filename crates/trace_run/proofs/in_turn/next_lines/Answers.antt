@@ -45,7 +45,7 @@ returns-then-first-to-clause-did g c = λ start restored was work between.
     let one : c.args.trace.now.config.callers ≡ 1 = sym (ap (λ (x : Config). x.callers) c.requires.config) ∙ c.requires.one in
     let own : AreOwn qs = range-own c.args.trace.now c.requires.formed one (length c.args.replies.now.items) c.own_end-to.result
     (λ k op lo hi here. c.own_end-to.ensures.own k op (omega (arith, lo, first)) hi (ap (λ (l : List Op). slice_get l k) c.as_slice-ops.ensures ∙ here)) in
-    step-own c.args.arcs.now restored g.P.Pool g.D.CacheDev c.args.trace.now start (between_groups c.args.pool.now c.args.syncs.group c.args.syncs.next) was c.args.device.now c.args.replies.now.items work c.args.crew c.requires.formed.few_ops c.requires.one between more
+    step-own c.args.arcs.now restored g.P.Pool g.D.CacheDev c.args.trace.now start (between_groups c.args.pool.now c.args.syncs.group c.args.syncs.next) was c.args.device.now c.args.replies.now.items work c.args.crew c.requires.formed.few_ops c.requires.config c.requires.one between more
     qs c.in_ok-crew.answered.items c.append.new.replies.items c.own_lines.new.pool c.own_lines.new.device c.in_ok-crew.crew own
     (subst (λ (x : List Ptr × List Op × ℕ). DidOwnLines c.args.arcs.now g.P.Pool g.D.CacheDev x.0 (slice_range x.1 x.2 c.own_end-to.result) c.args.pool.now c.own_lines.new.pool (lent_in c.args.device.now) (lent_in c.own_lines.new.device) c.args.crew c.in_ok-crew.crew c.in_ok-crew.answered.items)
     (λ i. (c.as_slice-blocks.ensures i, c.as_slice-ops.ensures i, first i)) c.in_ok-crew.ensures.did)
@@ -66,7 +66,7 @@ other_line-requires-clause-nobody g c κs within =
 pub other_line-requires-clause-may : goal.other_line-requires-clause-may
 other_line-requires-clause-may g c κs within =
     turn-may c.args.arcs.now c.requires.between.1 g.P.Pool g.D.CacheDev c.args.trace.now c.requires.between.0 (between_groups c.args.pool.now c.args.syncs.group c.args.syncs.next) c.requires.between.2 c.args.device.now c.args.replies.now.items c.requires.between.3 c.args.crew
-    c.requires.formed.few_ops c.requires.one c.requires.between.4 (let more = c.requires.more in let long = c.args.replies.now.ok.0 in omega (arith, more, long)) c.requires.rows
+    c.requires.formed.few_ops c.requires.config c.requires.one c.requires.between.4 (let more = c.requires.more in let long = c.args.replies.now.ok.0 in omega (arith, more, long)) c.requires.rows
 
 pub returns-in_ok-push-in-Ok-clause-did : goal.returns-in_ok-push-in-Ok-clause-did
 returns-in_ok-push-in-Ok-clause-did g c = λ start restored was work between.
@@ -75,7 +75,7 @@ returns-in_ok-push-in-Ok-clause-did g c = λ start restored was work between.
     let inside : c.len-first.result < length c.as_slice-ops.result.now = subst (λ (l : List Op). c.len-first.result < length l) (sym c.as_slice-ops.ensures) (omega (arith, more, first)) in
     let there : slice_get c.as_slice-ops.result.now c.len-first.result ≡ Some c.index-ops-first.result = slice_get_read c.as_slice-ops.result.now _ c.len-first.result c.index-ops-first.result refl inside c.index-ops-first.is in
     let at : slice_get c.args.trace.now.ops (length c.args.replies.now.items) ≡ Some c.index-ops-first.result = subst (λ (x : List Op × ℕ). slice_get x.0 x.1 ≡ Some c.index-ops-first.result) (λ i. (c.as_slice-ops.ensures i, first i)) there in
-    step-other c.args.arcs.now restored g.P.Pool g.D.CacheDev c.args.trace.now start (between_groups c.args.pool.now c.args.syncs.group c.args.syncs.next) was c.args.device.now c.args.replies.now.items work c.args.crew c.requires.formed.few_ops c.requires.one between more
+    step-other c.args.arcs.now restored g.P.Pool g.D.CacheDev c.args.trace.now start (between_groups c.args.pool.now c.args.syncs.group c.args.syncs.next) was c.args.device.now c.args.replies.now.items work c.args.crew c.requires.formed.few_ops c.requires.config c.requires.one between more
     c.index-ops-first.result at (between_groups c.other_line.new.pool c.in_ok-crew-2.syncs.group c.in_ok-crew-2.syncs.next) c.other_line.new.device c.in_ok-crew-2.crew c.in_ok-crew-2.came c.in-Ok.reply c.push.new.self.items c.in-Ok.is c.in_ok-crew-2.ensures.did c.in_ok-push-in-Ok.ensures.items
 
 pub returns-in-Err-clause-did : goal.returns-in-Err-clause-did
@@ -85,7 +85,7 @@ returns-in-Err-clause-did g c = λ start restored was work between.
     let inside : c.len-first.result < length c.as_slice-ops.result.now = subst (λ (l : List Op). c.len-first.result < length l) (sym c.as_slice-ops.ensures) (omega (arith, more, first)) in
     let there : slice_get c.as_slice-ops.result.now c.len-first.result ≡ Some c.index-ops-first.result = slice_get_read c.as_slice-ops.result.now _ c.len-first.result c.index-ops-first.result refl inside c.index-ops-first.is in
     let at : slice_get c.args.trace.now.ops (length c.args.replies.now.items) ≡ Some c.index-ops-first.result = subst (λ (x : List Op × ℕ). slice_get x.0 x.1 ≡ Some c.index-ops-first.result) (λ i. (c.as_slice-ops.ensures i, first i)) there in
-    step-halted c.args.arcs.now restored g.P.Pool g.D.CacheDev c.args.trace.now start (between_groups c.args.pool.now c.args.syncs.group c.args.syncs.next) was c.args.device.now c.args.replies.now.items work c.args.crew c.requires.formed.few_ops c.requires.one between more
+    step-halted c.args.arcs.now restored g.P.Pool g.D.CacheDev c.args.trace.now start (between_groups c.args.pool.now c.args.syncs.group c.args.syncs.next) was c.args.device.now c.args.replies.now.items work c.args.crew c.requires.formed.few_ops c.requires.config c.requires.one between more
     c.index-ops-first.result at (between_groups c.other_line.new.pool c.in_ok-crew-2.syncs.group c.in_ok-crew-2.syncs.next) c.other_line.new.device c.in_ok-crew-2.crew c.in_ok-crew-2.came c.in-Err.ending c.in-Err.is c.in_ok-crew-2.ensures.did
 
 pub returns-in_ok-push-in-Ok-clause-used : goal.returns-in_ok-push-in-Ok-clause-used

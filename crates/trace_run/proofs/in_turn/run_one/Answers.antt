@@ -4,16 +4,14 @@ use Rattle.arc_core.specs.Config.{IsConfig}
 use Rattle.arc_core.specs.declared.config.Config.{Config}
 use Rattle.blk_ptr.specs.declared.ptr.Ptr.{Ptr}
 use Rattle.trace_run.specs.Feeds.{MayBeFed}
-use Rattle.trace_run.specs.Openings.{AllKnow, openings_of}
 use Rattle.trace_run.specs.RunWork.{plain_work}
 use Rattle.trace_run.specs.callers.Together.{IsFirstPlace, between_groups, report_of_closed}
-use Rattle.trace_run.proofs.OpenLemmas.{last-knows}
 use Rattle.trace_run.proofs.callers.GroupRunLemmas.{come-wait, lines-acts, lines-noted, may-resize}
 use Rattle.trace_run.proofs.callers.GroupsLemmas.{crew-rows, have-started}
-use Rattle.trace_run.proofs.callers.StepLemmas.{between-begun, first-may}
+use Rattle.trace_run.proofs.callers.StepLemmas.{first-may}
 use Rattle.trace_run.specs.Devices.{lent_in}
 use Rattle.trace_run.specs.one_caller.InTurn.{RunsInTurn}
-use Rattle.trace_run.proofs.one_caller.TurnSteps.{turn-begun}
+use Rattle.trace_run.proofs.one_caller.TurnBegins.{turn-begun}
 use Rattle.trace_run.proofs.theorem.TurnRun.{runs-at}
 use Rattle.trace_run.proofs.theorem.TogetherRun.{group-fed, group-together}
 use Rattle.trace_run.proofs.in_turn.run_one.Goals as goal
@@ -43,10 +41,10 @@ all_in_turn-requires-clause-between g c κs within =
     let many : length c.in_ok-crew.crew.kept.items ≡ length c.in_ok-crew.crew.parties.items = let a = c.in_ok-crew.crew.kept.ok.0 in let b = c.in_ok-crew.crew.parties.ok.0 in let e = c.in_ok-crew.ensures.count in omega (arith, a, b, e) in
     let place : IsFirstPlace (g.P.Pool.size c.args.pool.now) c.args.trace.now.blocks c.first_place.result =
     subst (λ (x : ℕ × List Ptr). IsFirstPlace x.0 x.1 c.first_place.result) (λ i. (c.len.ensures i, c.as_slice.ensures i)) c.first_place.ensures.place in
-    let begun = turn-begun c.in_ok-arcs.arcs c.args.restored.now g.P.Pool g.D.CacheDev c.args.trace.now (between_groups c.args.pool.now 1 c.first_place.result) c.args.device.now c.in_ok-crew-2.crew (between-begun c.in_ok-arcs.arcs c.args.restored.now g.P.Pool g.D.CacheDev c.args.trace.now (between_groups c.args.pool.now 1 c.first_place.result) c.args.device.now c.in_ok-arcs.parties.items c.in_ok-crew.crew c.in_ok-crew-2.crew
-    c.in_ok-arcs.ensures.parties c.in_ok-crew.ensures.parties c.in_ok-crew.ensures.none many c.in_ok-crew-2.ensures.made c.in_ok-crew-2.ensures.kept
-    (last-knows (openings_of c.args.trace.now) c.in_ok-crew.crew.parties.items c.in_ok-crew.crew.feeder (subst (AllKnow (openings_of c.args.trace.now)) c.in_ok-crew.ensures.parties c.in_ok-arcs.ensures.known))
-    place (first-may g.P.Pool c.args.pool.now c.first_place.result c.len.result c.first_place.ensures.aligned c.first_place.ensures.inside c.len.ensures)) in
+    let begun =
+    turn-begun c.in_ok-arcs.arcs c.args.restored.now g.P.Pool g.D.CacheDev c.args.trace.now (between_groups c.args.pool.now 1 c.first_place.result) c.args.device.now c.in_ok-arcs.parties.items c.in_ok-crew.crew c.in_ok-crew-2.crew c.in_ok-arcs.ensures.parties
+    c.in_ok-crew.ensures.parties c.in_ok-crew.ensures.none many c.in_ok-crew-2.ensures.made c.in_ok-crew-2.ensures.kept c.in_ok-arcs.ensures.known place
+    (first-may g.P.Pool c.args.pool.now c.first_place.result c.len.result c.first_place.ensures.aligned c.first_place.ensures.inside c.len.ensures) c.in_ok-arcs.ensures.config in
     (c.args.restored.now, plain_work [] [], begun)
 
 pub all_in_turn-requires-clause-device : goal.all_in_turn-requires-clause-device
@@ -58,10 +56,10 @@ close_crew-requires-clause-callers g c =
     let many : length c.in_ok-crew.crew.kept.items ≡ length c.in_ok-crew.crew.parties.items = let a = c.in_ok-crew.crew.kept.ok.0 in let b = c.in_ok-crew.crew.parties.ok.0 in let e = c.in_ok-crew.ensures.count in omega (arith, a, b, e) in
     let place : IsFirstPlace (g.P.Pool.size c.args.pool.now) c.args.trace.now.blocks c.first_place.result =
     subst (λ (x : ℕ × List Ptr). IsFirstPlace x.0 x.1 c.first_place.result) (λ i. (c.len.ensures i, c.as_slice.ensures i)) c.first_place.ensures.place in
-    let begun = turn-begun c.in_ok-arcs.arcs c.args.restored.now g.P.Pool g.D.CacheDev c.args.trace.now (between_groups c.args.pool.now 1 c.first_place.result) c.args.device.now c.in_ok-crew-2.crew (between-begun c.in_ok-arcs.arcs c.args.restored.now g.P.Pool g.D.CacheDev c.args.trace.now (between_groups c.args.pool.now 1 c.first_place.result) c.args.device.now c.in_ok-arcs.parties.items c.in_ok-crew.crew c.in_ok-crew-2.crew
-    c.in_ok-arcs.ensures.parties c.in_ok-crew.ensures.parties c.in_ok-crew.ensures.none many c.in_ok-crew-2.ensures.made c.in_ok-crew-2.ensures.kept
-    (last-knows (openings_of c.args.trace.now) c.in_ok-crew.crew.parties.items c.in_ok-crew.crew.feeder (subst (AllKnow (openings_of c.args.trace.now)) c.in_ok-crew.ensures.parties c.in_ok-arcs.ensures.known))
-    place (first-may g.P.Pool c.args.pool.now c.first_place.result c.len.result c.first_place.ensures.aligned c.first_place.ensures.inside c.len.ensures)) in
+    let begun =
+    turn-begun c.in_ok-arcs.arcs c.args.restored.now g.P.Pool g.D.CacheDev c.args.trace.now (between_groups c.args.pool.now 1 c.first_place.result) c.args.device.now c.in_ok-arcs.parties.items c.in_ok-crew.crew c.in_ok-crew-2.crew c.in_ok-arcs.ensures.parties
+    c.in_ok-crew.ensures.parties c.in_ok-crew.ensures.none many c.in_ok-crew-2.ensures.made c.in_ok-crew-2.ensures.kept c.in_ok-arcs.ensures.known place
+    (first-may g.P.Pool c.args.pool.now c.first_place.result c.len.result c.first_place.ensures.aligned c.first_place.ensures.inside c.len.ensures) c.in_ok-arcs.ensures.config in
     let done = c.in_ok-crew-3.ensures.done c.args.restored.now (plain_work [] []) begun in
     let come = done.1.done.reached.come in
     (lines-acts c.in_ok-arcs.arcs _ _ _ _ _ _ _ _ _ come, lines-noted c.in_ok-arcs.arcs _ _ _ _ _ _ _ _ _ come, come-wait c.in_ok-arcs.arcs _ _ _ _ _ _ _ _ _ come)
@@ -71,10 +69,10 @@ close_crew-requires-clause-feeder g c =
     let many : length c.in_ok-crew.crew.kept.items ≡ length c.in_ok-crew.crew.parties.items = let a = c.in_ok-crew.crew.kept.ok.0 in let b = c.in_ok-crew.crew.parties.ok.0 in let e = c.in_ok-crew.ensures.count in omega (arith, a, b, e) in
     let place : IsFirstPlace (g.P.Pool.size c.args.pool.now) c.args.trace.now.blocks c.first_place.result =
     subst (λ (x : ℕ × List Ptr). IsFirstPlace x.0 x.1 c.first_place.result) (λ i. (c.len.ensures i, c.as_slice.ensures i)) c.first_place.ensures.place in
-    let begun = turn-begun c.in_ok-arcs.arcs c.args.restored.now g.P.Pool g.D.CacheDev c.args.trace.now (between_groups c.args.pool.now 1 c.first_place.result) c.args.device.now c.in_ok-crew-2.crew (between-begun c.in_ok-arcs.arcs c.args.restored.now g.P.Pool g.D.CacheDev c.args.trace.now (between_groups c.args.pool.now 1 c.first_place.result) c.args.device.now c.in_ok-arcs.parties.items c.in_ok-crew.crew c.in_ok-crew-2.crew
-    c.in_ok-arcs.ensures.parties c.in_ok-crew.ensures.parties c.in_ok-crew.ensures.none many c.in_ok-crew-2.ensures.made c.in_ok-crew-2.ensures.kept
-    (last-knows (openings_of c.args.trace.now) c.in_ok-crew.crew.parties.items c.in_ok-crew.crew.feeder (subst (AllKnow (openings_of c.args.trace.now)) c.in_ok-crew.ensures.parties c.in_ok-arcs.ensures.known))
-    place (first-may g.P.Pool c.args.pool.now c.first_place.result c.len.result c.first_place.ensures.aligned c.first_place.ensures.inside c.len.ensures)) in
+    let begun =
+    turn-begun c.in_ok-arcs.arcs c.args.restored.now g.P.Pool g.D.CacheDev c.args.trace.now (between_groups c.args.pool.now 1 c.first_place.result) c.args.device.now c.in_ok-arcs.parties.items c.in_ok-crew.crew c.in_ok-crew-2.crew c.in_ok-arcs.ensures.parties
+    c.in_ok-crew.ensures.parties c.in_ok-crew.ensures.none many c.in_ok-crew-2.ensures.made c.in_ok-crew-2.ensures.kept c.in_ok-arcs.ensures.known place
+    (first-may g.P.Pool c.args.pool.now c.first_place.result c.len.result c.first_place.ensures.aligned c.first_place.ensures.inside c.len.ensures) c.in_ok-arcs.ensures.config in
     let done = c.in_ok-crew-3.ensures.done c.args.restored.now (plain_work [] []) begun in
     (_, _, _, _, _, done.1.done.reached.come.feeder)
 
@@ -83,10 +81,10 @@ close_crew-requires-clause-count g c =
     let many : length c.in_ok-crew.crew.kept.items ≡ length c.in_ok-crew.crew.parties.items = let a = c.in_ok-crew.crew.kept.ok.0 in let b = c.in_ok-crew.crew.parties.ok.0 in let e = c.in_ok-crew.ensures.count in omega (arith, a, b, e) in
     let place : IsFirstPlace (g.P.Pool.size c.args.pool.now) c.args.trace.now.blocks c.first_place.result =
     subst (λ (x : ℕ × List Ptr). IsFirstPlace x.0 x.1 c.first_place.result) (λ i. (c.len.ensures i, c.as_slice.ensures i)) c.first_place.ensures.place in
-    let begun = turn-begun c.in_ok-arcs.arcs c.args.restored.now g.P.Pool g.D.CacheDev c.args.trace.now (between_groups c.args.pool.now 1 c.first_place.result) c.args.device.now c.in_ok-crew-2.crew (between-begun c.in_ok-arcs.arcs c.args.restored.now g.P.Pool g.D.CacheDev c.args.trace.now (between_groups c.args.pool.now 1 c.first_place.result) c.args.device.now c.in_ok-arcs.parties.items c.in_ok-crew.crew c.in_ok-crew-2.crew
-    c.in_ok-arcs.ensures.parties c.in_ok-crew.ensures.parties c.in_ok-crew.ensures.none many c.in_ok-crew-2.ensures.made c.in_ok-crew-2.ensures.kept
-    (last-knows (openings_of c.args.trace.now) c.in_ok-crew.crew.parties.items c.in_ok-crew.crew.feeder (subst (AllKnow (openings_of c.args.trace.now)) c.in_ok-crew.ensures.parties c.in_ok-arcs.ensures.known))
-    place (first-may g.P.Pool c.args.pool.now c.first_place.result c.len.result c.first_place.ensures.aligned c.first_place.ensures.inside c.len.ensures)) in
+    let begun =
+    turn-begun c.in_ok-arcs.arcs c.args.restored.now g.P.Pool g.D.CacheDev c.args.trace.now (between_groups c.args.pool.now 1 c.first_place.result) c.args.device.now c.in_ok-arcs.parties.items c.in_ok-crew.crew c.in_ok-crew-2.crew c.in_ok-arcs.ensures.parties
+    c.in_ok-crew.ensures.parties c.in_ok-crew.ensures.none many c.in_ok-crew-2.ensures.made c.in_ok-crew-2.ensures.kept c.in_ok-arcs.ensures.known place
+    (first-may g.P.Pool c.args.pool.now c.first_place.result c.len.result c.first_place.ensures.aligned c.first_place.ensures.inside c.len.ensures) c.in_ok-arcs.ensures.config in
     let done = c.in_ok-crew-3.ensures.done c.args.restored.now (plain_work [] []) begun in
     let kepts = done.1.done.reached.come.kepts in
     let long = c.in_ok-crew-3.crew.kept.ok.0 in
@@ -97,10 +95,10 @@ returns-clause-ran g c =
     let many : length c.in_ok-crew.crew.kept.items ≡ length c.in_ok-crew.crew.parties.items = let a = c.in_ok-crew.crew.kept.ok.0 in let b = c.in_ok-crew.crew.parties.ok.0 in let e = c.in_ok-crew.ensures.count in omega (arith, a, b, e) in
     let place : IsFirstPlace (g.P.Pool.size c.args.pool.now) c.args.trace.now.blocks c.first_place.result =
     subst (λ (x : ℕ × List Ptr). IsFirstPlace x.0 x.1 c.first_place.result) (λ i. (c.len.ensures i, c.as_slice.ensures i)) c.first_place.ensures.place in
-    let begun = turn-begun c.in_ok-arcs.arcs c.args.restored.now g.P.Pool g.D.CacheDev c.args.trace.now (between_groups c.args.pool.now 1 c.first_place.result) c.args.device.now c.in_ok-crew-2.crew (between-begun c.in_ok-arcs.arcs c.args.restored.now g.P.Pool g.D.CacheDev c.args.trace.now (between_groups c.args.pool.now 1 c.first_place.result) c.args.device.now c.in_ok-arcs.parties.items c.in_ok-crew.crew c.in_ok-crew-2.crew
-    c.in_ok-arcs.ensures.parties c.in_ok-crew.ensures.parties c.in_ok-crew.ensures.none many c.in_ok-crew-2.ensures.made c.in_ok-crew-2.ensures.kept
-    (last-knows (openings_of c.args.trace.now) c.in_ok-crew.crew.parties.items c.in_ok-crew.crew.feeder (subst (AllKnow (openings_of c.args.trace.now)) c.in_ok-crew.ensures.parties c.in_ok-arcs.ensures.known))
-    place (first-may g.P.Pool c.args.pool.now c.first_place.result c.len.result c.first_place.ensures.aligned c.first_place.ensures.inside c.len.ensures)) in
+    let begun =
+    turn-begun c.in_ok-arcs.arcs c.args.restored.now g.P.Pool g.D.CacheDev c.args.trace.now (between_groups c.args.pool.now 1 c.first_place.result) c.args.device.now c.in_ok-arcs.parties.items c.in_ok-crew.crew c.in_ok-crew-2.crew c.in_ok-arcs.ensures.parties
+    c.in_ok-crew.ensures.parties c.in_ok-crew.ensures.none many c.in_ok-crew-2.ensures.made c.in_ok-crew-2.ensures.kept c.in_ok-arcs.ensures.known place
+    (first-may g.P.Pool c.args.pool.now c.first_place.result c.len.result c.first_place.ensures.aligned c.first_place.ensures.inside c.len.ensures) c.in_ok-arcs.ensures.config in
     let done = c.in_ok-crew-3.ensures.done c.args.restored.now (plain_work [] []) begun in
     let config = c.in_ok-arcs.ensures.config in
     let one : c.in_ok-arcs.arcs.config.callers ≡ 1 = ap (λ (x : Config). x.callers) config ∙ c.requires.one in
