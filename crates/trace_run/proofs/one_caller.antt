@@ -14,9 +14,12 @@ pub mod PlainReplyLemmas
 pub mod PlainReportLemmas
 pub mod ResidentLemmas
 pub mod RestAlone
+pub mod SequenceEnds
 pub mod SoleLemmas
+pub mod StandLemmas
 pub mod TellLemmas
 pub mod TurnAnswers
+pub mod TurnBegins
 pub mod TurnLists
 pub mod TurnSteps
 pub mod TurnUses
