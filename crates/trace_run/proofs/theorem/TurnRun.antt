@@ -56,7 +56,7 @@ module _ {P D : Type 0} (cache : Cache) (pools : Ghosts P) (devices : Devices D)
     lines = subst (λ (l : List Restored). AreInSequence pools devices trace work.lines work.feeds (begins_so trace.config l (between_groups before 1 place) (lent_in was)) d.at) (sym found) d.lines;
     last_line = d.last;
     ended = d.ends;
-    back = d.device;
+    handed_back = d.device;
     closes = closes-there cache valid restored (pools.size before) (pools.told before) place trace.blocks os more rs work crew come closed h trace config one d.done.reached.knows d.last d.stands;
     unfed = d.unfed;
     counted = run-counted cache valid restored (pools.size before) (pools.told before) place trace.blocks os more rs work crew come closed h 0 (omega (arith, one));
