@@ -29,7 +29,7 @@ use Rattle.trace_run.specs.declared.ran.Ending.{Ending}
 use Rattle.trace_run.specs.declared.ran.Ending.TheVariants.{Fork, Full, Sync, Whole}
 use Rattle.trace_run.specs.Deeds.{events_of_cell}
 use Rattle.trace_run.specs.KeptBlocks.{read_of}
-use Rattle.trace_run.specs.Meeting.{HaveParted, IsLevel, Resized, SeesEntries, resizes_in}
+use Rattle.trace_run.specs.Meeting.{Resized, SeesEntries, resizes_in}
 use Rattle.trace_run.specs.Objects.{Line, Work}
 use Rattle.trace_run.specs.Openings.{Knows, opening_map, openings_of}
 use Rattle.trace_run.specs.RunWork.{RunWork}
@@ -40,18 +40,13 @@ use Rattle.trace_run.specs.one_caller.InTurn.{GoInSequence, IsOfTrace, StandAt}
 use Rattle.trace_run.specs.one_caller.Sequence.{EndsThere, GoesOn, LeavesSynced, Sequence, StopsThere, TakesCells, TheseCells}
 use Rattle.trace_run.proofs.CellLemmas.{opening-at, opening-same}
 use Rattle.trace_run.proofs.callers.EndLineLemmas.{Halted, JustThese, StoppedAs, SyncedThese, Turned}
+use Rattle.trace_run.proofs.callers.MeetLemmas.{parted-level}
 use Rattle.trace_run.proofs.callers.SyncRun.{lines-both, stops-sync-as, sync-as}
 use Rattle.trace_run.proofs.deeds.ClosedDeeds.{entries-read}
 use Rattle.trace_run.proofs.syncs.SyncTold.{noted-there}
 use Rattle.trace_run.proofs.syncs.SyncTurned.{noted-inserts}
 
 -- ---- parties that stand level
-
-parted-levels : (cache : Cache) (lines : ℕ → List Seen) (os xs : List PartyPlace) → HaveParted cache lines os xs → AllByRecursion (IsLevel cache.config lines) xs
-parted-levels cache lines [] [] parted = tt
-parted-levels cache lines [] (x ∷ xs) parted = absurd parted
-parted-levels cache lines (o ∷ os) [] parted = absurd parted
-parted-levels cache lines (o ∷ os) (x ∷ xs) parted = (parted.0.level, parted-levels cache lines os xs parted.1)
 
 -- of each cell all have seen this
 all-entries : (g : Config) (entries : ℕ → List Seen) (xs : List PartyPlace) → ((i : ℕ) → IsCell g i → AllByRecursion (λ x. front_of i x.own.seen ≡ entries i) xs) → AllByRecursion (SeesEntries g entries) xs
@@ -90,7 +85,7 @@ module _ {P D : Type 0} (trace : Trace) (cache : Cache) (config : cache.config �
     capped-stands = record {
       lines = r.lines;
       events = λ shard. ap events_in (sym (r.level shard)) ∙ (r.seen shard ∙ (λ i. (r.same stands.lines stands.level.0 stands.level.1 shard ∙ stands.events shard) i ++ resizes_in (config i).shards (config i).callers c shard));
-      level = (r.level, parted-levels cache r.lines old.parties.items new.parties.items r.parted);
+      level = (r.level, parted-level cache r.lines old.parties.items new.parties.items r.parted);
       entries = r.same_cells had stands.entries.0 stands.entries.1;
       kept = same-kept;
     }
@@ -141,7 +136,7 @@ module _ {P D : Type 0} (trace : Trace) (cache : Cache) (config : cache.config �
     synced-stands pool = record {
       lines = j.lines;
       events = λ shard. ap events_in (sym (j.level shard)) ∙ (j.seen shard ∙ ((λ i. front shard i ++ inserts_in g t xs shard (front shard i)) ∙ ap (λ (es : List Event). at.shards shard ++ es) (inserts shard)));
-      level = (j.level, parted-levels cache j.lines old.parties.items new.parties.items j.parted);
+      level = (j.level, parted-level cache j.lines old.parties.items new.parties.items j.parted);
       entries = all-entries g (λ i. lines_of (at.cells i ++ events_of_cell i work.noted)) (new.feeder ∷ new.parties.items) (λ i in_range.
           let met = j.met i in_range in
           subst (λ (l : List Seen). AllByRecursion (λ (x : PartyPlace). front_of i x.own.seen ≡ l) (new.feeder ∷ new.parties.items)) (sym met.2.0 ∙ feeder-sees i in_range) met.2);
