@@ -1,7 +1,8 @@
 -- A line that ends a group of several callers: what the feeder did for it, and what it leaves of the pool and of what stands between two groups.
-use Rattle.std.proofs.Common.{◌≡◌, ◌⊎◌, ◌%◌, ◌≤◌, ◌++◌, ℕ, suc, false, List, length, Option, Some, Result, Ok, Err, refl, sym, ap, ◌∙◌, subst, inl, inr, arith}
+use Rattle.std.proofs.Common.{◌≡◌, ◌⊎◌, ◌%◌, ◌≤◌, ◌++◌, ℕ, suc, false, List, [], length, Option, Some, Result, Ok, Err, refl, sym, ap, ◌∙◌, subst, inl, inr, arith}
 use Rattle.std.specs.Prelude.{slice_get}
 use Rattle.blk_ptr.specs.Size.{sector}
+use Rattle.arc_core.specs.declared.config.Config.{Config}
 use Rattle.arc_core.specs.declared.event.Event.{Event}
 use Rattle.arc_table.specs.Cache.{Cache}
 use Rattle.dbuf_cells.specs.Turns.{OnHeap}
@@ -17,7 +18,7 @@ use Rattle.trace_text.specs.declared.trace.Trace.{Trace}
 use Rattle.vdev_io.specs.declared.pool.Pool.{Ghosts}
 use Rattle.trace_run.specs.declared.groups.Crew.{Crew}
 use Rattle.trace_run.specs.declared.ran.Ending.{Ending}
-use Rattle.trace_run.specs.declared.ran.Ending.TheVariants.{Full, Sync}
+use Rattle.trace_run.specs.declared.ran.Ending.TheVariants.{Fork, Full, Sync, Whole}
 use Rattle.trace_run.specs.Deeds.{HasToldOthers, acts_of_events}
 use Rattle.trace_run.specs.Meeting.{resizes_in}
 use Rattle.trace_run.specs.Objects.{Line, Work, no_work}
@@ -26,7 +27,7 @@ use Rattle.trace_run.specs.RunWork.{RunWork}
 use Rattle.trace_run.specs.Syncing.{SyncedJoined, SyncsJoined, inserts_in, noted_of}
 use Rattle.trace_run.specs.callers.Group.{LeavesFront}
 use Rattle.trace_run.specs.callers.Groups.{DidCap, DidEndLine, DidSync, EndsLines, MaySync, StoodSo, TellsSync, goes_on}
-use Rattle.trace_run.specs.callers.Together.{EndsGroup, BetweenGroups, StoppedAt, groups_begun, groups_done}
+use Rattle.trace_run.specs.callers.Together.{EndsGroup, BetweenGroups, OfCells, StoppedAt, StopsSync, SyncsGroup, groups_begun, groups_done}
 use Rattle.trace_run.proofs.callers.EndedLemmas.{EndsSo, MadeWork, StopsSo, cap-ends, with_stop}
 use Rattle.trace_run.proofs.callers.FrontLemmas.{front-same}
 use Rattle.trace_run.proofs.syncs.SyncTurned.{AreToldOf, more-acts, more-noted, none-own, sync-of, sync-stood, sync_work, work-fits}
@@ -37,6 +38,31 @@ pub record IsUnused {P : Type 0} (pools : Ghosts P) (old now : P) : Type 0 where
   pub told : pools.told now ≡ pools.told old
   pub reads : pools.reads now ≡ pools.reads old
   pub faults : pools.faults now ≡ pools.faults old
+
+-- just these cells and these blocks, which are this work
+abbrev pub JustThese : Work → List OnHeap → List SyncItem → OfCells
+JustThese work cells xs before tick v cs ys = (v ≡ work) × (cs ≡ cells) × (ys ≡ xs)
+
+-- A sync of this tick took these cells, and noted and inserted these blocks, which are this work.
+pub record SyncedThese (cache : Cache) (t : ℕ) (work : Work) (old new : Crew OnHeap) : Type 0 where
+  pub cells : List OnHeap
+  pub xs : List SyncItem
+  pub joined : SyncsJoined cache t old.feeder old.parties.items new.feeder new.parties.items cells xs
+  pub number : old.feeder.number ≡ cache.config.callers
+  pub noted : work.noted ≡ noted_of cache.config.callers xs
+
+-- the line was answered: it gave a capacity, or it is a sync that was done
+abbrev pub AnsweredAs : {P : Type 0} → Cache → Ghosts P → Op → Reply → Work → (from to : BetweenGroups P) → (old new : Crew OnHeap) → Type 0
+AnsweredAs cache pools op reply work from to old new =
+    ((c : ℕ) × (op ≡ ops.Cap c) × (reply ≡ Capped c) × DidCap cache c from to old new (Ok reply))
+    ⊎ ((t : ℕ) × (op ≡ ops.Txg t) × (these : SyncedThese cache t work old new) × SyncsGroup pools cache.config (JustThese work these.cells these.xs) [] t reply work from to)
+
+-- the line is a sync that stopped for this reason
+abbrev pub StoppedAs : {P : Type 0} → Ghosts P → Config → OfCells → Trace → List Reply → Work → Ending → (from : BetweenGroups P) → (after : P) → Type 0
+StoppedAs pools config Cells trace replies work Whole from after = ⊥
+StoppedAs pools config Cells trace replies work Fork from after = ⊥
+StoppedAs pools config Cells trace replies work Sync from after = StopsSync pools config Cells trace replies [] work fault.PoolFault from after
+StoppedAs pools config Cells trace replies work (Full need left) from after = StopsSync pools config Cells trace replies [] work (fault.PoolFull need left) from after
 
 -- What a line that ends a group comes to where it is answered, behind these lines: what the feeder did for it, and what stands before the next group.
 pub record Turned {P : Type 0} (cache : Cache) (pools : Ghosts P) (openings : List (List ℕ)) (before : List Line) (op : Op) (reply : Reply) (from to : BetweenGroups P) (old new : Crew OnHeap) : Type 0 where
@@ -51,6 +77,7 @@ pub record Turned {P : Type 0} (cache : Cache) (pools : Ghosts P) (openings : Li
   pub aligned : to.next % sector ≡ 0
   pub inside : to.next ≤ pools.size to.pool
   pub ends : EndsGroup pools cache.config (StoodSo openings cache.config new.feeder) before (Some (record { op = op; reply = reply; work = work })) from to
+  pub is : AnsweredAs cache pools op reply work from to old new
 
 -- And where it is a sync that stopped, so that the lines end before it.
 pub record Halted {P : Type 0} (cache : Cache) (pools : Ghosts P) (trace : Trace) (replies : List Reply) (done : RunWork) (ending : Ending) (from : BetweenGroups P) (after : P) (old new : Crew OnHeap) : Type 0 where
@@ -62,6 +89,8 @@ pub record Halted {P : Type 0} (cache : Cache) (pools : Ghosts P) (trace : Trace
   pub begun : (ls : List Line) → groups_done ending ls ≡ groups_begun ls
   pub ended : EndsLines pools cache trace replies new.feeder (with_stop done work) ending from after
   pub ticks : (t : ℕ) → StoppedAt trace replies ending t → t ≡ tick
+  pub these : SyncedThese cache tick work old new
+  pub is : StoppedAs pools cache.config (JustThese work these.cells these.xs) trace replies work ending from after
 
 -- ---- what a sync made
 
@@ -107,6 +136,7 @@ module _ {P : Type 0} (cache : Cache) (pools : Ghosts P) (openings : List (List 
         aligned = ap (λ (n : ℕ). n % sector) next ∙ may.aligned;
         inside = let size : pools.size to.pool ≡ pools.size from.pool = ap pools.size pool in omega (arith, next, size, may.inside);
         ends = d.stays;
+        is = inl (c, refl, refl, subst (λ (r : Reply). DidCap cache c from to old new (Ok r)) is d);
       }
 
   ok-is : (a b : Reply) → ◌≡◌ {A = Result Reply Ending} (Ok a) (Ok b) → a ≡ b
@@ -126,8 +156,9 @@ module _ {P : Type 0} (cache : Cache) (pools : Ghosts P) (openings : List (List 
           let need = s.next_is in
           let fits = s.fits in
           let size = s.outside.size in
+          let work = sync_work cache.config.callers o.xs j.inserts in
           subst (λ (r : Reply). Turned cache pools openings before (ops.Txg t) r from to old new) (sym (ok-is reply (Synced from.group done.blocks done.bytes) told.0)) record {
-            work = sync_work cache.config.callers o.xs j.inserts;
+            work = work;
             more = λ shard. inserts_in cache.config t o.xs shard (j.front shard);
             so = record {
               made = sync-made cache old new so_far.number kept t o.cells o.xs j;
@@ -151,6 +182,12 @@ module _ {P : Type 0} (cache : Cache) (pools : Ghosts P) (openings : List (List 
               group = told.1;
               next = told.2;
             };
+            is = inr (
+              t,
+              refl,
+              record { cells = o.cells; xs = o.xs; joined = j; number = so_far.number; noted = refl },
+              record { done = done; answer = o.answers (JustThese work o.cells o.xs [] t work) (refl, refl, refl); replied = refl; group = told.1; next = told.2 },
+            );
           }
       go (Err fault.PoolFault) s told = absurd (never-both reply Sync told)
       go (Err (fault.PoolFull need left)) s told = absurd (never-both reply (Full need left) told)
@@ -185,6 +222,12 @@ module _ {P : Type 0} (cache : Cache) (pools : Ghosts P) (trace : Trace) (replie
       here = λ shard below. more-noted cache t old.feeder old.parties.items new.feeder new.parties.items cells xs j shard;
     }
 
+    abbrev synced-these : SyncedThese cache t did-work old new
+    synced-these = record { cells = cells; xs = xs; joined = j; number = so_far.number; noted = refl }
+
+    abbrev Just : List OnHeap → List SyncItem → Type 0
+    Just = JustThese did-work cells xs [] t did-work
+
     abbrev So : List OnHeap → List SyncItem → Type 0
     So = StoodSo (openings_of trace) cache.config new.feeder done.lines t did-work
 
@@ -208,6 +251,8 @@ module _ {P : Type 0} (cache : Cache) (pools : Ghosts P) (trace : Trace) (replie
             begun = λ ls. refl;
             ended = record { behind = record { tick = t; at = at }; answer = o.answers (So t at o.cells o.xs o.joined) (stood t at o.cells o.xs o.joined) };
             ticks = λ u is. tick-is u t (sym is ∙ at);
+            these = synced-these t at o.cells o.xs o.joined;
+            is = record { behind = record { tick = t; at = at }; answer = o.answers (Just t at o.cells o.xs o.joined) (refl, refl, refl) };
           }
       go (Err (fault.PoolFull need left)) s told =
           let o = sync-of pools cache from.group t from.next from.pool to.pool old.feeder old.parties.items new.feeder new.parties.items (Err (fault.PoolFull need left)) refl s in
@@ -220,6 +265,8 @@ module _ {P : Type 0} (cache : Cache) (pools : Ghosts P) (trace : Trace) (replie
             begun = λ ls. refl;
             ended = record { behind = record { tick = t; at = at }; answer = o.answers (So t at o.cells o.xs o.joined) (stood t at o.cells o.xs o.joined) };
             ticks = λ u is. tick-is u t (sym is ∙ at);
+            these = synced-these t at o.cells o.xs o.joined;
+            is = record { behind = record { tick = t; at = at }; answer = o.answers (Just t at o.cells o.xs o.joined) (refl, refl, refl) };
           }
       go (Err fault.NoMemory) s told = absurd told
 

@@ -34,7 +34,7 @@ use Rattle.trace_run.proofs.deeds.ClosedDeeds.{entries-read}
 -- ---- what is said of the cells at each sync may be said otherwise
 
 module _ {P : Type 0} (pools : Ghosts P) (config : Config) (Said So : OfCells) (turned : (before : List Line) (tick : ℕ) (work : Work) (cells : List OnHeap) (xs : List SyncItem) → Said before tick work cells xs → So before tick work cells xs) where
-  sync-as : (before : List Line) (t : ℕ) (reply : Reply) (work : Work) (from to : BetweenGroups P) → SyncsGroup pools config Said before t reply work from to → SyncsGroup pools config So before t reply work from to
+  pub sync-as : (before : List Line) (t : ℕ) (reply : Reply) (work : Work) (from to : BetweenGroups P) → SyncsGroup pools config Said before t reply work from to → SyncsGroup pools config So before t reply work from to
   sync-as before t reply work from to s = record {
     done = s.done;
     answer = record {
@@ -116,7 +116,7 @@ module _ {P : Type 0} (pools : Ghosts P) (config : Config) (Said So : OfCells) (
 
 -- ---- the cells of the closed cache
 
-lines-both : (a b : List CellEvent) → lines_of (a ++ b) ≡ lines_of a ++ lines_of b
+pub lines-both : (a b : List CellEvent) → lines_of (a ++ b) ≡ lines_of a ++ lines_of b
 lines-both a b = ap (map line.Entry) (map-append event_numbers a b) ∙ map-append line.Entry (map event_numbers a) (map event_numbers b)
 
 -- what begins with entries' lines begins with the entries
