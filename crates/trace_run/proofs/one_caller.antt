@@ -5,6 +5,7 @@ pub mod AskingLemmas
 pub mod AskingLines
 pub mod EndAlone
 pub mod FedAlone
+pub mod FeedLine
 pub mod LentLemmas
 pub mod NamedLemmas
 pub mod OverShardLemmas
@@ -15,6 +16,7 @@ pub mod PlainReportLemmas
 pub mod ResidentLemmas
 pub mod RestAlone
 pub mod SoleLemmas
+pub mod StandLemmas
 pub mod TellLemmas
 pub mod TurnAnswers
 pub mod TurnLists
