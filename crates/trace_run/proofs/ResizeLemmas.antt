@@ -302,7 +302,7 @@ module _ {C : Type 0} (m : Meanings C) (cache : Cache) (p : Place (Known C)) (ot
       pub parted : (xs ≡ map (parted_from r) others) × (z ≡ left_alone r)
       parted = all-parted others numbers r xs z kept-joined (subst (λ (l : List ℕ). AreLast l (joined_of others)) (sym numbers_are) (are-last others)) parts
 
-      left : MadeJoined cache more p others (left_alone r) (map (parted_from r) others)
+      pub left : MadeJoined cache more p others (left_alone r) (map (parted_from r) others)
       left = record {
         lines = lines;
         parted = all-parted-from others have.all differ;
@@ -329,6 +329,11 @@ module _ {C : Type 0} (m : Meanings C) (cache : Cache) (p : Place (Known C)) (ot
             let sees : SeesEntries g entries r = λ i in_range. given.left.fronts i in_range ∙ have.level_cells entries own rest i in_range in
             (sees, all-level cache q r (leaves-grow g q r given.left) entries sees others have.all);
       }
+
+      -- the events before it are what the party had seen that all had joined
+      pub left-front : (shard : ℕ) → seen_of g shard q ≡ left.front shard
+      unfolding left
+      left-front shard = refl
 
       pub made-joined : MadeJoined cache more p others z xs
       made-joined = subst (λ (x : Place (Known C) × List (Place (Known C))). MadeJoined cache more p others x.0 x.1) (λ i. (sym parted.1 i, sym parted.0 i)) left

@@ -1,6 +1,7 @@
 pub mod FedLemmas
 pub mod FeedLemmas
 pub mod FeedStands
+pub mod JoinedLemmas
 pub mod LeftLemmas
 pub mod PickedLemmas
 pub mod SeriesLemmas

@@ -5,6 +5,7 @@ pub mod AskingLemmas
 pub mod AskingLines
 pub mod EndAlone
 pub mod FedAlone
+pub mod FeedLine
 pub mod LentLemmas
 pub mod NamedLemmas
 pub mod OverShardLemmas

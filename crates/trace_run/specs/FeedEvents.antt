@@ -3,15 +3,24 @@ use Rattle.std.specs.Prelude.{◌≡◌, ℕ, ◌&&◌, Bool, true, false, if◌
 use Rattle.std.specs.List.{AllByRecursion}
 use Rattle.arc_core.specs.declared.config.Config.{Config}
 use Rattle.arc_core.specs.declared.event.Event.{Event}
+use Rattle.vdev_io.specs.declared.device.CacheDev.{Ghosts}
+use Rattle.turn_table.specs.Places.{Place}
+use Rattle.arc_table.specs.declared.view.Known.{Known}
+use Rattle.arc_table.specs.Cache.{Cache}
+use Rattle.arc_table.specs.Items.{Meanings}
+use Rattle.arc_table.specs.Seen.{HasAll, seen_of}
 use Rattle.l2_feed.specs.Acts.{Act}
 use Rattle.l2_feed.specs.Alone.{events_at}
 use Rattle.trace_text.specs.declared.op.Op.{Op}
+use Rattle.trace_text.specs.declared.op.Op.TheVariants.{Feed}
 use Rattle.trace_text.specs.declared.reply.Reply.{Reply}
 use Rattle.trace_text.specs.declared.reply.Reply.TheVariants as replies
 use Rattle.trace_text.specs.declared.reply.Reply.TheVariants.{Fed}
+use Rattle.trace_run.specs.declared.device.Device.{Device}
 use Rattle.trace_run.specs.Acts.{events_of_feeder}
-use Rattle.trace_run.specs.Feeds.{FeedDone, IsFeedOf, is_feed}
+use Rattle.trace_run.specs.Feeds.{DoesFeeds, FeedDone, IsFeedOf, is_feed}
 use Rattle.trace_run.specs.Lines.{replies_where}
+use Rattle.trace_run.specs.Meeting.{MadeJoined}
 
 -- the reply tells of a feed
 abbrev pub is_fed : Reply → Bool
@@ -62,3 +71,15 @@ events_of_made g shard (feed ∷ feeds) = events_at g g.callers shard feed.acts 
 pub record AreFeedsTold (config : Config) (ops : List Op) (replies : List Reply) (feeds : List FeedDone) : Type 0 where
   pub told : filter is_fed (replies_where is_feed ops replies) ≡ map (λ feed. Fed feed.report) feeds
   pub shapes : AllByRecursion (IsFeedOf config.shards) feeds
+
+-- The feeder, whose party p was, did a line `feed` while all others had joined it; then they parted. With their parties it had every number.
+pub record FedJoined {C D : Type 0} (m : Meanings C) (devices : Ghosts D) (cache : Cache) (reply : Reply) (was now : Device D) (p : Place (Known C)) (olds : List (Place (Known C))) (q : Place (Known C)) (news : List (Place (Known C))) : Type 0 where
+  -- with the others' parties, before the feed and behind it
+  pub joined : Place (Known C)
+  pub worked : Place (Known C)
+  pub number : joined.number ≡ cache.config.callers
+  pub all : HasAll joined
+  pub fed : DoesFeeds m devices cache (Feed ∷ []) (reply ∷ []) was now joined worked
+  pub made : MadeJoined cache (λ shard. events_of_made cache.config shard fed.feeds) p olds q news
+  pub met : (shard : ℕ) → seen_of cache.config shard joined ≡ made.front shard
+  pub parted : (shard : ℕ) → seen_of cache.config shard worked ≡ seen_of cache.config shard q

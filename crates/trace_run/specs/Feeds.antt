@@ -83,7 +83,13 @@ module _ {D : Type 0} (devices : Ghosts D) where
   AsksOfFeeds feeds (Some was) None = ⊥
   AsksOfFeeds feeds (Some was) (Some now) = AsksForFeeds feeds was now
 
--- The feeder's party between its lines: it stands by itself, keeps nothing, and has settled all that it picked.
+-- The feeder's party between its lines: it keeps nothing, and has settled all that it picked. Others may have joined it.
+pub record IsSettledFeeder {C : Type 0} (cache : Cache) (p : Place (Known C)) : Type 0 where
+  pub number : p.number ≡ cache.config.callers
+  pub stands : Stands cache p []
+  pub settled : (i : ℕ) → picks_of i p ≡ []
+
+-- so it is, and no other has joined it
 pub record IsIdleFeeder {C : Type 0} (cache : Cache) (p : Place (Known C)) : Type 0 where
   pub number : p.number ≡ cache.config.callers
   pub alone : p.joined ≡ []

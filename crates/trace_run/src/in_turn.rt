@@ -11,7 +11,8 @@ ghost use Rattle.trace_text.specs.declared.op.Op.TheVariants as ops;
 ghost use Rattle.trace_text.specs.declared.rebuilt.Rebuilt.{Rebuilt};
 ghost use Rattle.trace_run.specs.Devices.{WasLent, lent_in};
 ghost use Rattle.trace_run.specs.FeedSeries.{LeavesFed};
-ghost use Rattle.trace_run.specs.Feeds.{DoesFeeds, IsIdleFeeder, MayBeFed};
+ghost use Rattle.trace_run.specs.FeedEvents.{FedJoined};
+ghost use Rattle.trace_run.specs.Feeds.{IsIdleFeeder, MayBeFed};
 ghost use Rattle.trace_run.specs.KeptBlocks.{Stands, read_of};
 ghost use Rattle.trace_run.specs.Lines.{caller_of, has_further, has_sync, is_further, is_of_caller, is_sync};
 ghost use Rattle.trace_run.specs.Meeting.{MayGoOn};
@@ -32,7 +33,7 @@ ghost use Rattle.trace_run.specs.one_caller.OverShards.{AreNamed};
 
 use crate::alone::run_alone;
 use crate::device::Device;
-use crate::feeder::feed_line;
+use crate::feeder::feed_joined;
 use crate::groups::{Came, Crew, Syncs, append, crew_of, end_line, first_place, goes_on};
 use crate::kept_blocks::KeptBlocks;
 use crate::lines::{all_lines, caller_of};
@@ -163,33 +164,34 @@ fn own_lines<P: Pool, D: CacheDev, G: Gate>(
     Ok((crew, replies))
 }
 
-/// Does a line `feed`.
+/// Does a line `feed`, while the caller has joined the feeder.
 fn feed_alone<D: CacheDev>(
     alloc: Global,
     rt: &impl Wait,
     arcs: &Cells,
     crew: Crew<HeapCell>,
     device: &mut Device<D>,
-) -> (Crew<HeapCell>, Reply)
+) -> Result<(Crew<HeapCell>, Reply), NoMemory>
+    requires may { MayGoOn arcs.now [] crew.feeder crew.parties.items }
     requires feeder { IsIdleFeeder arcs.now crew.feeder }
     requires device { MayBeFed D.CacheDev arcs.now.config device.old }
-    ensures fed { DoesFeeds dbuf_meanings D.CacheDev arcs.now (ops.Feed ∷ []) (result.1 ∷ []) device.old device.new crew.feeder result.0.feeder }
-    ensures callers { (result.0.parties ≡ crew.parties) × (result.0.kept ≡ crew.kept) }
-    ensures feeder { IsIdleFeeder arcs.now result.0.feeder }
+    ensures fed { IfOk result (λ done. FedJoined dbuf_meanings D.CacheDev arcs.now done.1 device.old device.new crew.feeder crew.parties.items done.0.feeder done.0.parties.items) }
+    ensures kept { IfOk result (λ done. done.0.kept ≡ crew.kept) }
     ensures device { MayBeFed D.CacheDev arcs.now.config device.new }
+    ensures used { WasInUse D.CacheDev (ops.Feed ∷ []) device.old device.new }
 {
     let Crew {
-        mut feeder,
+        feeder,
         parties,
         kept,
     } = crew;
-    let reply = feed_line(alloc, rt, arcs, &mut feeder, device);
+    let (feeder, parties, reply) = feed_joined(alloc, rt, arcs, feeder, parties, device)?;
     let crew = Crew {
         feeder,
         parties,
         kept,
     };
-    (crew, reply)
+    Ok((crew, reply))
 }
 
 /// Does a line that is no caller's. The lines end here where a sync stopped.
@@ -218,7 +220,7 @@ fn other_line<P: Pool, D: CacheDev>(
 {
     match op {
         Op::Feed => {
-            let (crew, reply) = feed_alone(alloc, rt, arcs, crew, device);
+            let (crew, reply) = feed_alone(alloc, rt, arcs, crew, device)?;
             Ok((crew, syncs, Ok(reply)))
         }
         Op::Txg { .. } | Op::Cap { .. } => end_line(alloc, rt, arcs, crew, op, syncs, pool),

@@ -430,7 +430,7 @@ pub record HasFedMore {C : Type 0} (cache : Cache) (feeds : List FeedDone) (p q 
 
 module _ {C D : Type 0} (m : Meanings C) (devices : Ghosts D) (cache : Cache) where
   -- what several feeds leave
-  record Leaves (feeds : List FeedDone) (p q : Place (Known C)) : Type 0 where
+  pub record Leaves (feeds : List FeedDone) (p q : Place (Known C)) : Type 0 where
     pub still : StandsStill m cache p q
     pub events : (shard : ℕ) → own_events cache.config.callers (seen_of cache.config shard q) ≡ own_events cache.config.callers (seen_of cache.config shard p) ++ events_of_made cache.config shard feeds
 
@@ -461,7 +461,7 @@ module _ {C D : Type 0} (m : Meanings C) (devices : Ghosts D) (cache : Cache) wh
     events = λ shard. ap (λ (x : Place (Known C)). own_events cache.config.callers (seen_of cache.config shard x)) is ∙ sym (append-nil (own_events cache.config.callers (seen_of cache.config shard p)));
   }
 
-  made-leave : (fs : List FeedDone) (a b : Device D) (p q : Place (Known C)) → Stands cache p [] → p.number ≡ cache.config.callers → MadeFeedsOf m devices cache fs a b p q → Leaves fs p q
+  pub made-leave : (fs : List FeedDone) (a b : Device D) (p q : Place (Known C)) → Stands cache p [] → p.number ≡ cache.config.callers → MadeFeedsOf m devices cache fs a b p q → Leaves fs p q
   made-leave fs device.None device.None p q stands number made = subst (λ (l : List FeedDone). Leaves l p q) (sym made.0) (leave-none p q stands made.1)
   made-leave fs (device.Short a) (device.Short b) p q stands number made = subst (λ (l : List FeedDone). Leaves l p q) (sym made.0) (leave-none p q stands made.2)
   made-leave fs (device.Ready a) (device.Ready b) p q stands number made = feeds-leave fs a.dev b.dev a.cursor b.cursor p q stands number made.1

@@ -25,9 +25,9 @@ use Rattle.trace_text.specs.declared.reply.Reply.TheVariants.{Fed, FedNone}
 use Rattle.trace_run.specs.declared.device.Device.{Device}
 use Rattle.trace_run.specs.declared.device.Device.TheVariants as device
 use Rattle.trace_run.specs.Devices.{lent_in}
-use Rattle.trace_run.specs.Feeds.{AreFedReplies, DoesFeeds, FeedDone, IsIdleFeeder, MadeFeeds, MadeFeedsOf, TriesFeeds, is_feed}
+use Rattle.trace_run.specs.Feeds.{AreFedReplies, DoesFeeds, FeedDone, IsIdleFeeder, IsSettledFeeder, MadeFeeds, MadeFeedsOf, TriesFeeds, is_feed}
 use Rattle.trace_run.proofs.AnswerLemmas.{take_one}
-use Rattle.trace_run.proofs.feeds.FeedStands.{acts-still, idle-ready}
+use Rattle.trace_run.proofs.feeds.FeedStands.{acts-still, settled-ready}
 
 -- ---- the lines among others
 
@@ -131,16 +131,24 @@ pub as-many : {D : Type 0} (o : Option D) (ls : List Op) (fs : List FeedDone) (r
 as-many None ls fs rs so = ap length so.1 ∙ length-map ls (λ line. FedNone)
 as-many (Some d) ls fs rs so = ap length so.1 ∙ (length-map fs (λ (feed : FeedDone). Fed feed.report) ∙ so.0)
 
+-- ---- the feeder between its lines
+
+module _ {C : Type 0} (cache : Cache) (p : Place (Known C)) where
+  pub idle-settled : IsIdleFeeder cache p → IsSettledFeeder cache p
+  idle-settled idle = record { number = idle.number; stands = idle.stands; settled = idle.settled }
+
+  pub settled-idle : IsSettledFeeder cache p → p.joined ≡ [] → IsIdleFeeder cache p
+  settled-idle settled alone = record { number = settled.number; alone = alone; stands = settled.stands; settled = settled.settled }
+
 -- ---- one line
 
-module _ {C D : Type 0} (m : Meanings C) (devices : Ghosts D) (cache : Cache) (was now : D) (old new : CursorState) (p q : Place (Known C)) (report : FeedReport) (idle : IsIdleFeeder cache p) (fed : HasFed m cache.config devices was now old new p q report) where
-  -- the feeder is idle again
-  pub idle-again : IsFeederReady cache q → IsIdleFeeder cache q
-  idle-again ready =
-      let still = acts-still m cache fed.acts p q idle.stands fed.did in
+module _ {C D : Type 0} (m : Meanings C) (devices : Ghosts D) (cache : Cache) (was now : D) (old new : CursorState) (p q : Place (Known C)) (report : FeedReport) (settled : IsSettledFeeder cache p) (fed : HasFed m cache.config devices was now old new p q report) where
+  -- the feeder has settled all again
+  pub settled-again : IsFeederReady cache q → IsSettledFeeder cache q
+  settled-again ready =
+      let still = acts-still m cache fed.acts p q settled.stands fed.did in
       record {
-        number = still.left.stays.number ∙ idle.number;
-        alone = fed.joined ∙ idle.alone;
+        number = still.left.stays.number ∙ settled.number;
         stands = still.stands;
         settled = ready.settled;
       }
@@ -150,15 +158,15 @@ module _ {C D : Type 0} (m : Meanings C) (devices : Ghosts D) (cache : Cache) (w
 
   pub one-made : (new.ring.lap < last_lap → FeedKeeps devices.told devices.has_sectors devices.may_leave was now old new report.end) → devices.faults was ≤ devices.faults now → (report.end ≡ stop.DevFault → Rose (devices.faults was) (devices.faults now))
       → MadeFeeds m devices cache (this-feed ∷ []) was now old new p q
-  one-made crash faults cause = (now, q, refl, record { made = record { ready = idle-ready cache p idle; fed = fed; crash = crash; faults = faults; cause = cause }; acts = refl; calls = refl }, (refl, refl, refl))
+  one-made crash faults cause = (now, q, refl, record { made = record { ready = settled-ready cache p settled; fed = fed; crash = crash; faults = faults; cause = cause }; acts = refl; calls = refl }, (refl, refl, refl))
 
-pub one-done : {C D : Type 0} (m : Meanings C) (devices : Ghosts D) (cache : Cache) (old new : L2Dev D) (p q : Place (Known C)) (report : FeedReport) → IsIdleFeeder cache p → HasFed m cache.config devices old.dev new.dev old.cursor new.cursor p q report
+pub one-done : {C D : Type 0} (m : Meanings C) (devices : Ghosts D) (cache : Cache) (old new : L2Dev D) (p q : Place (Known C)) (report : FeedReport) → IsSettledFeeder cache p → HasFed m cache.config devices old.dev new.dev old.cursor new.cursor p q report
     → (new.cursor.ring.lap < last_lap → FeedKeeps devices.told devices.has_sectors devices.may_leave old.dev new.dev old.cursor new.cursor report.end) → devices.faults old.dev ≤ devices.faults new.dev
     → (report.end ≡ stop.DevFault → Rose (devices.faults old.dev) (devices.faults new.dev)) → DoesFeeds m devices cache (ops.Feed ∷ []) (Fed report ∷ []) (device.Ready old) (device.Ready new) p q
-one-done m devices cache old new p q report idle fed crash faults cause = record {
-  feeds = this-feed m devices cache old.dev new.dev old.cursor new.cursor p q report idle fed ∷ [];
+one-done m devices cache old new p q report settled fed crash faults cause = record {
+  feeds = this-feed m devices cache old.dev new.dev old.cursor new.cursor p q report settled fed ∷ [];
   answered = (refl, refl);
-  made = ((λ none. cc), one-made m devices cache old.dev new.dev old.cursor new.cursor p q report idle fed crash faults cause);
+  made = ((λ none. cc), one-made m devices cache old.dev new.dev old.cursor new.cursor p q report settled fed crash faults cause);
 }
 
 -- ---- lines, one after another

@@ -42,7 +42,7 @@ use Rattle.arc_table.proofs.TableLaws.{front_else}
 use Rattle.l2_feed.specs.Acts.{Act, Absent, Cleared, DoesAct, DoesActs, Left, Picked, Placed, Refused, Unpicked}
 use Rattle.l2_feed.specs.Ready.{IsFeederReady}
 use Rattle.trace_run.specs.Deeds.{SameMade}
-use Rattle.trace_run.specs.Feeds.{IsIdleFeeder}
+use Rattle.trace_run.specs.Feeds.{IsSettledFeeder}
 use Rattle.trace_run.specs.KeptBlocks.{AllQuiet, Stands, times}
 use Rattle.trace_run.specs.Making.{HasSeenItsEvents}
 use Rattle.trace_run.proofs.CellsLeft.{LeavesCells, does-leaves, leaves-same, leaves-seen, leaves-then}
@@ -254,14 +254,14 @@ module _ {C : Type 0} (m : Meanings C) (cache : Cache) where
 -- ---- the feeder between its lines
 
 -- it may feed
-pub idle-ready : {C : Type 0} (cache : Cache) (p : Place (Known C)) → IsIdleFeeder cache p → IsFeederReady cache p
-idle-ready cache p idle = record {
+pub settled-ready : {C : Type 0} (cache : Cache) (p : Place (Known C)) → IsSettledFeeder cache p → IsFeederReady cache p
+settled-ready cache p feeder = record {
   on = record {
-    valid = idle.stands.valid;
-    of = idle.stands.of;
-    feeder = idle.number;
-    look = λ i among. absurd (subst (IsAmong i) idle.stands.free among);
-    seen = idle.stands.seen;
+    valid = feeder.stands.valid;
+    of = feeder.stands.of;
+    feeder = feeder.number;
+    look = λ i among. absurd (subst (IsAmong i) feeder.stands.free among);
+    seen = feeder.stands.seen;
   };
-  settled = idle.settled;
+  settled = feeder.settled;
 }

@@ -4,17 +4,17 @@ use Rattle.trace_text.specs.declared.reply.Reply.TheVariants.{Fed}
 use Rattle.trace_run.specs.declared.device.Device.{Device}
 use Rattle.trace_run.specs.declared.device.Device.TheVariants as device
 use Rattle.trace_run.specs.Feeds.{DoesFeeds}
-use Rattle.trace_run.proofs.feeds.FeedLemmas.{idle-again, one-done}
-use Rattle.trace_run.proofs.feeds.FeedStands.{idle-ready}
+use Rattle.trace_run.proofs.feeds.FeedLemmas.{one-done, settled-again}
+use Rattle.trace_run.proofs.feeds.FeedStands.{settled-ready}
 use Rattle.trace_run.proofs.feeder.feed_line.Goals as goal
 
 pub feed-requires-clause-feeder : goal.feed-requires-clause-feeder
-feed-requires-clause-feeder g c κs within = idle-ready c.args.arcs.now c.args.party.now c.requires.feeder
+feed-requires-clause-feeder g c κs within = settled-ready c.args.arcs.now c.args.party.now c.requires.feeder
 
 pub returns-in-Ready-clause-feeder : goal.returns-in-Ready-clause-feeder
 returns-in-Ready-clause-feeder g c =
     let e = c.feed.ensures in
-    idle-again g.C.Keeps g.D.CacheDev c.args.arcs.now _ _ _ _ c.args.party.now c.feed.new.party c.feed.result c.requires.feeder e.fed e.feeder
+    settled-again g.C.Keeps g.D.CacheDev c.args.arcs.now _ _ _ _ c.args.party.now c.feed.new.party c.feed.result c.requires.feeder e.fed e.feeder
 
 pub returns-in-Ready-clause-fed : goal.returns-in-Ready-clause-fed
 returns-in-Ready-clause-fed g c =

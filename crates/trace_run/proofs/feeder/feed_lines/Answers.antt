@@ -7,9 +7,15 @@ use Rattle.trace_text.specs.declared.reply.Reply.{Reply}
 use Rattle.trace_text.specs.declared.reply.Reply.TheVariants.{FedNone}
 use Rattle.trace_run.specs.declared.device.Device.{Device}
 use Rattle.trace_run.specs.Feeds.{DoesFeeds, IsIdleFeeder, MayBeFed, is_feed}
-use Rattle.trace_run.proofs.feeds.FeedLemmas.{done-more, done-same, done-tried, few-lines}
+use Rattle.trace_run.proofs.feeds.FeedLemmas.{done-more, done-same, done-tried, few-lines, idle-settled, settled-idle}
 use Rattle.trace_run.proofs.feeder.feed_lines.Goals as goal
 use Rattle.trace_run.proofs.feeder.feed_lines.Goals.{then-is_feed+in_ok-push, else-is_feed}
+
+pub feed_line-reply-requires-clause-feeder : goal.feed_line-reply-requires-clause-feeder
+feed_line-reply-requires-clause-feeder g c κs within = idle-settled c.args.arcs.now c.loop-op.party c.loop-op.invariant.feeder
+
+pub returns-in_err-push-clause-feeder : goal.returns-in_err-push-clause-feeder
+returns-in_err-push-clause-feeder g c = settled-idle c.args.arcs.now c.feed_line-reply.new.party c.feed_line-reply.ensures.feeder (c.feed_line-reply.ensures.joined ∙ c.loop-op.invariant.feeder.alone)
 
 pub returns-in_err-push-clause-tried : goal.returns-in_err-push-clause-tried
 returns-in_err-push-clause-tried g c =
@@ -27,7 +33,7 @@ loop-op-preserved g c =
       | then-is_feed+in_ok-push w ↦
           let asks : is_feed c.op-item.result ≡ true = sym c.is_feed.ensures ∙ w.if-is_feed.true in
           record {
-            feeder = subst (λ (x : Place (Known g.row.C.Denot)). IsIdleFeeder c.args.arcs.now x) (sym w.party-is) w.feed_line-reply.ensures.feeder;
+            feeder = subst (λ (x : Place (Known g.row.C.Denot)). IsIdleFeeder c.args.arcs.now x) (sym w.party-is) (settled-idle c.args.arcs.now w.feed_line-reply.new.party w.feed_line-reply.ensures.feeder (w.feed_line-reply.ensures.joined ∙ c.loop-op.invariant.feeder.alone));
             device = subst (λ (x : Device g.row.D.Denot). MayBeFed g.D.CacheDev c.args.arcs.now.config x) (sym w.device-is) w.feed_line-reply.ensures.device;
             done =
                 subst (λ (x : Device g.row.D.Denot × Place (Known g.row.C.Denot)). DoesFeeds g.C.Keeps g.D.CacheDev c.args.arcs.now (filter is_feed (take (c.loop-op.op-index + 1) c.args.ops.now)) c.if-is_feed.replies.items c.args.device.now x.0 c.args.party.now x.1)
