@@ -28,6 +28,7 @@ module _ {C P : Type 0} (g : Config) (pools : Ghosts P) (blocks : List Ptr) (p q
     all = r.all;
     joined = λ his. absurd (false≢true his);
     keeps = λ his. absurd (false≢true his);
+    cells = λ his. absurd (false≢true his);
   }
 
   cap-line : (c : ℕ) → HasResized g c p q → DidLine g pools blocks (ops.Cap c) (Capped c) (at p kept a) (at q kept a)

@@ -114,6 +114,7 @@ module _ {C P D : Type 0} (m : Meanings C) (g : Config) (valid : IsConfig g) (po
       all = a.moves.all;
       joined = a.moves.joined;
       same = a.moves.same;
+      cells = a.moves.cells;
     };
     source = λ x. (a.alone x).1;
   }
@@ -128,6 +129,7 @@ module _ {C P D : Type 0} (m : Meanings C) (g : Config) (valid : IsConfig g) (po
       all = a.moves.all;
       joined = a.moves.joined;
       same = a.moves.same;
+      cells = a.moves.cells;
     };
     asked = λ x. (a.alone x).1;
   }

@@ -247,6 +247,7 @@ module _ {C : Type 0} (m : Meanings C) (cache : Cache) (p q : Place (Known C)) (
           (record { events = refl; digests = (tt, tt) }))
           (does-moves m g valid hold.key p q config stands.seen (Drop hold.owner hold.key ∷ []) mine d).same told;
       keeps = (does-moves m g valid hold.key p q config stands.seen (Drop hold.owner hold.key ∷ []) mine d).same.keeps;
+      cells = (does-moves m g valid hold.key p q config stands.seen (Drop hold.owner hold.key ∷ []) mine d).cells;
       alone = λ all. subst (λ (n : ℕ). AddsAll g (shard_of g.shards hold.key) (Drop n hold.key ∷ []) p q) owner (made-alone g (shard_of g.shards hold.key) d.before (Drop hold.owner hold.key ∷ []) p q made all);
       all = λ all. made-all g (shard_of g.shards hold.key) d.before (Drop hold.owner hold.key ∷ []) p q made all;
       joined = made.same.joined;

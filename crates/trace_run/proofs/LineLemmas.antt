@@ -69,6 +69,7 @@ module _ {C : Type 0} (g : Config) (p q : Place (Known C)) where
     number = refl;
     told = λ before noted told. subst (λ (l : List Act). HasToldAll g l noted p) (sym (append-nil before)) told;
     keeps = keeps-none g p;
+    cells = λ i in_range. refl;
     alone = λ a. record { number = refl; here = sym (append-nil (seen_of g shard p)); others = λ j differs. refl };
     all = λ all. all;
     joined = refl;
@@ -80,6 +81,7 @@ module _ {C : Type 0} (g : Config) (p q : Place (Known C)) where
     number = did.own.number;
     told = λ before noted told. told-own g before (act ∷ []) noted p q (his, tt) (told-more g before act did.made p q his told.acts did.own did.act_is) did.same told;
     keeps = did.same.keeps;
+    cells = did.cells;
     alone = did.alone;
     all = did.all;
     joined = did.joined;
@@ -145,6 +147,7 @@ module _ {C : Type 0} (m : Meanings C) (g : Config) (valid : IsConfig g) (t : �
     all = did.act.all;
     joined = did.act.joined;
     same = did.act.same;
+    cells = did.act.cells;
   }
 
   read-loose : (from : Served) → None ≡ key_held_by ptr from → DidAnswer g t ptr from p r → q ≡ r → DidAct g (Reads p.number t ptr from) (events from) p q
@@ -180,6 +183,7 @@ module _ {C : Type 0} (m : Meanings C) (g : Config) (valid : IsConfig g) (t : �
         all = λ all. drop.all (did.act.all all);
         joined = drop.joined ∙ did.act.joined;
         same = same-then g p r q did.act.same drop.same;
+        cells = λ i in_range. drop.cells i in_range ∙ did.act.cells i in_range;
       }
 
   -- what is kept of it is given back
@@ -268,6 +272,7 @@ module _ {C : Type 0} (g : Config) (blocks : List Ptr) (kept : List KeptRead) (o
     all = did.all;
     joined = λ his. did.joined;
     keeps = λ his. did.keeps;
+    cells = λ his. did.cells;
   }
 
 -- ---- the line of each operation
@@ -325,7 +330,7 @@ module _ {C P : Type 0} (g : Config) (pools : Ghosts P) (blocks : List Ptr) (p q
       let here : shard_of g.shards k ≡ shard_of_block g.shards blocks x =
       ap (shard_of g.shards) own.2 ∙ ap (λ (o : Option Ptr). option_map_or (λ (ptr : Ptr). shard_of g.shards ptr.key) o 0) (sym own.1) in
       subst (λ (shard : ℕ). DidActs g shard (acts_of_drop p.number (Some k)) (events_of_drop p.number (Some k)) p q) here
-      (record { number = drops.number; told = drops.told; keeps = drops.keeps; alone = λ alone. drops.alone alone; all = drops.all; joined = drops.joined })
+      (record { number = drops.number; told = drops.told; keeps = drops.keeps; cells = drops.cells; alone = λ alone. drops.alone alone; all = drops.all; joined = drops.joined })
 
   drop-acts : (n x had gave : ℕ) (kept : List KeptRead) (reply : Reply) → AreNamed blocks kept → AnswersDrop had gave x reply → Drops g (oldest_key x kept) p q → (reply ≢ Dropped → oldest_key x kept ≡ None)
       → DidActs g (shard_of_block g.shards blocks x) (acts_of_dropping p.number x kept (effect_of reply)) (events_of_dropping p.number x kept (effect_of reply)) p q

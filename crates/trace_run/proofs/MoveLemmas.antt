@@ -26,7 +26,7 @@ use Rattle.arc_table.proofs.Reached.{reached}
 use Rattle.arc_table.proofs.reads.ReadMoments.{moment, own-one, own-single}
 use Rattle.arc_table.proofs.scans.RoomyLemmas.{roomy-made}
 use Rattle.arc_table.proofs.ToldLemmas.{adds-all-then, adds-own-then}
-use Rattle.trace_run.specs.Deeds.{SameMade}
+use Rattle.trace_run.specs.Deeds.{SameCells, SameMade}
 use Rattle.trace_run.specs.Making.{HasSeenItsEvents, MadeItsOwn}
 use Rattle.trace_run.proofs.CellsLeft.{LeavesCells, does-leaves, roomy-leaves}
 use Rattle.trace_run.proofs.deeds.MakesLemmas.{does-long, makes-more, numbers-of, own-same, roomy-long, same-none, same-then}
@@ -114,6 +114,7 @@ pub record Moves {C : Type 0} (g : Config) (shard : ℕ) (ms : List Moment) (es 
   pub config : q.own.about.config ≡ g
   pub only : MadeItsOwn g p → MadeItsOwn g q
   pub same : SameMade g p q
+  pub cells : SameCells g p q
 
 module _ {C : Type 0} (g : Config) (shard : ℕ) where
   pub moves-none : (p : Place (Known C)) → p.own.about.config ≡ g → HasSeenItsEvents g p → Moves g shard [] [] p p
@@ -126,6 +127,7 @@ module _ {C : Type 0} (g : Config) (shard : ℕ) where
     config = config;
     only = λ only. only;
     same = same-none g p;
+    cells = λ i in_range. refl;
   }
 
   pub moves-then : (ms ns : List Moment) (es fs : List Event) (p q r : Place (Known C)) → Moves g shard ms es p q → Moves g shard ns fs q r → Moves g shard (ms ++ ns) (es ++ fs) p r
@@ -138,6 +140,7 @@ module _ {C : Type 0} (g : Config) (shard : ℕ) where
     config = b.config;
     only = λ only. b.only (a.only only);
     same = same-then g p q r a.same b.same;
+    cells = λ i in_range. b.cells i in_range ∙ a.cells i in_range;
   }
 
   made-moves : (before : ShardLog) (es : List Event) (p q : Place (Known C)) → p.own.about.config ≡ g → HasSeenItsEvents g p → LeavesCells g p q → AreOwn (parties_of g) p.number es → (made : MadeBy (IsNumberOrCell g) g shard before es p q)
@@ -151,6 +154,7 @@ module _ {C : Type 0} (g : Config) (shard : ℕ) where
     config = ap (λ a. a.config) made.same.about ∙ config;
     only = only-then g p q left (made-only g shard before es p q made mine);
     same = own-same g shard es p q made.same.number (numbers-of (parties_of g) p.number es mine) (makes-more g shard before es p q made long seen.own left.fronts) left;
+    cells = left.fronts;
   }
 
 module _ {C : Type 0} (m : Meanings C) (g : Config) (valid : IsConfig g) (k : Key) (p q : Place (Known C)) (config : p.own.about.config ≡ g) (seen : HasSeenItsEvents g p) where

@@ -45,6 +45,7 @@ use Rattle.trace_run.proofs.RunLemmas.{calls-then}
 use Rattle.trace_run.proofs.deeds.MakesLemmas.{keeps-none, keeps-then}
 use Rattle.trace_run.proofs.deeds.OperatesDone.{cell-there}
 use Rattle.trace_run.proofs.deeds.ObjectWork.{object-work}
+use Rattle.trace_run.proofs.one_caller.AskingLines.{AloneAsks}
 
 -- ---- whether a line is on an object
 
@@ -58,16 +59,16 @@ module _ {P D : Type 0} (pools : PoolGhosts P) (devices : DeviceGhosts D) (g : C
   module _ (p q : PartyPlace) (before now : Outside P D) where
     -- one on no object did nothing beside its reply
     plain-with : (kept then : List KeptRead) (op : Op) (reply : Reply) → on_object op ≡ None → DidLine g pools blocks op reply (at p kept before.pool) (at q then now.pool) → LineAsks devices blocks op reply before.device now.device
-        → DidWith pools devices g blocks op reply (at_work p kept before) (at_work q then now)
-    plain-with kept then op reply plain did asked = (
+        → AloneAsks g devices blocks p before.device now.device op reply → DidWith pools devices g blocks op reply (at_work p kept before) (at_work q then now)
+    plain-with kept then op reply plain did asked asks = (
       no_work,
-      subst (λ (o : Option OnObject). DidLineBy pools devices g blocks o (record { op = op; reply = reply; work = no_work }) (at_work p kept before) (at_work q then now)) (sym plain) (refl, did, asked),
+      subst (λ (o : Option OnObject). DidLineBy pools devices g blocks o (record { op = op; reply = reply; work = no_work }) (at_work p kept before) (at_work q then now)) (sym plain) (refl, did, asked, asks),
     )
 
     pub plain-ok : (kept then : List KeptRead) (op : Op) (r : Result Reply NoMemory) → on_object op ≡ None → IfOk r (λ reply. DidLine g pools blocks op reply (at p kept before.pool) (at q then now.pool)) → IfOk r (λ reply. LineAsks devices blocks op reply before.device now.device)
-        → IfOk r (λ reply. DidWith pools devices g blocks op reply (at_work p kept before) (at_work q then now))
-    plain-ok kept then op (Ok reply) plain did asked = plain-with kept then op reply plain did asked
-    plain-ok kept then op (Err why) plain did asked = tt
+        → IfOk r (AloneAsks g devices blocks p before.device now.device op) → IfOk r (λ reply. DidWith pools devices g blocks op reply (at_work p kept before) (at_work q then now))
+    plain-ok kept then op (Ok reply) plain did asked asks = plain-with kept then op reply plain did asked asks
+    plain-ok kept then op (Err why) plain did asked asks = tt
 
     by-object : (o : Option OnObject) (l : Line) (old new : AtWork P D) → is_some o ≡ true → new.kept ≡ old.kept → DidWorkLine pools devices g blocks old.kept old.outside new.outside old.party new.party l → DidLineBy pools devices g blocks o l old new
     by-object None l old new some same did = absurd (false≢true some)

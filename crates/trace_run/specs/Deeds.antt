@@ -92,6 +92,10 @@ module _ {C : Type 0} where
     pub fronts : (i : ℕ) → IsCell g i → StartsWith (front_of i q.own.seen) (front_of i p.own.seen)
     pub shards : (shard : ℕ) → StartsWith (front_of (turn_of g shard) q.own.seen) (front_of (turn_of g shard) p.own.seen)
 
+  -- it has seen of each cell just what it had
+  abbrev pub SameCells : Config → (p q : Place (Known C)) → Type 0
+  SameCells g p q = (i : ℕ) → IsCell g i → front_of i q.own.seen ≡ front_of i p.own.seen
+
   -- it made nothing with another number than its own, and nothing of a cell, more
   pub record SameMade (g : Config) (p q : Place (Known C)) : Type 0 where
     pub number : q.number ≡ p.number

@@ -28,7 +28,7 @@ use Rattle.trace_run.specs.one_caller.OneCaller.{events_of_drops}
 use Rattle.arc_table.specs.Seen.{AddsAll, HasAll, HasSeenItsEntries, seen_of}
 use Rattle.trace_run.specs.one_caller.Access.{events_of_drop}
 use Rattle.trace_run.specs.Acts.{acts_of_drop}
-use Rattle.trace_run.specs.Deeds.{HasToldAll, KeepsCells, Noted}
+use Rattle.trace_run.specs.Deeds.{HasToldAll, KeepsCells, Noted, SameCells}
 use Rattle.trace_run.specs.Making.{HasSeenItsEvents}
 
 -- the key of the entry that is held for a kept block: a loose one holds none
@@ -114,11 +114,12 @@ module _ {C : Type 0} (m : Meanings C) where
 -- ---- what a line adds to what its party has seen
 
 module _ {C : Type 0} where
-  -- In one shard the party's own number has these acts more. A party that has every number has seen just these events more, and in no other shard any.
+  -- In one shard the party's own number has these acts more. A party that has every number has seen just these events more, and in no other shard any; of cells it has seen what it had.
   pub record Adds (g : Config) (shard : ℕ) (acts : List Act) (es : List Event) (p q : Place (Known C)) : Type 0 where
     pub number : q.number ≡ p.number
     pub told : (before : List Act) (noted : List Noted) → HasToldAll g before noted p → HasToldAll g (before ++ acts) noted q
     pub keeps : KeepsCells g p q
+    pub cells : SameCells g p q
     pub alone : HasAll p → AddsAll g shard es p q
     pub all : HasAll p → HasAll q
     pub joined : q.joined ≡ p.joined

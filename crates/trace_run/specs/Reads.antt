@@ -28,7 +28,7 @@ use Rattle.trace_run.specs.one_caller.OneCaller.{key_held_by}
 use Rattle.trace_run.specs.KeptReads.{kept_read}
 use Rattle.trace_run.specs.Read.{IsFromPool, IsMismatch, IsReadOf}
 use Rattle.arc_table.specs.Seen.{AddsAll, AddsOwn, HasAll, seen_of}
-use Rattle.trace_run.specs.Deeds.{HasToldAll, KeepsCells, Noted, SameMade}
+use Rattle.trace_run.specs.Deeds.{HasToldAll, KeepsCells, Noted, SameCells, SameMade}
 
 module _ {C : Type 0} where
   -- what a party that has every number finds of a shard: the replay of what it has seen
@@ -39,12 +39,13 @@ module _ {C : Type 0} where
   abbrev pub access_now : Config → Ptr → Place (Known C) → Access
   access_now g ptr p = access_of (now_of g (shard_of g.shards ptr.key) p) ptr
 
-  -- The party did this act, once, with its own number. A party that is alone has seen just these events more.
+  -- The party did this act, once, with its own number. A party that is alone has seen just these events more; of cells it has seen what it had.
   pub record DidAct (g : Config) (act : Act) (es : List Event) (p q : Place (Known C)) : Type 0 where
     pub made : List Moment
     pub own : AddsOwn g (shard_of g.shards (act_key act)) made p q
     pub act_is : StandsFor act made
     pub same : SameMade g p q
+    pub cells : SameCells g p q
     pub alone : HasAll p → AddsAll g (shard_of g.shards (act_key act)) es p q
     pub all : HasAll p → HasAll q
     pub joined : q.joined ≡ p.joined
@@ -58,11 +59,12 @@ module _ {C : Type 0} where
     pub act : DidAct g (Fails p.number t ptr) (events_of_refused p.number t ptr (access_now g ptr p)) p q
     pub asked : HasAll p → AsksPool (access_now g ptr p)
 
-  -- In one shard the party's own number has these acts more. A party that is alone has seen just these events more, and in no other shard any.
+  -- In one shard the party's own number has these acts more. A party that is alone has seen just these events more, and in no other shard any; of cells it has seen what it had.
   pub record DidActs (g : Config) (shard : ℕ) (acts : List Act) (es : List Event) (p q : Place (Known C)) : Type 0 where
     pub number : q.number ≡ p.number
     pub told : (before : List Act) (noted : List Noted) → HasToldAll g before noted p → HasToldAll g (before ++ acts) noted q
     pub keeps : KeepsCells g p q
+    pub cells : SameCells g p q
     pub alone : HasAll p → AddsAll g shard es p q
     pub all : HasAll p → HasAll q
     pub joined : q.joined ≡ p.joined

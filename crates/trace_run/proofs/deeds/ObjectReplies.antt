@@ -1,15 +1,20 @@
 -- What a line on an object was answered, and what it did beside its reply, by the cell that its party found: as the contract of its call says it.
-use Rattle.std.proofs.Common.{◌≡◌, ℕ, List, [], ◌∷◌, ◌++◌, map, Option, refl, sym, ap, ◌∙◌, subst, append-nil}
+use Rattle.std.proofs.Common.{◌≡◌, ◌⊎◌, ℕ, Bool, List, [], ◌∷◌, ◌++◌, map, Option, inl, inr, refl, sym, ap, ◌∙◌, subst, append-nil}
+use Rattle.std.specs.List.{AllByRecursion}
+use Rattle.blk_ptr.specs.declared.key.Key.{Key}
 use Rattle.blk_ptr.specs.declared.key.KeyFault.{KeyFault}
 use Rattle.blk_ptr.specs.declared.ptr.Ptr.{Ptr}
 use Rattle.vdev_io.specs.declared.device.CacheDev.{Ghosts as DeviceGhosts}
 use Rattle.vdev_io.specs.declared.pool.Pool.{Ghosts as PoolGhosts}
 use Rattle.arc_core.specs.Config.{IsConfig}
 use Rattle.arc_core.specs.declared.config.Config.{Config}
-use Rattle.arc_core.specs.Operations.{Act}
+use Rattle.arc_core.specs.declared.event.Event.{Event}
+use Rattle.arc_core.specs.declared.event.Event.TheVariants.{Drop, Release}
+use Rattle.arc_core.specs.Operations.{Act, GivesBack, MakesPrivate}
 use Rattle.arc_table.specs.declared.view.Line.{Line as Seen}
 use Rattle.arc_table.specs.Geometry.{cell_number}
 use Rattle.arc_table.specs.Reading.{Outside}
+use Rattle.arc_table.specs.Seen.{HasAll}
 use Rattle.dbuf_cells.specs.Places.{cell_of}
 use Rattle.dbuf_cells.specs.Turns.{AreEvictions, OnHeap, PartyPlace, outline_in}
 use Rattle.dbuf_state.proofs.OutlineLemmas.{leads-outline}
@@ -22,13 +27,15 @@ use Rattle.dbuf_state.specs.declared.oid.Oid.{Oid}
 use Rattle.trace_text.specs.declared.op.Op.{Op}
 use Rattle.trace_text.specs.declared.reply.Refusal.TheVariants as refusals
 use Rattle.trace_text.specs.declared.reply.Reply.{Reply}
+use Rattle.trace_run.specs.callers.WorkLines.{AsksBrought, DidAlone}
 use Rattle.trace_run.specs.CellEnds.{done_by}
-use Rattle.trace_run.specs.Deeds.{HasToldAll, Noted, acts_of_events, events_of_cell, noted_in}
+use Rattle.trace_run.specs.Deeds.{HasAct, HasToldAll, Noted, acts_of_events, events_of_cell, noted_in}
 use Rattle.trace_run.specs.ObjectLines.{Did, DidNot, EndsInside, FindsCell, IsBrought, ReleasesFor, SpentOn, WasToBring, cell_lines}
 use Rattle.trace_run.specs.ObjectReplies.{ActsAt, ActsFor, AnswersObject, BringsAt, LooksFrom}
 use Rattle.trace_run.specs.Objects.{AnswersKey, AnswersNoBlock, AnswersRange, Brought, Line, Loaded, NotesNothing, Nothing, Refused, Work, loads_of, own_event}
+use Rattle.trace_run.specs.Reads.{now_of}
 use Rattle.trace_run.proofs.deeds.ClosedDeeds.{entries-read}
-use Rattle.trace_run.proofs.deeds.OperatesDone.{cell-there}
+use Rattle.trace_run.proofs.deeds.OperatesDone.{AreOfCell, both-of, cell-there, evictions-of, release-of}
 use Rattle.trace_run.proofs.deeds.OutlineFound.{after-so, evictions-so, releases-so}
 
 -- the dbufs of a sound cell are as its history tells
@@ -70,6 +77,27 @@ found_outline cell = outline_after cell.value.limit cell.value.opening cell.valu
 
 -- ---- what a line did
 
+-- each event of a cell's number stands for an act
+of-have : (c : ℕ) (es : List Event) → AreOfCell c es → AllByRecursion HasAct es
+of-have c [] all = tt
+of-have c (e ∷ es) all = (one all.0, of-have c es all.1)
+  where
+    one : ((k : Key) × (e ≡ Drop c k)) ⊎ ((k : Key) × (sole : Bool) × (e ≡ Release c k sole)) → HasAct e
+    one (inl drop) = subst HasAct (sym drop.1) (GivesBack c drop.0, refl)
+    one (inr release) = subst HasAct (sym release.2) (MakesPrivate c release.0, refl)
+
+-- what an operation lets go are events of the cell's number
+released-of : (c : ℕ) (own : CellEvent) (o : Outline) (es : List Event) → ReleasesFor c own o es → AreOfCell c es
+released-of c (events.Put n at size fill) o es r = release-of c at o es r
+released-of c (events.Patch n at from bytes) o es r = release-of c at o es r
+released-of c (events.Get n at) o es r = subst (AreOfCell c) (sym r) tt
+released-of c (events.Pin n at) o es r = subst (AreOfCell c) (sym r) tt
+released-of c (events.Unpin n at) o es r = subst (AreOfCell c) (sym r) tt
+released-of c (events.Load n at) o es r = subst (AreOfCell c) (sym r) tt
+released-of c (events.Evict n at) o es r = subst (AreOfCell c) (sym r) tt
+released-of c (events.Synced n at ptr) o es r = subst (AreOfCell c) (sym r) tt
+released-of c (events.End n) o es r = subst (AreOfCell c) (sym r) tt
+
 -- what a refused line did: at most the access that was refused
 abbrev pub tried : Brought → Work
 tried brought = record { brought = brought; noted = []; acts = [] }
@@ -93,6 +121,10 @@ module _ (g : Config) (at : Oid) (t : ℕ) (p q : PartyPlace) (own : CellEvent) 
 
   abbrev due : Evicting
   due = d.found.sound.evicting
+
+  -- all that it made with the cell's number
+  pub made-of : AreOfCell c (d.released ++ d.drops)
+  made-of = both-of c d.released d.drops (released-of c own _ d.released d.releases) (evictions-of p.number c _ (map (events.Evict p.number) d.evicted) d.drops d.evictions)
 
   pub acts-at : ActsAt g p.number (record { at = at; event = own }) (found_outline d.cell) did-work
   acts-at = subst (λ (x : Outline). ActsAt g p.number (record { at = at; event = own }) x did-work)
@@ -120,9 +152,10 @@ module _ {P D : Type 0} (pools : PoolGhosts P) (devices : DeviceGhosts D) (g : C
   abbrev pub image : Option (List ℕ)
   image = pools.told before.pool
 
-  -- whatever the party has told, where the numbers are a configuration
-  abbrev pub From : Oid → Line → Type 0
-  From at l = IsConfig g → (did : List Act) (had : List Noted) → HasToldAll g did had p → LooksFrom g len image p.own.about.openings p.own.seen q.own.seen p.number had at l
+  -- whatever the party has told, where the numbers are a configuration; and all of it where the party has every number
+  abbrev pub From : Oid → (tick : ℕ) → Line → Type 0
+  From at t l = (IsConfig g → (did : List Act) (had : List Noted) → HasToldAll g did had p → LooksFrom g len image p.own.about.openings p.own.seen q.own.seen p.number had at l)
+      × (HasAll p → DidAlone pools devices g before now p q (record { at = at; tick = t }) l)
 
   abbrev pub By : OnHeap → Brought → Op → Reply → Type 0
   By cell brought op reply = AnswersObject len image cell.value.limit cell.value.opening cell.value.history brought op reply
@@ -137,37 +170,82 @@ module _ {P D : Type 0} (pools : PoolGhosts P) (devices : DeviceGhosts D) (g : C
   brings-so at (Loaded ptr from) reply cell sound is spent = (to-bring at (outline_in cell) (found_outline cell) (dbufs-so cell sound) ptr is, spent.valid)
   brings-so at (Refused ptr) reply cell sound is spent = absurd is
 
+  -- what the device was asked for by a party that has every number
+  asks-so : (brought : Brought) (reply : Reply) → SpentOn pools devices g p before now brought reply → HasAll p → AsksBrought devices g (λ shard. now_of g shard p) brought reply before.device now.device
+  asks-so Nothing reply spent all = ap (λ (x : Outside P D). x.device) spent
+  asks-so (Loaded ptr from) reply spent all = spent.asks all
+  asks-so (Refused ptr) reply spent all = spent.asks all
+
   -- a line that was done, and one that was refused
   pub from-done : (at : Oid) (t : ℕ) (own : CellEvent) (brought : Brought) (Fits : OnHeap → Type 0) (op : Op) (reply : Reply) (d : Did g at t p q own brought Fits)
       → (ActsAt g p.number (record { at = at; event = own }) (found_outline d.cell) (did-work g at t p q own brought Fits d) → ActsFor g p.number (own_event op) (found_outline d.cell) (did-work g at t p q own brought Fits d) reply)
-      → BringsAt len at (found_outline d.cell) brought → By d.cell brought op reply → From at (record { op = op; reply = reply; work = did-work g at t p q own brought Fits d })
-  from-done at t own brought Fits op reply d so brings answer = λ valid did had told_all. record {
-    from = record {
+      → BringsAt len at (found_outline d.cell) brought → By d.cell brought op reply → SpentOn pools devices g p before now brought reply
+      → From at t (record { op = op; reply = reply; work = did-work g at t p q own brought Fits d })
+  from-done at t own brought Fits op reply d so brings answer spent = (
+    λ valid did had told_all. record {
+      from = record {
+        cell = d.cell;
+        sound = d.found.sound;
+        opening = d.found.opening;
+        mine = told-is valid at d.cell d.found did had told_all;
+        front = d.placed;
+        brought = brings;
+        acts = so (acts-at g at t p q own brought Fits d);
+        answer = answer;
+      };
+      since = d.found.had;
+    },
+    λ all. record {
       cell = d.cell;
       sound = d.found.sound;
       opening = d.found.opening;
-      mine = told-is valid at d.cell d.found did had told_all;
-      front = d.placed;
+      seen = d.found.alone all;
       brought = brings;
+      found = d.work.source all;
       acts = so (acts-at g at t p q own brought Fits d);
       answer = answer;
-    };
-    since = d.found.had;
-  }
+      made = d.released ++ d.drops;
+      kinds = of-have (cell_number g (cell_of g.cells at)) (d.released ++ d.drops) (made-of g at t p q own brought Fits d);
+      are = refl;
+      events = d.work.alone all;
+      cells = d.work.cells_alone all;
+      all = d.work.all all;
+      asks = asks-so brought reply spent all;
+    },
+  )
 
   pub from-not : (at : Oid) (t : ℕ) (brought : Brought) (Why : OnHeap → Type 0) (op : Op) (reply : Reply) (d : DidNot g at t p q brought Why)
-      → (NotesNothing (tried brought) → ActsFor g p.number (own_event op) (found_outline d.cell) (tried brought) reply) → BringsAt len at (found_outline d.cell) brought → By d.cell brought op reply
-      → From at (record { op = op; reply = reply; work = tried brought })
-  from-not at t brought Why op reply d so brings answer = λ valid did had told_all. record {
-    from = record {
+      → (NotesNothing (tried brought) → ActsFor g p.number (own_event op) (found_outline d.cell) (tried brought) reply) → BringsAt len at (found_outline d.cell) brought → By d.cell brought op reply → SpentOn pools devices g p before now brought reply
+      → From at t (record { op = op; reply = reply; work = tried brought })
+  from-not at t brought Why op reply d so brings answer spent = (
+    λ valid did had told_all. record {
+      from = record {
+        cell = d.cell;
+        sound = d.found.sound;
+        opening = d.found.opening;
+        mine = told-is valid at d.cell d.found did had told_all;
+        front = (d.found.seen.0, d.found.seen.1 ∙ ap (λ (l : List Seen). l ++ d.found.seen.0) (sym (append-nil (cell_lines d.cell))));
+        brought = brings;
+        acts = so (refl, refl);
+        answer = answer;
+      };
+      since = d.found.had;
+    },
+    λ all. record {
       cell = d.cell;
       sound = d.found.sound;
       opening = d.found.opening;
-      mine = told-is valid at d.cell d.found did had told_all;
-      front = (d.found.seen.0, d.found.seen.1 ∙ ap (λ (l : List Seen). l ++ d.found.seen.0) (sym (append-nil (cell_lines d.cell))));
+      seen = d.found.alone all;
       brought = brings;
+      found = d.work.source all;
       acts = so (refl, refl);
       answer = answer;
-    };
-    since = d.found.had;
-  }
+      made = [];
+      kinds = tt;
+      are = refl;
+      events = d.work.alone all;
+      cells = d.work.cells_alone all;
+      all = d.work.all all;
+      asks = asks-so brought reply spent all;
+    },
+  )

@@ -13,6 +13,7 @@ use Rattle.arc_core.specs.declared.event.Event.{Event}
 use Rattle.arc_core.specs.Operations.{Act, actor_of}
 use Rattle.arc_table.specs.Geometry.{cell_number}
 use Rattle.arc_table.specs.Reading.{KeepsDevice, Outside}
+use Rattle.arc_table.specs.Seen.{HasAll}
 use Rattle.dbuf_cells.specs.Places.{cell_of}
 use Rattle.dbuf_cells.specs.Turns.{OnHeap, PartyPlace, outline_in}
 use Rattle.dbuf_state.specs.Outline.{Outline}
@@ -26,7 +27,7 @@ use Rattle.trace_text.specs.declared.reply.Refusal.{Refusal}
 use Rattle.trace_text.specs.declared.reply.Refusal.TheVariants as refusals
 use Rattle.trace_text.specs.declared.reply.Reply.{Reply}
 use Rattle.trace_text.specs.declared.reply.Reply.TheVariants as replies
-use Rattle.trace_run.specs.callers.WorkLines.{DidWorkLine, IsWorkOf, acts_with_op, effect_with, size_brought}
+use Rattle.trace_run.specs.callers.WorkLines.{DidAlone, DidWorkLine, IsWorkOf, acts_with_op, effect_with, size_brought}
 use Rattle.trace_run.specs.Deeds.{HasToldAll, Noted, acts_of_events}
 use Rattle.trace_run.specs.DeviceReads.{AsksFor}
 use Rattle.trace_run.specs.Effects.{Effect, NoEffect, calls_of, effect_of}
@@ -35,21 +36,8 @@ use Rattle.trace_run.specs.Lines.{is_of_caller}
 use Rattle.trace_run.specs.ObjectLines.{Did, DidGet, DidNot, DidObjectLine, DidPatch, DidPin, DidPut, DidUnpin, DidWork, IsBrought, RefusesBlock, RefusesBytes, RefusesUnpin, ReleasesFor, SpentOn, its_number, on_object}
 use Rattle.trace_run.specs.ObjectReplies.{ActsFor, BringsAt, LooksFrom, RefusesAt}
 use Rattle.trace_run.specs.Objects.{Brought, IsAnswered, IsRefusedWith, Loaded, NotesNothing, NotesOwn, Nothing, Refused, Work, own_event}
-use Rattle.trace_run.proofs.deeds.ObjectReplies.{By, From, bad-key, brings-so, dbufs-so, did-work, found_outline, from-done, from-not, inside-it, no-block, past-it, same-pin, to-bring, tried}
-use Rattle.trace_run.proofs.deeds.OperatesDone.{AreOfCell, both-of, evictions-of, release-of}
+use Rattle.trace_run.proofs.deeds.ObjectReplies.{By, From, bad-key, brings-so, dbufs-so, did-work, found_outline, from-done, from-not, inside-it, made-of, no-block, past-it, same-pin, to-bring, tried}
 use Rattle.trace_run.proofs.deeds.WorkDone.{of-acts}
-
--- what an operation lets go are events of the cell's number
-released-of : (c : ℕ) (own : CellEvent) (o : Outline) (es : List Event) → ReleasesFor c own o es → AreOfCell c es
-released-of c (events.Put n at size fill) o es r = release-of c at o es r
-released-of c (events.Patch n at from bytes) o es r = release-of c at o es r
-released-of c (events.Get n at) o es r = subst (AreOfCell c) (sym r) tt
-released-of c (events.Pin n at) o es r = subst (AreOfCell c) (sym r) tt
-released-of c (events.Unpin n at) o es r = subst (AreOfCell c) (sym r) tt
-released-of c (events.Load n at) o es r = subst (AreOfCell c) (sym r) tt
-released-of c (events.Evict n at) o es r = subst (AreOfCell c) (sym r) tt
-released-of c (events.Synced n at ptr) o es r = subst (AreOfCell c) (sym r) tt
-released-of c (events.End n) o es r = subst (AreOfCell c) (sym r) tt
 
 module _ (g : Config) (at : Oid) (t : ℕ) (p q : PartyPlace) where
   answered : (o : Outline) (brought : Brought) → IsBrought at o brought → IsAnswered brought
@@ -59,8 +47,7 @@ module _ (g : Config) (at : Oid) (t : ℕ) (p q : PartyPlace) where
 
   module _ (own : CellEvent) (brought : Brought) (Fits : OnHeap → Type 0) (d : Did g at t p q own brought Fits) where
     pub did-acts : AllByRecursion (λ (act : Act). actor_of act ≡ cell_number g (cell_of g.cells at)) (acts_of_events (d.released ++ d.drops))
-    did-acts = of-acts (its_number g at t p q) (d.released ++ d.drops)
-        (both-of (its_number g at t p q) d.released d.drops (released-of (its_number g at t p q) own _ d.released d.releases) (evictions-of p.number (its_number g at t p q) _ (map (events.Evict p.number) d.evicted) d.drops d.evictions))
+    did-acts = of-acts (its_number g at t p q) (d.released ++ d.drops) (made-of g at t p q own brought Fits d)
 
     pub did-notes : NotesOwn g p.number (record { at = at; event = own }) (did-work g at t p q own brought Fits d)
     did-notes = record { evictions = d.evicted; noted = refl; acts = did-acts }
@@ -91,8 +78,9 @@ module _ {P D : Type 0} (pools : PoolGhosts P) (devices : DeviceGhosts D) (g : C
 
   -- what a line that has this work was answered, by the cell that was found
   abbrev AnswersSo : Op → Reply → Work → Type 0
-  AnswersSo op reply work = IsConfig g → (did : List Act) (had : List Noted) → HasToldAll g did had p
-      → IfSome (on_object op) (λ on. LooksFrom g (pools.size before.pool) (pools.told before.pool) p.own.about.openings p.own.seen q.own.seen p.number had on.at (record { op = op; reply = reply; work = work }))
+  AnswersSo op reply work = (IsConfig g → (did : List Act) (had : List Noted) → HasToldAll g did had p
+      → IfSome (on_object op) (λ on. LooksFrom g (pools.size before.pool) (pools.told before.pool) p.own.about.openings p.own.seen q.own.seen p.number had on.at (record { op = op; reply = reply; work = work })))
+      × (HasAll p → IfSome (on_object op) (λ on. DidAlone pools devices g before now p q on (record { op = op; reply = reply; work = work })))
 
   -- a line that was answered, and one that was refused
   done-line : (op : Op) (reply : Reply) (at : Oid) (t : ℕ) (own : CellEvent) (brought : Brought) (Fits : OnHeap → Type 0) (d : Did g at t p q own brought Fits) → DidObjectLine pools devices g before now p q op reply → Spent brought reply
@@ -104,7 +92,8 @@ module _ {P D : Type 0} (pools : PoolGhosts P) (devices : DeviceGhosts D) (g : C
     did-work g at t p q own brought Fits d,
     record {
       came = came;
-      answers = answers;
+      answers = answers.0;
+      alone = answers.1;
       fits = fits;
       number = d.work.number;
       told = told;
@@ -125,7 +114,8 @@ module _ {P D : Type 0} (pools : PoolGhosts P) (devices : DeviceGhosts D) (g : C
     tried brought,
     record {
       came = came;
-      answers = answers;
+      answers = answers.0;
+      alone = answers.1;
       fits = fits;
       number = w.number;
       told = told;
@@ -147,13 +137,13 @@ module _ {P D : Type 0} (pools : PoolGhosts P) (devices : DeviceGhosts D) (g : C
 
     abbrev Tried : Refusal → Brought → Type 0
     Tried refusal brought = IsRefusedWith refusal brought × DidWork g t (cell_number g (cell_of g.cells at)) brought [] [] p q × Spent brought (replies.Refused refusal)
-        × From pools devices g before now p q at (record { op = op; reply = replies.Refused refusal; work = tried brought })
+        × From pools devices g before now p q at t (record { op = op; reply = replies.Refused refusal; work = tried brought })
 
     refused-from : (brought : Brought) (Why : OnHeap → Type 0) (refusal : Refusal) → So refusal → (d : DidNot g at t p q brought Why) → BringsAt (pools.size before.pool) at (found_outline d.cell) brought
-        → RefusesAt (pools.size before.pool) (pools.told before.pool) d.cell.value.limit d.cell.value.opening d.cell.value.history brought at last refusal
-        → From pools devices g before now p q at (record { op = op; reply = replies.Refused refusal; work = tried brought })
-    refused-from brought Why refusal so d brings why =
-        from-not pools devices g before now p q at t brought Why op (replies.Refused refusal) d (quiet (found_outline d.cell) brought refusal) brings (so d.cell brought why)
+        → RefusesAt (pools.size before.pool) (pools.told before.pool) d.cell.value.limit d.cell.value.opening d.cell.value.history brought at last refusal → SpentOn pools devices g p before now brought (replies.Refused refusal)
+        → From pools devices g before now p q at t (record { op = op; reply = replies.Refused refusal; work = tried brought })
+    refused-from brought Why refusal so d brings why spent =
+        from-not pools devices g before now p q at t brought Why op (replies.Refused refusal) d (quiet (found_outline d.cell) brought refusal) brings (so d.cell brought why) spent
 
     refused-bytes : (refusal : Refusal) → So refusal → RefusesBytes pools devices g at t before now p q last refusal → (brought : Brought) × Tried refusal brought
     refused-bytes (refusals.NoBlock named) so r =
@@ -163,7 +153,7 @@ module _ {P D : Type 0} (pools : PoolGhosts P) (devices : DeviceGhosts D) (g : C
             refl,
             d.work,
             none-spent (replies.Refused (refusals.NoBlock named)) refl r.1,
-            refused-from Nothing _ (refusals.NoBlock named) so d tt (no-block at (outline_in d.cell) (found_outline d.cell) (dbufs-so d.cell d.found.sound) named d.why),
+            refused-from Nothing _ (refusals.NoBlock named) so d tt (no-block at (outline_in d.cell) (found_outline d.cell) (dbufs-so d.cell d.found.sound) named d.why) r.1,
           ),
         )
     refused-bytes (refusals.Range end size) so r =
@@ -173,7 +163,7 @@ module _ {P D : Type 0} (pools : PoolGhosts P) (devices : DeviceGhosts D) (g : C
             refl,
             d.work,
             none-spent (replies.Refused (refusals.Range end size)) refl r.1,
-            refused-from Nothing _ (refusals.Range end size) so d tt (past-it at (outline_in d.cell) (found_outline d.cell) (dbufs-so d.cell d.found.sound) last end size d.why),
+            refused-from Nothing _ (refusals.Range end size) so d tt (past-it at (outline_in d.cell) (found_outline d.cell) (dbufs-so d.cell d.found.sound) last end size d.why) r.1,
           ),
         )
     refused-bytes (refusals.Key why) so r =
@@ -185,7 +175,7 @@ module _ {P D : Type 0} (pools : PoolGhosts P) (devices : DeviceGhosts D) (g : C
             d.work,
             none-spent (replies.Refused (refusals.Key why)) refl r.1,
             refused-from Nothing _ (refusals.Key why) so d tt
-                (inside-it at (outline_in d.cell) (found_outline d.cell) same last d.why.0, bad-key at (outline_in d.cell) (found_outline d.cell) same (pools.size before.pool) why d.why.1),
+                (inside-it at (outline_in d.cell) (found_outline d.cell) same last d.why.0, bad-key at (outline_in d.cell) (found_outline d.cell) same (pools.size before.pool) why d.why.1) r.1,
           ),
         )
     refused-bytes refusals.PoolFault so r =
@@ -197,7 +187,7 @@ module _ {P D : Type 0} (pools : PoolGhosts P) (devices : DeviceGhosts D) (g : C
             (r.0, refl),
             d.work,
             record { calls = r.2.calls; asked = r.2.asked },
-            refused-from (Refused r.0) _ refusals.PoolFault so d (brings, r.2.valid) (r.0, refl, inside-it at (outline_in d.cell) (found_outline d.cell) same last d.why.0, brings, d.why.2),
+            refused-from (Refused r.0) _ refusals.PoolFault so d (brings, r.2.valid) (r.0, refl, inside-it at (outline_in d.cell) (found_outline d.cell) same last d.why.0, brings, d.why.2) r.2,
           ),
         )
     refused-bytes (refusals.Mismatch found) so r =
@@ -209,7 +199,7 @@ module _ {P D : Type 0} (pools : PoolGhosts P) (devices : DeviceGhosts D) (g : C
             (r.0, refl),
             d.work,
             record { calls = r.2.calls; asked = r.2.asked },
-            refused-from (Refused r.0) _ (refusals.Mismatch found) so d (brings, r.2.valid) (r.0, refl, inside-it at (outline_in d.cell) (found_outline d.cell) same last d.why.0, brings, d.why.2),
+            refused-from (Refused r.0) _ (refusals.Mismatch found) so d (brings, r.2.valid) (r.0, refl, inside-it at (outline_in d.cell) (found_outline d.cell) same last d.why.0, brings, d.why.2) r.2,
           ),
         )
     refused-bytes (refusals.NoHold block) so r = absurd r
@@ -221,7 +211,7 @@ module _ {P D : Type 0} (pools : PoolGhosts P) (devices : DeviceGhosts D) (g : C
       done-line (ops.Get p.number t at w) (replies.Got size shown) at t (events.Get p.number at) d.0 _ d.1 d (spent-on d.0 (replies.Got size shown) refl d.2)
       record { together = did-answered g at t p q (events.Get p.number at) d.0 _ d.1; notes = did-notes g at t p q (events.Get p.number at) d.0 _ d.1 } d.1.work.told
       (from-done pools devices g before now p q at t (events.Get p.number at) d.0 _ (ops.Get p.number t at w) (replies.Got size shown) d.1 (λ a. a)
-      (brings-so pools devices g before now p q at d.0 (replies.Got size shown) d.1.cell d.1.found.sound d.1.brings d.2) d.1.fits)
+      (brings-so pools devices g before now p q at d.0 (replies.Got size shown) d.1.cell d.1.found.sound d.1.brings d.2) d.1.fits d.2)
   get-work t at w (replies.Refused refusal) d =
       let r = refused-bytes at t (w.at + w.len) (ops.Get p.number t at w) (λ o brought why x. x) refusal (λ cell brought x. x) d in
       not-line (ops.Get p.number t at w) (replies.Refused refusal) at t r.0 r.1.1 d r.1.2 record { together = r.1.0; notes = (refl, refl) } r.1.1.told r.1.3
@@ -239,7 +229,7 @@ module _ {P D : Type 0} (pools : PoolGhosts P) (devices : DeviceGhosts D) (g : C
       done-line (ops.Patch p.number t at from bytes) replies.Done at t (events.Patch p.number at from bytes) d.0 _ d.1 d (spent-on d.0 replies.Done refl d.2)
       record { together = did-answered g at t p q (events.Patch p.number at from bytes) d.0 _ d.1; notes = did-notes g at t p q (events.Patch p.number at from bytes) d.0 _ d.1 } d.1.work.told
       (from-done pools devices g before now p q at t (events.Patch p.number at from bytes) d.0 _ (ops.Patch p.number t at from bytes) replies.Done d.1 (λ a. a)
-      (brings-so pools devices g before now p q at d.0 replies.Done d.1.cell d.1.found.sound d.1.brings d.2) tt)
+      (brings-so pools devices g before now p q at d.0 replies.Done d.1.cell d.1.found.sound d.1.brings d.2) tt d.2)
   patch-work t at from bytes (replies.Refused refusal) d =
       let r = refused-bytes at t (from + length bytes) (ops.Patch p.number t at from bytes) (λ o brought why x. x) refusal (λ cell brought x. x) d in
       not-line (ops.Patch p.number t at from bytes) (replies.Refused refusal) at t r.0 r.1.1 d r.1.2 record { together = r.1.0; notes = (refl, refl) } r.1.1.told r.1.3
@@ -275,7 +265,7 @@ module _ {P D : Type 0} (pools : PoolGhosts P) (devices : DeviceGhosts D) (g : C
       done-line (ops.Pin p.number t at) replies.Done at t (events.Pin p.number at) d.0 _ d.1 d (spent-on d.0 replies.Done refl d.2)
       record { together = did-answered g at t p q (events.Pin p.number at) d.0 _ d.1; notes = did-notes g at t p q (events.Pin p.number at) d.0 _ d.1 } d.1.work.told
       (from-done pools devices g before now p q at t (events.Pin p.number at) d.0 _ (ops.Pin p.number t at) replies.Done d.1 (λ a. a)
-      (brings-so pools devices g before now p q at d.0 replies.Done d.1.cell d.1.found.sound d.1.brings d.2) tt)
+      (brings-so pools devices g before now p q at d.0 replies.Done d.1.cell d.1.found.sound d.1.brings d.2) tt d.2)
   pin-work t at (replies.Refused refusal) d = pin-not t at refusal d
   pin-work t at (replies.Got size shown) d = absurd d
   pin-work t at (replies.Read served digest shown) d = absurd d
@@ -290,7 +280,7 @@ module _ {P D : Type 0} (pools : PoolGhosts P) (devices : DeviceGhosts D) (g : C
   put-work t at size fill replies.Done d none =
       done-line (ops.Put p.number t at size fill) replies.Done at 0 (events.Put p.number at size fill) Nothing _ d (d, none) (none-spent replies.Done refl none)
       record { together = refl; notes = did-notes g at 0 p q (events.Put p.number at size fill) Nothing _ d } d.work.told
-      (from-done pools devices g before now p q at 0 (events.Put p.number at size fill) Nothing _ (ops.Put p.number t at size fill) replies.Done d (λ a. a) tt tt)
+      (from-done pools devices g before now p q at 0 (events.Put p.number at size fill) Nothing _ (ops.Put p.number t at size fill) replies.Done d (λ a. a) tt tt none)
   put-work t at size fill (replies.Refused refusal) d none = absurd d
   put-work t at size fill (replies.Got most shown) d none = absurd d
   put-work t at size fill (replies.Read served digest shown) d none = absurd d
@@ -301,28 +291,28 @@ module _ {P D : Type 0} (pools : PoolGhosts P) (devices : DeviceGhosts D) (g : C
   put-work t at size fill (replies.Synced group blocks_of bytes) d none = absurd d
   put-work t at size fill (replies.Capped c) d none = absurd d
 
-  no-pin : (at : Oid) (refusal : Refusal) → RefusesUnpin g at p q refusal → (effect_of (replies.Refused refusal) ≡ NoEffect) × DidWork g 0 (cell_number g (cell_of g.cells at)) Nothing [] [] p q
-      × From pools devices g before now p q at (record { op = ops.Unpin p.number at; reply = replies.Refused refusal; work = tried Nothing })
-  no-pin at (refusals.NoPin named) r = (
+  no-pin : (at : Oid) (refusal : Refusal) → RefusesUnpin g at p q refusal → now ≡ before → (effect_of (replies.Refused refusal) ≡ NoEffect) × DidWork g 0 (cell_number g (cell_of g.cells at)) Nothing [] [] p q
+      × From pools devices g before now p q at 0 (record { op = ops.Unpin p.number at; reply = replies.Refused refusal; work = tried Nothing })
+  no-pin at (refusals.NoPin named) r none = (
     refl,
     r.work,
     from-not pools devices g before now p q at 0 Nothing _ (ops.Unpin p.number at) (replies.Refused (refusals.NoPin named)) r (λ a. a) tt
-        (r.why.0, same-pin at (outline_in r.cell) (found_outline r.cell) (dbufs-so r.cell r.found.sound) p.number ∙ r.why.1),
+        (r.why.0, same-pin at (outline_in r.cell) (found_outline r.cell) (dbufs-so r.cell r.found.sound) p.number ∙ r.why.1) none,
   )
-  no-pin at (refusals.NoBlock named) r = absurd r
-  no-pin at (refusals.Range end size) r = absurd r
-  no-pin at (refusals.Key why) r = absurd r
-  no-pin at refusals.PoolFault r = absurd r
-  no-pin at (refusals.Mismatch found) r = absurd r
-  no-pin at (refusals.NoHold block) r = absurd r
-  no-pin at refusals.NoMemory r = absurd r
+  no-pin at (refusals.NoBlock named) r none = absurd r
+  no-pin at (refusals.Range end size) r none = absurd r
+  no-pin at (refusals.Key why) r none = absurd r
+  no-pin at refusals.PoolFault r none = absurd r
+  no-pin at (refusals.Mismatch found) r none = absurd r
+  no-pin at (refusals.NoHold block) r none = absurd r
+  no-pin at refusals.NoMemory r none = absurd r
 
   unpin-work : (at : Oid) (reply : Reply) → DidUnpin g at p q reply → now ≡ before → HasWork (ops.Unpin p.number at) reply
   unpin-work at replies.Done d none =
       done-line (ops.Unpin p.number at) replies.Done at 0 (events.Unpin p.number at) Nothing _ d (d, none) (none-spent replies.Done refl none) record { together = refl; notes = did-notes g at 0 p q (events.Unpin p.number at) Nothing _ d } d.work.told
-      (from-done pools devices g before now p q at 0 (events.Unpin p.number at) Nothing _ (ops.Unpin p.number at) replies.Done d (λ a. a) tt tt)
+      (from-done pools devices g before now p q at 0 (events.Unpin p.number at) Nothing _ (ops.Unpin p.number at) replies.Done d (λ a. a) tt tt none)
   unpin-work at (replies.Refused refusal) d none =
-      let w = no-pin at refusal d in
+      let w = no-pin at refusal d none in
       not-line (ops.Unpin p.number at) (replies.Refused refusal) at 0 Nothing w.1 (d, none) (none-spent (replies.Refused refusal) w.0 none) record { together = refl; notes = (refl, refl) } w.1.told w.2
   unpin-work at (replies.Got size shown) d none = absurd d
   unpin-work at (replies.Read served digest shown) d none = absurd d

@@ -5,7 +5,7 @@ use Rattle.arc_core.specs.declared.config.Config.{Config}
 use Rattle.arc_core.specs.declared.event.Event.{Event}
 use Rattle.arc_core.specs.Operations.{Act}
 use Rattle.arc_table.specs.Seen.{HasAll, seen_of}
-use Rattle.trace_run.specs.Deeds.{HasToldAll, KeepsCells, Noted}
+use Rattle.trace_run.specs.Deeds.{HasToldAll, KeepsCells, Noted, SameCells}
 use Rattle.vdev_io.specs.Calls.{KeepsPool, MakesCalls}
 use Rattle.arc_table.specs.declared.view.Known.{Known}
 use Rattle.turn_table.specs.Places.{Place}
@@ -38,9 +38,10 @@ pub record DidThere {C : Type 0} (g : Config) (blocks : List Ptr) (kept : List K
   pub told : (before : List Act) (noted : List Noted) → HasToldAll g before noted p → HasToldAll g (before ++ acts_of blocks kept op reply) noted q
   pub alone : HasAll p → (shard : ℕ) → seen_of g shard q ≡ seen_of g shard p ++ events_there g.shards blocks shard (now_of g shard p) kept op reply
   pub all : HasAll p → HasAll q
-  -- a line of a caller leaves the parties that joined, and what is known of cells
+  -- a line of a caller leaves the parties that joined, and what is known of cells and was seen of them
   pub joined : IsSome (caller_of op) → q.joined ≡ p.joined
   pub keeps : IsSome (caller_of op) → KeepsCells g p q
+  pub cells : IsSome (caller_of op) → SameCells g p q
 
 -- The feeder made these events of each shard while the party, which is the one caller's, had joined it: the party has seen them more.
 pub record HasFed {C : Type 0} (g : Config) (more : (shard : ℕ) → List Event) (p q : Place (Known C)) : Type 0 where

@@ -1,21 +1,28 @@
 -- A caller's lines, those on objects among them, each with what it did beside its reply; and what such lines come to, one after another.
-use Rattle.std.specs.Prelude.{◌≡◌, ◌≢◌, ℕ, List, [], ◌∷◌, ◌++◌, Option, Some, None, IfSome, take}
+use Rattle.std.specs.Prelude.{◌≡◌, ◌≢◌, ℕ, List, [], ◌∷◌, ◌++◌, Option, Some, None, IfSome, slice_index_or, take}
 use Rattle.std.specs.Option.{option_map}
 use Rattle.std.specs.List.{AllByRecursion}
 use Rattle.blk_ptr.specs.declared.ptr.Ptr.{Ptr}
+use Rattle.blk_ptr.specs.Hash.{shard_of}
 use Rattle.vdev_io.specs.declared.device.CacheDev.{Ghosts as DeviceGhosts}
 use Rattle.vdev_io.specs.declared.pool.Pool.{Ghosts as PoolGhosts}
 use Rattle.vdev_io.specs.Calls.{Call, KeepsPool, MakesCalls}
 use Rattle.arc_core.specs.Config.{IsConfig}
 use Rattle.arc_core.specs.declared.config.Config.{Config}
 use Rattle.arc_core.specs.declared.served.Served.TheVariants as served
+use Rattle.arc_core.specs.declared.event.Event.{Event}
 use Rattle.arc_core.specs.Operations.{Act}
+use Rattle.arc_core.specs.PlainShard.{PlainShard}
 use Rattle.arc_table.specs.declared.view.Line.{Line as Seen}
-use Rattle.arc_table.specs.Geometry.{cell_number}
+use Rattle.arc_table.specs.Fronts.{front_of}
+use Rattle.arc_table.specs.Geometry.{IsCell, cell_number}
 use Rattle.arc_table.specs.Reading.{KeepsDevice, Outside}
-use Rattle.arc_table.specs.Seen.{HasAll}
+use Rattle.arc_table.specs.Seen.{HasAll, seen_of}
 use Rattle.dbuf_cells.specs.Places.{cell_of}
 use Rattle.dbuf_cells.specs.Turns.{PartyPlace, OnHeap}
+use Rattle.dbuf_state.specs.Numbers.{opening_numbers}
+use Rattle.dbuf_state.specs.Outline.{outline_after}
+use Rattle.dbuf_state.specs.Soundness.{IsSound}
 use Rattle.dbuf_state.specs.declared.oid.Oid.{Oid}
 use Rattle.trace_text.specs.declared.op.Op.{Op}
 use Rattle.trace_text.specs.declared.op.Op.TheVariants as ops
@@ -23,15 +30,15 @@ use Rattle.trace_text.specs.declared.reply.Reply.{Reply}
 use Rattle.trace_text.specs.declared.reply.Reply.TheVariants as replies
 use Rattle.trace_run.specs.Acts.{acts_of}
 use Rattle.trace_run.specs.callers.CallerLines.{DidLine, at}
-use Rattle.trace_run.specs.Deeds.{HasToldAll, KeepsCells, Noted}
+use Rattle.trace_run.specs.Deeds.{HasAct, HasToldAll, KeepsCells, Noted, acts_of_events, events_there, lines_of_cell}
 use Rattle.trace_run.specs.Effects.{Effect, Answered, calls_of, effect_of}
 use Rattle.trace_run.specs.KeptReads.{KeptRead}
 use Rattle.trace_run.specs.DeviceReads.{AsksFor, LineAsks, size_asked}
 use Rattle.trace_run.specs.Lines.{shard_of_line}
-use Rattle.trace_run.specs.ObjectLines.{DidObjectLine, OnObject, on_object}
-use Rattle.trace_run.specs.ObjectReplies.{AnswersFrom, LooksFrom}
+use Rattle.trace_run.specs.ObjectLines.{CameFrom, DidObjectLine, OnObject, brought_there, cell_lines, events_of_bringing, on_object}
+use Rattle.trace_run.specs.ObjectReplies.{ActsFor, AnswersFrom, AnswersObject, BringsAt, LooksFrom}
 use Rattle.trace_run.specs.Objects.{Brought, GoesTogether, Line, Loaded, NotesNothing, NotesOwn, Nothing, OwnEvent, Refused, Work, acts_of_bringing, no_work, own_event}
-use Rattle.trace_run.specs.one_caller.Asking.{AsksLine}
+use Rattle.trace_run.specs.one_caller.Asking.{Asks, AsksLine}
 use Rattle.trace_run.specs.one_caller.OneCaller.{kept_after}
 use Rattle.trace_run.specs.Reads.{now_of}
 use Rattle.trace_run.specs.Tally.{AnswersNow}
@@ -112,12 +119,39 @@ size_brought Nothing = 0
 size_brought (Loaded ptr from) = ptr.key.size
 size_brought (Refused ptr) = ptr.key.size
 
+-- what was brought for a line that was answered so asked the device for, by what the shards were: for nothing, nothing
+abbrev pub AsksBrought : {D : Type 0} → DeviceGhosts D → Config → (ℕ → PlainShard) → Brought → Reply → (old new : D) → Type 0
+AsksBrought devices g s Nothing reply old new = new ≡ old
+AsksBrought devices g s (Loaded ptr from) reply old new = Asks devices (s (shard_of g.shards ptr.key)) ptr (Answered from) old new
+AsksBrought devices g s (Refused ptr) reply old new = Asks devices (s (shard_of g.shards ptr.key)) ptr (effect_of reply) old new
+
+-- What a line came to for a party that has every number. It found its block's cell with just what it had seen of it, and by that go what was brought, what the line did and what it was answered. The party has
+-- seen in each shard just the events for what was brought, and then these more, which are the line's acts; and of each cell what the line did there. The device was asked by the shard.
+pub record DidAlone {P D : Type 0} (pools : PoolGhosts P) (devices : DeviceGhosts D) (g : Config) (before now : Outside P D) (p q : PartyPlace) (on : OnObject) (l : Line) : Type 0 where
+  pub cell : OnHeap
+  pub sound : IsSound cell.value
+  pub opening : opening_numbers cell.value.limit cell.value.opening ≡ slice_index_or p.own.about.openings (cell_of g.cells on.at) []
+  pub seen : cell_lines cell ≡ front_of (cell_of g.cells on.at) p.own.seen
+  pub brought : BringsAt (pools.size before.pool) on.at (outline_after cell.value.limit cell.value.opening cell.value.history) l.work.brought
+  pub found : CameFrom g p l.work.brought
+  pub acts : ActsFor g p.number (own_event l.op) (outline_after cell.value.limit cell.value.opening cell.value.history) l.work l.reply
+  pub answer : AnswersObject (pools.size before.pool) (pools.told before.pool) cell.value.limit cell.value.opening cell.value.history l.work.brought l.op l.reply
+  pub made : List Event
+  pub kinds : AllByRecursion HasAct made
+  pub are : l.work.acts ≡ acts_of_events made
+  pub events : (shard : ℕ) → seen_of g shard q ≡ seen_of g shard p
+      ++ (brought_there g.shards shard l.work.brought (events_of_bringing (now_of g shard p) p.number on.tick (cell_number g (cell_of g.cells on.at)) l.work.brought) ++ events_there g shard made)
+  pub cells : (i : ℕ) → IsCell g i → front_of i q.own.seen ≡ front_of i p.own.seen ++ lines_of_cell i l.work.noted
+  pub all : HasAll q
+  pub asks : AsksBrought devices g (λ shard. now_of g shard p) l.work.brought l.reply before.device now.device
+
 -- The line came to this, by what the contract of its call says; it has its answer, by how its cell was found; its work fits it; its acts and its entries of cells are told; and the pool and the cache device were
 -- read for what was brought, and for nothing else.
 pub record DidWorkLine {P D : Type 0} (pools : PoolGhosts P) (devices : DeviceGhosts D) (g : Config) (blocks : List Ptr) (kept : List KeptRead) (before now : Outside P D) (p q : PartyPlace) (l : Line) : Type 0 where
   pub came : DidObjectLine pools devices g before now p q l.op l.reply
   pub answers : IsConfig g → (did : List Act) (had : List Noted) → HasToldAll g did had p
       → IfSome (on_object l.op) (λ on. LooksFrom g (pools.size before.pool) (pools.told before.pool) p.own.about.openings p.own.seen q.own.seen p.number had on.at l)
+  pub alone : HasAll p → IfSome (on_object l.op) (λ on. DidAlone pools devices g before now p q on l)
   pub fits : IsWorkOf g p.number l
   pub number : q.number ≡ p.number
   pub told : (did : List Act) (had : List Noted) → HasToldAll g did had p → HasToldAll g (did ++ acts_with g blocks kept l) (had ++ l.work.noted) q

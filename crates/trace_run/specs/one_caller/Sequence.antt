@@ -54,9 +54,9 @@ use Rattle.trace_run.specs.Restores.{restores_in}
 use Rattle.trace_run.specs.Syncing.{inserts_noted, noted_of}
 use Rattle.trace_run.specs.Tally.{AnswersNow}
 use Rattle.trace_run.specs.callers.Together.{BetweenGroups, OfCells, StopsSync, SyncsGroup, between_groups}
-use Rattle.trace_run.specs.callers.WorkLines.{calls_of_lines, effect_with}
+use Rattle.trace_run.specs.callers.WorkLines.{AsksBrought, calls_of_lines, effect_with}
 use Rattle.trace_run.specs.one_caller.Access.{AsksPool, MayComeFrom, access_of}
-use Rattle.trace_run.specs.one_caller.Asking.{Asks, AsksLine}
+use Rattle.trace_run.specs.one_caller.Asking.{AsksLine}
 use Rattle.trace_run.specs.one_caller.OneCaller.{IsFoundAs, events_of_drops, events_there as line_events, kept_after}
 
 -- ---- what stands between two lines
@@ -95,12 +95,6 @@ OfLent none asks (Some old) (Some new) = asks old new
 -- no bytes came from a device
 abbrev pub NotFromDevice : Effect → Type 0
 NotFromDevice effect = effect ≢ Answered served.L2
-
--- what was brought for a line that was answered so asked it for, by what the shards were: for nothing, nothing
-abbrev pub AsksBrought : {D : Type 0} → Devices D → Config → (ℕ → PlainShard) → Brought → Reply → (old new : D) → Type 0
-AsksBrought devices g s Nothing reply old new = new ≡ old
-AsksBrought devices g s (Loaded ptr from) reply old new = Asks devices (s (shard_of g.shards ptr.key)) ptr (Answered from) old new
-AsksBrought devices g s (Refused ptr) reply old new = Asks devices (s (shard_of g.shards ptr.key)) ptr (effect_of reply) old new
 
 -- ---- what was brought
 

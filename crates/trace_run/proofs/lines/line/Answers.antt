@@ -29,7 +29,8 @@ returns-in-Read-clause-did g c =
     (read-line c.args.arcs.now.config g.P.Pool c.args.blocks.now c.args.party.now q c.args.pool.now b c.in-Read.n c.in-Read.t c.in-Read.x c.in-Read.w _ kept c.read_line.result
     (rw c.in-Read.is at (same-caller c.args.party.now.number c.args.op.now c.requires.own)) there
     c.read_line.ensures.answer c.read_line.ensures.did c.read_line.ensures.found c.read_line.ensures.range c.read_line.ensures.calls c.read_line.ensures.pool)
-    (block-asks g.D.CacheDev c.args.blocks.now c.in-Read.x _ c.args.device.now c.read_line.new.device c.read_line.result there c.read_line.ensures.asked))
+    (block-asks g.D.CacheDev c.args.blocks.now c.in-Read.x _ c.args.device.now c.read_line.new.device c.read_line.result there c.read_line.ensures.asked)
+    (read-line-asks c.args.arcs.now.config g.D.CacheDev c.args.blocks.now c.args.party.now c.args.device.now c.read_line.new.device c.in-Read.n c.in-Read.t c.in-Read.x c.in-Read.w _ c.read_line.result there c.read_line.ensures.asks))
 
 pub returns-in-Hold-clause-did : goal.returns-in-Hold-clause-did
 returns-in-Hold-clause-did g c =
@@ -45,7 +46,8 @@ returns-in-Hold-clause-did g c =
     (hold-line c.args.arcs.now.config g.P.Pool c.args.blocks.now c.args.party.now q c.args.pool.now b c.in-Hold.n c.in-Hold.t c.in-Hold.x _ kept then c.hold_line.result
     (rw c.in-Hold.is at (same-caller c.args.party.now.number c.args.op.now c.requires.own)) there
     c.hold_line.ensures.answer c.hold_line.ensures.kept c.hold_line.ensures.did c.hold_line.ensures.found c.hold_line.ensures.range c.hold_line.ensures.calls c.hold_line.ensures.pool)
-    (block-asks g.D.CacheDev c.args.blocks.now c.in-Hold.x _ c.args.device.now c.hold_line.new.device c.hold_line.result there c.hold_line.ensures.asked))
+    (block-asks g.D.CacheDev c.args.blocks.now c.in-Hold.x _ c.args.device.now c.hold_line.new.device c.hold_line.result there c.hold_line.ensures.asked)
+    (hold-line-asks c.args.arcs.now.config g.D.CacheDev c.args.blocks.now c.args.party.now c.args.device.now c.hold_line.new.device c.in-Hold.n c.in-Hold.t c.in-Hold.x _ c.hold_line.result there c.hold_line.ensures.asks))
 
 pub returns-in-Drop-clause-did : goal.returns-in-Drop-clause-did
 returns-in-Drop-clause-did g c =
@@ -58,7 +60,7 @@ returns-in-Drop-clause-did g c =
     (drop-line c.args.arcs.now.config g.P.Pool c.args.blocks.now c.args.party.now q c.args.pool.now c.args.pool.now c.in-Drop.n c.in-Drop.x kept then c.drop_line.result
     (rw c.in-Drop.is at (same-caller c.args.party.now.number c.args.op.now c.requires.own)) c.requires.named
     c.drop_line.ensures.answer c.drop_line.ensures.kept c.drop_line.ensures.drops c.drop_line.ensures.none c.drop_line.ensures.calls)
-    (drop-asks g.D.CacheDev 0 c.args.device.now _ 0 c.in-Drop.x c.drop_line.result c.drop_line.ensures.answer))
+    (drop-asks g.D.CacheDev 0 c.args.device.now _ 0 c.in-Drop.x c.drop_line.result c.drop_line.ensures.answer) (λ all. ([], (refl, refl))))
 
 -- one on an object
 pub returns-in-Get-clause-did : goal.returns-in-Get-clause-did
