@@ -94,7 +94,7 @@ module _ {P D : Type 0} (pools : PoolGhosts P) (devices : DeviceGhosts D) (g : C
   pub with-named : (op : Op) (reply : Reply) (a b : AtWork P D) → DidWith pools devices g blocks op reply a b → AreNamed blocks a.kept → AreNamed blocks b.kept
   with-named op reply a b did named = by-named (on_object op) (record { op = op; reply = reply; work = did.0 }) a b did.1 named
 
-  by-number : (o : Option OnObject) (l : Line) (a b : AtWork P D) → DidLineBy pools devices g blocks o l a b → b.party.number ≡ a.party.number
+  pub by-number : (o : Option OnObject) (l : Line) (a b : AtWork P D) → DidLineBy pools devices g blocks o l a b → b.party.number ≡ a.party.number
   by-number None l a b did = did.1.did.number
   by-number (Some on) l a b did = did.1.number
 
