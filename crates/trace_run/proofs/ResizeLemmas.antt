@@ -33,14 +33,14 @@ use Rattle.arc_table.proofs.OwnLemmas.{grows, no-own-moments, own-append}
 use Rattle.arc_table.proofs.scans.RoomyAfter.{does_roomy_ledger, does_roomy_stays}
 use Rattle.arc_table.proofs.scans.ScanAlone.{scan-alone}
 use Rattle.trace_run.specs.KeptBlocks.{AllQuiet, ClaimsNothing, Stands, times}
-use Rattle.trace_run.specs.Meeting.{AreLast, HasLearned, HaveParted, IsApart, JoinAll, Joins, MadeJoined, PartAll, resizes_in}
+use Rattle.trace_run.specs.Meeting.{AreLast, HasLearned, HaveParted, IsApart, JoinAll, Joins, MadeJoined, PartAll, SeesEntries, resizes_in}
 use Rattle.trace_run.proofs.CellsLeft.{LeavesCells, leaves-grow, leaves-same, leaves-seen, leaves-then, roomy-leaves}
 use Rattle.trace_run.proofs.MoveLemmas.{Moves, roomy-made-own, roomy-moves}
 use Rattle.trace_run.specs.Deeds.{SameMade}
 use Rattle.trace_run.specs.Making.{AreEventsSeen}
 use Rattle.trace_run.proofs.deeds.MakesLemmas.{grown-same, same-none, same-then}
 use Rattle.trace_run.proofs.feeds.PickedLemmas.{resize-picked, roomy-picks}
-use Rattle.trace_run.proofs.callers.MeetLemmas.{HaveJoined, have-met, all-parted, are-last, joined-front, joined_of, left_alone, parted-then, parted_from, starts-events, starts-then}
+use Rattle.trace_run.proofs.callers.MeetLemmas.{HaveJoined, all-level, have-met, all-parted, are-last, joined-front, joined_of, left_alone, parted-then, parted_from, starts-events, starts-then}
 use Rattle.trace_run.proofs.callers.TurnLemmas.{joined, joined-all, joined-stands}
 
 module _ {C : Type 0} (m : Meanings C) (cache : Cache) (c : ℕ) where
@@ -320,11 +320,14 @@ module _ {C : Type 0} (m : Meanings C) (cache : Cache) (p : Place (Known C)) (ot
         made =
             let first : SameMade g p q = grown-same g p q have.number have.about have.mine have.self.starts have.self.cells stands.seen stands.cells in
             let both : SameMade g p r = same-then g p q r first given.made in
-            record { number = both.number; cells = both.cells; entries = both.entries; keeps = record { about = both.keeps.about; fronts = both.keeps.fronts } };
+            record { number = both.number; cells = both.cells; entries = both.entries; keeps = record { about = both.keeps.about; fronts = both.keeps.fronts; shards = both.keeps.shards } };
         settled = λ feeder settled i. given.picks (have.number ∙ feeder) i ∙ (ap (λ (l : Ledger). list_at i l.picked) have.ledger ∙ settled i);
         entries = λ none j a at range. none j a (subst (λ (l : List Mine). get_elem? l j ≡ some a) have.mine (given.left.mine j a range at)) range;
         one = one-front;
         same = λ before own rest shard. ap events_in (have.level before own rest shard);
+        same_cells = λ entries own rest.
+            let sees : SeesEntries g entries r = λ i in_range. given.left.fronts i in_range ∙ have.level_cells entries own rest i in_range in
+            (sees, all-level cache q r (leaves-grow g q r given.left) entries sees others have.all);
       }
 
       pub made-joined : MadeJoined cache more p others z xs

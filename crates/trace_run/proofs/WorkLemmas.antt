@@ -372,6 +372,12 @@ module _ {P D : Type 0} (pools : PoolGhosts P) (devices : DeviceGhosts D) (g : C
           asked = asked;
         }
 
+    -- with what its lines did
+    pub came-with : (rs : List Reply) (did : DidOps pools devices g blocks his_ops rs a b) (was now : Option E) → AsksGiven given blocks did.lines was now
+        → (came : CameTo pools given g blocks his_ops rs (plainly pools devices g blocks a) (plainly pools devices g blocks b) was now) × DidAll pools devices g blocks came.lines a b
+    unfolding came-to
+    came-with rs did was now asked = (came-to rs did was now asked, did.did)
+
     -- over a device without bytes, as where none was given
     pub came-without : (r : Result (Vec Reply Global) NoMemory) → ((d : D) → devices.size d ≡ 0) → IfOk r (λ v. DidOps pools devices g blocks his_ops v.items a b)
         → IfOk r (λ v. CameTo pools given g blocks his_ops v.items (plainly pools devices g blocks a) (plainly pools devices g blocks b) None None)

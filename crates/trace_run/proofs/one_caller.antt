@@ -8,6 +8,8 @@ pub mod FedAlone
 pub mod LentLemmas
 pub mod NamedLemmas
 pub mod OverShardLemmas
+pub mod OwnGone
+pub mod OwnJoined
 pub mod OwnLines
 pub mod PlainLemmas
 pub mod PlainReplyLemmas

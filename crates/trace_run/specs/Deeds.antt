@@ -13,6 +13,7 @@ use Rattle.arc_table.specs.declared.view.Line.{Line}
 use Rattle.arc_table.specs.declared.view.Line.TheVariants as line
 use Rattle.arc_table.specs.Fronts.{StartsWith, front_of}
 use Rattle.arc_table.specs.Geometry.{IsCell}
+use Rattle.arc_table.specs.Seen.{turn_of}
 use Rattle.arc_table.specs.Told.{IsTold}
 use Rattle.dbuf_state.specs.Numbers.{event_numbers}
 use Rattle.dbuf_state.specs.declared.event.CellEvent.{CellEvent}
@@ -85,10 +86,11 @@ module _ {C : Type 0} where
     pub kinds : (shard c : ℕ) → c ≢ p.number → AllByRecursion HasAct (with_number c (made_in g shard p))
     pub entries : (i : ℕ) → IsCell g i → made_of i p ≡ lines_of_cell i noted
 
-  -- it knows what it knew of the cells' beginnings, and has seen of each cell at least what it had
+  -- it knows what it knew of the cells' beginnings, and has seen of each cell and of each shard at least what it had
   pub record KeepsCells (g : Config) (p q : Place (Known C)) : Type 0 where
     pub about : q.own.about ≡ p.own.about
     pub fronts : (i : ℕ) → IsCell g i → StartsWith (front_of i q.own.seen) (front_of i p.own.seen)
+    pub shards : (shard : ℕ) → StartsWith (front_of (turn_of g shard) q.own.seen) (front_of (turn_of g shard) p.own.seen)
 
   -- it has seen of each cell just what it had
   abbrev pub SameCells : Config → (p q : Place (Known C)) → Type 0

@@ -187,6 +187,7 @@ module _ {C : Type 0} (m : Meanings C) (cache : Cache) (p : Place (Known C)) (ke
     last-cells = record {
       about = about;
       fronts = λ i in_range. subst (λ (x : List Line). StartsWith x (front_of i p.own.seen)) (sym (left.fronts i in_range)) (have.self.cells i in_range);
+      shards = λ shard. starts-then (lines shard) (front_of (turn_of gk shard) q.own.seen) (front_of (turn_of gk shard) p.own.seen) (more shard) (have.self.starts shard);
     }
 
     -- the feeder's, which kept nothing

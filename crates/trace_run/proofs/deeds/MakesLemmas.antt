@@ -28,6 +28,7 @@ use Rattle.arc_table.specs.Seen.{AreEntriesSeen, AreOwn, AreSeenBy, HasSeenItsEn
 use Rattle.arc_table.specs.ShardGiving.{mines_of}
 use Rattle.arc_table.specs.TableLaws.{starts_whole, within}
 use Rattle.arc_table.proofs.Afterwards.{does_mine}
+use Rattle.arc_table.proofs.OwnLemmas.{grows}
 use Rattle.arc_table.proofs.PassMines.{mines_of_are}
 use Rattle.arc_table.proofs.scans.RoomyAfter.{does_roomy_mine}
 use Rattle.arc_table.proofs.SeenLemmas.{events-append, events-map}
@@ -50,6 +51,7 @@ module _ {C : Type 0} (g : Config) where
     pub here : made_of (turn_of g shard) q ≡ made_of (turn_of g shard) p ++ map line.Event es
     pub others : (j : ℕ) → j ≢ shard → made_of (turn_of g j) q ≡ made_of (turn_of g j) p
     pub cells : (i : ℕ) → IsCell g i → made_of i q ≡ made_of i p
+    pub starts : (j : ℕ) → StartsWith (front_of (turn_of g j) q.own.seen) (front_of (turn_of g j) p.own.seen)
 
   module _ {May : (n number : ℕ) → Type 0} (shard : ℕ) (before : ShardLog) (es : List Event) (p q : Place (Known C)) (made : MadeBy May g shard before es p q) (long : length made.news ≡ length es)
       (own : AreSeenBy May g p.number p.own.mine p.own.seen) (fronts : (i : ℕ) → IsCell g i → front_of i q.own.seen ≡ front_of i p.own.seen) where
@@ -68,6 +70,7 @@ module _ {C : Type 0} (g : Config) where
       cells = λ i in_range.
           (λ k. made_from i 0 (made.mine k) (fronts i in_range k))
           ∙ made-else i (turn_of g shard) p.own.mine made.news (front_of i p.own.seen) (λ e. let b = in_range in omega (arith, e, b)) (λ y a at. (made.each y a at).0);
+      starts = grows g shard before es p q made;
     }
 
 same-length : {A : Type 0} (mines xs ys whole : List A) → whole ≡ mines ++ xs → whole ≡ mines ++ ys → length xs ≡ length ys
@@ -114,11 +117,11 @@ module _ {C : Type 0} (g : Config) where
         ∙ (ap (λ (l : List Event). with_number c (made_in g shard p) ++ l) (none-numbered p.number c es mine (λ same. other (sym same))) ∙ append-nil (with_number c (made_in g shard p))))))
         (λ differs. ap (λ (l : List Line). with_number c (events_in l)) (more.others j differs));
     entries = more.cells;
-    keeps = record { about = left.stays.about; fronts = leaves-grow g p q left };
+    keeps = record { about = left.stays.about; fronts = leaves-grow g p q left; shards = more.starts };
   }
 
   pub keeps-none : (p : Place (Known C)) → KeepsCells g p p
-  keeps-none p = record { about = refl; fronts = λ i in_range. starts_whole (front_of i p.own.seen) }
+  keeps-none p = record { about = refl; fronts = λ i in_range. starts_whole (front_of i p.own.seen); shards = λ shard. starts_whole (front_of (turn_of g shard) p.own.seen) }
 
   pub keeps-then : (p q r : Place (Known C)) → KeepsCells g p q → KeepsCells g q r → KeepsCells g p r
   keeps-then p q r a b = record {
@@ -127,6 +130,10 @@ module _ {C : Type 0} (g : Config) where
         let x = a.fronts i in_range in
         let y = b.fronts i in_range in
         (x.0 ++ y.0, y.1 ∙ (ap (λ (l : List Line). l ++ y.0) x.1 ∙ append_assoc (front_of i p.own.seen) x.0 y.0));
+    shards = λ shard.
+        let x = a.shards shard in
+        let y = b.shards shard in
+        (x.0 ++ y.0, y.1 ∙ (ap (λ (l : List Line). l ++ y.0) x.1 ∙ append_assoc (front_of (turn_of g shard) p.own.seen) x.0 y.0));
   }
 
   pub same-none : (p : Place (Known C)) → SameMade g p p
@@ -145,7 +152,7 @@ module _ {C : Type 0} (g : Config) where
       → CellsGrow g p.own.seen q.own.seen → HasSeenItsEvents g p → HasSeenItsEntries g p → SameMade g p q
   grown-same p q number about mine starts grow events entries = record {
     number = number;
-    keeps = record { about = about; fronts = grow };
+    keeps = record { about = about; fronts = grow; shards = starts };
     cells = λ shard c other. ap (λ (l : List Line). with_number c (events_in l))
         ((λ k. made_from (turn_of g shard) 0 (mine k) (front_of (turn_of g shard) q.own.seen))
         ∙ made-grown (turn_of g shard) p.own.mine (front_of (turn_of g shard) p.own.seen) (front_of (turn_of g shard) q.own.seen) (starts shard) (seen-below g p.number p.own.mine p.own.seen shard events.own));

@@ -173,7 +173,7 @@ module _ (g : Config) (t c : ℕ) (above : parties_of g ≤ c) (brought : Brough
     source = b.source;
     all = λ all. d.all (b.seen.all all);
     joined = d.joined ∙ b.seen.joined;
-    keeps = record { about = d.about ∙ b.seen.about; fronts = λ i in_range. starts-on g _ _ _ (d.cells i in_range) (b.seen.cells i in_range) };
+    keeps = record { about = d.about ∙ b.seen.about; fronts = λ i in_range. starts-on g _ _ _ (d.cells i in_range) (b.seen.cells i in_range); shards = λ shard. starts-on g _ _ _ (d.starts shard) (b.same.keeps.shards shard) };
     cells_alone = λ all i in_range. d.cells_alone (b.seen.all all) i in_range ∙ ap (λ (l : List Line). l ++ lines_of_cell i noted) (b.seen.alone all i in_range);
   }
 

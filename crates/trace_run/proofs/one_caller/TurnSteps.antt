@@ -379,7 +379,7 @@ module _ {P D : Type 0} (cache : Cache) (restored : List Restored) (pools : Ghos
             fits = tt;
             waits = λ acts noted waits. subst (λ (x : List Act × List Noted). Waits cache n x.0 x.1 c.reads c.party) (λ i. (sym (append-nil acts) i, sym (append-nil noted) i)) waits;
             keeps = refl;
-            cells = record { about = refl; fronts = λ i range. ([], sym (append-nil _)) };
+            cells = record { about = refl; fronts = λ i range. ([], sym (append-nil _)); shards = λ shard. ([], sym (append-nil _)) };
             answers = λ acts noted told place. tt;
             looks = λ acts noted told. tt;
             calls = refl;

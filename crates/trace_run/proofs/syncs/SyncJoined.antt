@@ -233,6 +233,11 @@ module _ (cache : Cache) (p : PartyPlace) (others : List PartyPlace) (stands : S
         settled = λ last settled i. synced-picks g stands.valid tick cells xs q r stood.of.config low stood.seen has-all stood.cells s inside (met.number ∙ last) i ∙ (ap (λ (l : Ledger). list_at i l.picked) met.ledger ∙ settled i);
         one = one-front cache p others stands alone apart everyone count differ q joins;
         same = λ before own rest shard. ap events_in (met.level before own rest shard);
+        same_cells = λ entries own rest i c at.
+            let within = slice_get_within cells i c at in
+            let in_range : IsCell g i = let e = s.all in omega (arith, within, e) in
+            sym (cell-front g stands.valid tick cells xs q r stood.of.config low stood.seen has-all stood.cells s inside i c within ∙ ap (λ (x : OnHeap). lines_of x.value.history) (index-at i cells c at))
+            ∙ met.level_cells entries own rest i in_range;
         count = s.all;
         sound = λ i c at. (found-at 0 i cells c t.found at).sound;
         began = λ i c at.

@@ -23,7 +23,7 @@ use Rattle.arc_table.specs.Ended.{Ended}
 use Rattle.arc_table.specs.Cache.{Cache}
 use Rattle.arc_table.specs.Fronts.{StartsWith, front_of}
 use Rattle.arc_table.specs.Geometry.{IsCell, parties_of}
-use Rattle.arc_table.specs.Seen.{events_in, seen_of}
+use Rattle.arc_table.specs.Seen.{events_in, seen_of, turn_of}
 use Rattle.arc_table.specs.TableLaws.{get_front, within}
 use Rattle.arc_table.specs.Telling.{opening_of}
 use Rattle.arc_table.proofs.TableLaws.{get_last}
@@ -390,6 +390,7 @@ module _ (cache : Cache) (valid : IsConfig cache.config) (restored : List Restor
   starts-cells p q r first second = record {
     about = second.about ∙ first.about;
     fronts = λ i range. starts-then (front_of i r.own.seen) (front_of i q.own.seen) (front_of i p.own.seen) (second.fronts i range) (first.fronts i range);
+    shards = λ shard. starts-then (front_of (turn_of g shard) r.own.seen) (front_of (turn_of g shard) q.own.seen) (front_of (turn_of g shard) p.own.seen) (second.shards shard) (first.shards shard);
   }
 
   kept-cells : (olds news : List PartyPlace) (n : ℕ) (p : PartyPlace) → AllKeepCells g olds news → get_elem? olds n ≡ some p → (q : PartyPlace) × (get_elem? news n ≡ some q) × KeepsCells g p q
