@@ -195,7 +195,7 @@ module _ {P D : Type 0} (pools : PoolGhosts P) (devices : DeviceGhosts D) (g : C
       rest
 
   -- what was read of the pool
-  by-calls : (o : Option OnObject) (l : Line) (a b : AtWork P D) → DidLineBy pools devices g blocks o l a b → MakesCalls pools (calls_of (effect_with l.work.brought l.reply)) a.outside.pool b.outside.pool
+  pub by-calls : (o : Option OnObject) (l : Line) (a b : AtWork P D) → DidLineBy pools devices g blocks o l a b → MakesCalls pools (calls_of (effect_with l.work.brought l.reply)) a.outside.pool b.outside.pool
   by-calls None l a b d = subst (λ (w : Work). MakesCalls pools (calls_of (effect_with w.brought l.reply)) a.outside.pool b.outside.pool) (sym d.0) d.1.calls
   by-calls (Some on) l a b d = d.1.calls
 
@@ -204,7 +204,7 @@ module _ {P D : Type 0} (pools : PoolGhosts P) (devices : DeviceGhosts D) (g : C
   all-calls (l ∷ ls) a b d = calls-then pools (calls_of (effect_with l.work.brought l.reply)) (calls_of_lines ls) a.outside.pool d.0.outside.pool b.outside.pool (by-calls (on_object l.op) l a d.0 d.1) (all-calls ls d.0 b d.2)
 
   -- what the party keeps and knows
-  by-keeps : (o : Option OnObject) (n : ℕ) (l : Line) (a b : AtWork P D) → is_of_caller n l.op ≡ true → DidLineBy pools devices g blocks o l a b → KeepsCells g a.party b.party × (b.party.joined ≡ a.party.joined) × KeepsPool pools a.outside.pool b.outside.pool
+  pub by-keeps : (o : Option OnObject) (n : ℕ) (l : Line) (a b : AtWork P D) → is_of_caller n l.op ≡ true → DidLineBy pools devices g blocks o l a b → KeepsCells g a.party b.party × (b.party.joined ≡ a.party.joined) × KeepsPool pools a.outside.pool b.outside.pool
   by-keeps None n l a b his d = (d.1.did.keeps (his-some n l.op his), d.1.did.joined (his-some n l.op his), d.1.keeps)
   by-keeps (Some on) n l a b his d = (d.1.keeps, d.1.joined, d.1.pool)
 

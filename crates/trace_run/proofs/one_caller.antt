@@ -16,6 +16,7 @@ pub mod PlainReplyLemmas
 pub mod PlainReportLemmas
 pub mod ResidentLemmas
 pub mod RestAlone
+pub mod SequenceLines
 pub mod SoleLemmas
 pub mod TellLemmas
 pub mod TurnAnswers
