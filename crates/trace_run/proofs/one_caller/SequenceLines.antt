@@ -17,7 +17,7 @@ use Rattle.arc_table.specs.declared.view.Line.{Line as Seen}
 use Rattle.dbuf_cells.specs.Places.{cell_of}
 use Rattle.dbuf_cells.specs.Turns.{PartyPlace}
 use Rattle.dbuf_state.specs.Numbers.{opening_numbers}
-use Rattle.dbuf_state.specs.Outline.{Outline, outline_after}
+use Rattle.dbuf_state.specs.Outline.{outline_after}
 use Rattle.dbuf_state.specs.declared.event.CellEvent.{CellEvent}
 use Rattle.dbuf_state.specs.declared.state.Mapping.{Mapping}
 use Rattle.trace_text.specs.declared.op.Op.{Op}
@@ -26,8 +26,7 @@ use Rattle.trace_text.specs.declared.trace.Trace.{Trace}
 use Rattle.trace_run.specs.Deeds.{events_of_cell, events_there}
 use Rattle.trace_run.specs.DeviceReads.{AsksFor, LineAsks}
 use Rattle.trace_run.specs.Effects.{calls_of, effect_of}
-use Rattle.trace_run.specs.KeptReads.{KeptRead}
-use Rattle.trace_run.specs.Lines.{caller_of, is_of_caller}
+use Rattle.trace_run.specs.Lines.{is_of_caller}
 use Rattle.trace_run.specs.ObjectLines.{CameFrom, OnObject, brought_there, events_of_bringing, on_object}
 use Rattle.trace_run.specs.ObjectReplies.{ActsFor, AnswersObject, BringsAt}
 use Rattle.trace_run.specs.Objects.{Brought, Line, Loaded, Nothing, Refused, Work, own_event}
@@ -35,9 +34,10 @@ use Rattle.trace_run.specs.Openings.{opening_map, openings_of}
 use Rattle.trace_run.specs.Reads.{now_of}
 use Rattle.trace_run.specs.Syncing.{lines_of}
 use Rattle.trace_run.specs.callers.Together.{between_groups}
-use Rattle.trace_run.specs.callers.WorkLines.{AsksBrought, AtWork, DidAlone, DidAll, DidLineBy, calls_of_lines, effect_with, size_brought}
+use Rattle.trace_run.specs.callers.WorkLines.{AsksBrought, AtWork, DidAlone, DidAll, DidLineBy, effect_with, size_brought}
 use Rattle.trace_run.specs.one_caller.Asking.{AsksLine}
-use Rattle.trace_run.specs.one_caller.Sequence.{AreInSequence, Does, DoesLine, DoesObject, DoesOwn, DoesRead, IsFoundIn, NotFromDevice, OfLent, Sequence}
+use Rattle.trace_run.specs.one_caller.LinesGone.{Gone, IsThere}
+use Rattle.trace_run.specs.one_caller.Sequence.{AreInSequence, Does, DoesLine, DoesObject, DoesOwn, IsFoundIn, NotFromDevice, OfLent, Sequence}
 use Rattle.trace_run.proofs.CapLemmas.{his-some}
 use Rattle.trace_run.proofs.CellLemmas.{opening-at, opening-same}
 use Rattle.trace_run.proofs.DeviceReadLemmas.{none-asked}
@@ -46,23 +46,6 @@ use Rattle.trace_run.proofs.callers.CallerActLemmas.{caller-is}
 use Rattle.trace_run.proofs.deeds.ClosedDeeds.{entries-read}
 use Rattle.trace_run.proofs.deeds.OperatesDone.{cell-there}
 use Rattle.trace_run.proofs.syncs.SyncWrites.{lines-both}
-
--- The sequence stands where a party is between its lines: it has seen of each shard and of each cell just what the sequence has.
-pub record IsThere {P E : Type 0} (g : Config) (at : Sequence P E) (p : PartyPlace) (kept : List KeptRead) (pool : P) (device : Option E) : Type 0 where
-  pub shards : (shard : ℕ) → seen_of g shard p ≡ at.shards shard
-  pub cells : (i : ℕ) → IsCell g i → front_of i p.own.seen ≡ lines_of (at.cells i)
-  pub kept_is : at.kept ≡ kept
-  pub pool_is : at.pool.pool ≡ pool
-  pub device_is : at.device ≡ device
-
--- these lines lead in sequence from there to where the party is then, which has every number still
-pub record Gone {P E : Type 0} (pools : Ghosts P) (given : Devices E) (trace : Trace) (g : Config) (lines : List Line) (at : Sequence P E) (p : PartyPlace) (kept : List KeptRead) (pool : P) (device : Option E) : Type 0 where
-  pub next : Sequence P E
-  pub there : IsThere g next p kept pool device
-  pub group : next.pool.group ≡ at.pool.group
-  pub next_group : next.pool.next ≡ at.pool.next
-  pub all : HasAll p
-  pub in_sequence : AreInSequence pools given trace lines [] at next
 
 module _ {P D E : Type 0} (pools : Ghosts P) (devices : Devices D) (given : Devices E) (trace : Trace) (lend : D → Option E) where
   abbrev g : Config
@@ -220,20 +203,20 @@ module _ {P D E : Type 0} (pools : Ghosts P) (devices : Devices D) (given : Devi
   goes lends valid ls a b d his all number openings at there =
       let here = standing lends valid at.pool.group at.pool.next a at.cells in
       let is : at ≡ here = λ k. record {
-        pool = record { pool = there.pool_is k; group = at.pool.group; next = at.pool.next };
-        device = there.device_is k;
+        pool = record { pool = there.pool k; group = at.pool.group; next = at.pool.next };
+        device = there.device k;
         shards = λ shard. sym (there.shards shard) k;
         cells = at.cells;
-        kept = there.kept_is k;
+        kept = there.kept k;
       } in
       let r = lead-on lends valid at.pool.group at.pool.next ls a b d his number all openings at.cells there.cells in
       record {
         next = standing lends valid at.pool.group at.pool.next b r.0;
-        there = record { shards = λ shard. refl; cells = r.1; kept_is = refl; pool_is = refl; device_is = refl };
+        there = record { shards = λ shard. refl; cells = r.1; kept = refl; pool = refl; device = refl };
         group = refl;
         next_group = refl;
         all = r.2;
-        in_sequence = subst (λ (x : Sequence P E). AreInSequence pools given trace ls [] x (standing lends valid at.pool.group at.pool.next b r.0)) (sym is) r.3;
+        lines = subst (λ (x : Sequence P E). AreInSequence pools given trace ls [] x (standing lends valid at.pool.group at.pool.next b r.0)) (sym is) r.3;
       }
 
   -- by what is the trace's
