@@ -146,7 +146,7 @@ drop-asks devices n d kept dropped block other h = absurd h
 
 module _ {D : Type 0} (devices : DeviceGhosts D) (blocks : List Ptr) where
   -- an effect that a device without bytes can't have
-  none-asked : (n : ℕ) (e : Effect) (a b : D) → devices.size a ≡ 0 → AsksFor devices n e a b → e ≢ Answered served.L2
+  pub none-asked : (n : ℕ) (e : Effect) (a b : D) → devices.size a ≡ 0 → AsksFor devices n e a b → e ≢ Answered served.L2
   none-asked n e a b empty asked is =
       let once : WasReadOnce devices n Gave a b = subst (λ (f : Effect). AsksFor devices n f a b) is asked in
       absurd (omega (arith, empty, once.some, once.inside))

@@ -94,7 +94,7 @@ module _ {P D : Type 0} (pools : PoolGhosts P) (devices : DeviceGhosts D) (g : C
   pub with-named : (op : Op) (reply : Reply) (a b : AtWork P D) → DidWith pools devices g blocks op reply a b → AreNamed blocks a.kept → AreNamed blocks b.kept
   with-named op reply a b did named = by-named (on_object op) (record { op = op; reply = reply; work = did.0 }) a b did.1 named
 
-  by-number : (o : Option OnObject) (l : Line) (a b : AtWork P D) → DidLineBy pools devices g blocks o l a b → b.party.number ≡ a.party.number
+  pub by-number : (o : Option OnObject) (l : Line) (a b : AtWork P D) → DidLineBy pools devices g blocks o l a b → b.party.number ≡ a.party.number
   by-number None l a b did = did.1.did.number
   by-number (Some on) l a b did = did.1.number
 
@@ -195,7 +195,7 @@ module _ {P D : Type 0} (pools : PoolGhosts P) (devices : DeviceGhosts D) (g : C
       rest
 
   -- what was read of the pool
-  by-calls : (o : Option OnObject) (l : Line) (a b : AtWork P D) → DidLineBy pools devices g blocks o l a b → MakesCalls pools (calls_of (effect_with l.work.brought l.reply)) a.outside.pool b.outside.pool
+  pub by-calls : (o : Option OnObject) (l : Line) (a b : AtWork P D) → DidLineBy pools devices g blocks o l a b → MakesCalls pools (calls_of (effect_with l.work.brought l.reply)) a.outside.pool b.outside.pool
   by-calls None l a b d = subst (λ (w : Work). MakesCalls pools (calls_of (effect_with w.brought l.reply)) a.outside.pool b.outside.pool) (sym d.0) d.1.calls
   by-calls (Some on) l a b d = d.1.calls
 
@@ -204,7 +204,7 @@ module _ {P D : Type 0} (pools : PoolGhosts P) (devices : DeviceGhosts D) (g : C
   all-calls (l ∷ ls) a b d = calls-then pools (calls_of (effect_with l.work.brought l.reply)) (calls_of_lines ls) a.outside.pool d.0.outside.pool b.outside.pool (by-calls (on_object l.op) l a d.0 d.1) (all-calls ls d.0 b d.2)
 
   -- what the party keeps and knows
-  by-keeps : (o : Option OnObject) (n : ℕ) (l : Line) (a b : AtWork P D) → is_of_caller n l.op ≡ true → DidLineBy pools devices g blocks o l a b → KeepsCells g a.party b.party × (b.party.joined ≡ a.party.joined) × KeepsPool pools a.outside.pool b.outside.pool
+  pub by-keeps : (o : Option OnObject) (n : ℕ) (l : Line) (a b : AtWork P D) → is_of_caller n l.op ≡ true → DidLineBy pools devices g blocks o l a b → KeepsCells g a.party b.party × (b.party.joined ≡ a.party.joined) × KeepsPool pools a.outside.pool b.outside.pool
   by-keeps None n l a b his d = (d.1.did.keeps (his-some n l.op his), d.1.did.joined (his-some n l.op his), d.1.keeps)
   by-keeps (Some on) n l a b his d = (d.1.keeps, d.1.joined, d.1.pool)
 
@@ -371,6 +371,12 @@ module _ {P D : Type 0} (pools : PoolGhosts P) (devices : DeviceGhosts D) (g : C
           calls = all-calls did.lines a b did.did;
           asked = asked;
         }
+
+    -- with what its lines did
+    pub came-with : (rs : List Reply) (did : DidOps pools devices g blocks his_ops rs a b) (was now : Option E) → AsksGiven given blocks did.lines was now
+        → (came : CameTo pools given g blocks his_ops rs (plainly pools devices g blocks a) (plainly pools devices g blocks b) was now) × DidAll pools devices g blocks came.lines a b
+    unfolding came-to
+    came-with rs did was now asked = (came-to rs did was now asked, did.did)
 
     -- over a device without bytes, as where none was given
     pub came-without : (r : Result (Vec Reply Global) NoMemory) → ((d : D) → devices.size d ≡ 0) → IfOk r (λ v. DidOps pools devices g blocks his_ops v.items a b)

@@ -9,6 +9,8 @@ pub mod FeedLine
 pub mod LentLemmas
 pub mod NamedLemmas
 pub mod OverShardLemmas
+pub mod OwnGone
+pub mod OwnJoined
 pub mod OwnLines
 pub mod PlainLemmas
 pub mod PlainReplyLemmas
@@ -16,6 +18,7 @@ pub mod PlainReportLemmas
 pub mod ResidentLemmas
 pub mod RestAlone
 pub mod SequenceEnds
+pub mod SequenceLines
 pub mod SoleLemmas
 pub mod StandLemmas
 pub mod TellLemmas

@@ -3,6 +3,7 @@ pub mod Alone
 pub mod Asking
 pub mod InTurn
 pub mod Lent
+pub mod LinesGone
 pub mod OneCaller
 pub mod OverShards
 pub mod PlainReport

@@ -22,13 +22,14 @@ ghost use Rattle.trace_run.specs.RunWork.{RunWork};
 ghost use Rattle.trace_run.specs.Tally.{AreDeclared};
 ghost use Rattle.trace_run.specs.callers.Beside.{WasInUse};
 ghost use Rattle.trace_run.specs.callers.CallerLines.{at};
-ghost use Rattle.trace_run.specs.callers.Callers.{AreAtStart, CameTo};
+ghost use Rattle.trace_run.specs.callers.Callers.{AreAtStart};
 ghost use Rattle.trace_run.specs.callers.Group.{LeavesDeclared, LeavesFront, LeavesPool};
 ghost use Rattle.trace_run.specs.callers.GroupRun.{RanTogether};
 ghost use Rattle.trace_run.specs.callers.Groups.{MaySync};
 ghost use Rattle.trace_run.specs.callers.Together.{BetweenGroups, between_groups, report_of_closed};
 ghost use Rattle.trace_run.specs.one_caller.Alone.{histories_of};
 ghost use Rattle.trace_run.specs.one_caller.InTurn.{AreDoneInTurn, AreInTurn, AreOwn, DidOtherLine, DidOwnLines, RunsInTurn, StepsInTurn};
+ghost use Rattle.trace_run.specs.one_caller.LinesGone.{CameAlone};
 ghost use Rattle.trace_run.specs.one_caller.OverShards.{AreNamed};
 
 use crate::alone::run_alone;
@@ -83,7 +84,7 @@ fn lines_on<P: Pool, D: CacheDev, G: Gate>(
     requires named { AreNamed blocks.now (map read_of kept.old) }
     requires few { first + length ops.now < 2 ^ 32 }
     ensures stands { IfOk result (λ replies. Stands arcs.now party.new kept.new) }
-    ensures did { IfOk result (λ replies. CameTo P.Pool D.CacheDev arcs.now.config blocks.now (filter (is_of_caller party.old.number) ops.now) replies.items
+    ensures did { IfOk result (λ replies. CameAlone P.Pool D.CacheDev arcs.now.config blocks.now (filter (is_of_caller party.old.number) ops.now) replies.items
         (at party.old (map read_of kept.old) pool.old) (at party.new (map read_of kept.new) pool.new) (lent_in device.old) (lent_in device.new)) }
     ensures pool { KeepsPool P.Pool pool.old pool.new }
     ensures device { WasLent D.CacheDev device.old device.new }
@@ -118,7 +119,7 @@ fn lines_on<P: Pool, D: CacheDev, G: Gate>(
     }
 }
 
-/// The caller does these lines, which are its own, one after another, on the pool and the cache device that were handed in.
+/// The caller does these lines, which are its own, one after another, on the pool and the cache device that were handed in. The feeder's party joins its party for that time.
 fn own_lines<P: Pool, D: CacheDev, G: Gate>(
     alloc: Global,
     rt: &impl Wait,
@@ -133,6 +134,9 @@ fn own_lines<P: Pool, D: CacheDev, G: Gate>(
 ) -> Result<(Crew<HeapCell>, Vec<Reply>), NoMemory>
     requires start { AreAtStart arcs.now blocks.now 0 crew.kept.items crew.parties.items }
     requires one { vec_len crew.parties ≡ 1 }
+    requires callers { arcs.now.config.callers ≡ 1 }
+    requires rows { arcs.now.row.parties ≡ parties_of arcs.now.config }
+    requires feeder { IsIdleFeeder arcs.now crew.feeder }
     requires declared { AreDeclared (length blocks.now) ops.now }
     requires own { AreOwn ops.now }
     requires few { first + length ops.now < 2 ^ 32 }
@@ -151,9 +155,11 @@ fn own_lines<P: Pool, D: CacheDev, G: Gate>(
     let Some(mut reads) = kept.pop() else {
         unreachable!()
     };
+    arcs.join(&mut party, feeder);
     let replies = lines_on(
         alloc, rt, arcs, &mut party, &mut reads, pool, device, blocks, ops, first, gate,
     )?;
+    let feeder = arcs.part(&mut party, 1);
     parties.push(party)?;
     kept.push(reads)?;
     let crew = Crew {

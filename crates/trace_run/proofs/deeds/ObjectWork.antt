@@ -1,5 +1,5 @@
 -- A line on an object, with what it did beside its reply: by what the contract of its call says it came to.
-use Rattle.std.proofs.Common.{◌≡◌, ℕ, ◌+◌, true, List, [], ◌++◌, length, map, refl, sym, ap, ◌∙◌, subst}
+use Rattle.std.proofs.Common.{◌≡◌, ℕ, ◌+◌, true, List, [], ◌++◌, length, refl, sym, ap, ◌∙◌, subst}
 use Rattle.std.specs.Prelude.{IfSome, IsSome}
 use Rattle.std.proofs.lemmas.Bool.{eqb-true, false≢true}
 use Rattle.std.specs.List.{AllByRecursion}
@@ -9,7 +9,6 @@ use Rattle.vdev_io.specs.declared.pool.Pool.{Ghosts as PoolGhosts}
 use Rattle.vdev_io.specs.Calls.{KeepsPool, MakesCalls}
 use Rattle.arc_core.specs.Config.{IsConfig}
 use Rattle.arc_core.specs.declared.config.Config.{Config}
-use Rattle.arc_core.specs.declared.event.Event.{Event}
 use Rattle.arc_core.specs.Operations.{Act, actor_of}
 use Rattle.arc_table.specs.Geometry.{cell_number}
 use Rattle.arc_table.specs.Reading.{KeepsDevice, Outside}
@@ -33,7 +32,7 @@ use Rattle.trace_run.specs.DeviceReads.{AsksFor}
 use Rattle.trace_run.specs.Effects.{Effect, NoEffect, calls_of, effect_of}
 use Rattle.trace_run.specs.KeptReads.{KeptRead}
 use Rattle.trace_run.specs.Lines.{is_of_caller}
-use Rattle.trace_run.specs.ObjectLines.{Did, DidGet, DidNot, DidObjectLine, DidPatch, DidPin, DidPut, DidUnpin, DidWork, IsBrought, RefusesBlock, RefusesBytes, RefusesUnpin, ReleasesFor, SpentOn, its_number, on_object}
+use Rattle.trace_run.specs.ObjectLines.{Did, DidGet, DidNot, DidObjectLine, DidPatch, DidPin, DidPut, DidUnpin, DidWork, IsBrought, RefusesBlock, RefusesBytes, RefusesUnpin, SpentOn, its_number, on_object}
 use Rattle.trace_run.specs.ObjectReplies.{ActsFor, BringsAt, LooksFrom, RefusesAt}
 use Rattle.trace_run.specs.Objects.{Brought, IsAnswered, IsRefusedWith, Loaded, NotesNothing, NotesOwn, Nothing, Refused, Work, own_event}
 use Rattle.trace_run.proofs.deeds.ObjectReplies.{By, From, bad-key, brings-so, dbufs-so, did-work, found_outline, from-done, from-not, inside-it, made-of, no-block, past-it, same-pin, to-bring, tried}

@@ -1,24 +1,17 @@
 -- The one caller of a crew, and what its lines came to.
-use Rattle.std.proofs.Common.{◌≡◌, ℕ, suc, ◌==◌, ◌<◌, ◌+◌, Bool, true, false, List, [], ◌∷◌, ◌++◌, Option, Some, None, length, map, refl, sym, ap, ◌∙◌, subst, arith, length-append}
-use Rattle.std.specs.Prelude.{filter, slice_get}
+use Rattle.std.proofs.Common.{◌≡◌, ℕ, suc, ◌==◌, ◌+◌, true, false, List, [], ◌∷◌, ◌++◌, Option, Some, length, refl, sym, ap, ◌∙◌, subst, arith, length-append}
+use Rattle.std.specs.Prelude.{filter}
 use Rattle.std.specs.List.{AllByRecursion}
 use Rattle.std.specs.Option.{option_map_or}
 use Rattle.blk_ptr.specs.declared.ptr.Ptr.{Ptr}
-use Rattle.vdev_io.specs.declared.device.CacheDev.{Ghosts as Devices}
-use Rattle.vdev_io.specs.declared.pool.Pool.{Ghosts}
 use Rattle.arc_table.specs.Cache.{Cache}
 use Rattle.dbuf_cells.specs.Turns.{OnHeap, PartyPlace}
 use Rattle.l2_dev.proofs.ListLaws.{filter_whole}
 use Rattle.trace_text.specs.declared.op.Op.{Op}
-use Rattle.trace_text.specs.declared.reply.Reply.{Reply}
-use Rattle.trace_run.specs.declared.groups.Crew.{Crew}
 use Rattle.trace_run.specs.declared.kept_blocks.KeptBlock.{KeptBlock}
-use Rattle.trace_run.specs.KeptBlocks.{Stands, read_of}
 use Rattle.trace_run.specs.Lines.{caller_of, is_of_caller}
-use Rattle.trace_run.specs.callers.CallerLines.{at}
-use Rattle.trace_run.specs.callers.Callers.{AreAtStart, CameTo, IsAtStart}
-use Rattle.trace_run.specs.callers.WorkLines.{AnswersLines, AreLinesOf, IsWorkOf, LooksLines}
-use Rattle.trace_run.specs.one_caller.InTurn.{AreOwn, DidOwnLines}
+use Rattle.trace_run.specs.callers.Callers.{AreAtStart, IsAtStart}
+use Rattle.trace_run.specs.one_caller.InTurn.{AreOwn}
 
 -- ---- the one caller of a crew
 
@@ -54,29 +47,3 @@ all-mine (o ∷ os) own = (is-mine o (own 0 o refl), all-mine os (λ k op there.
 
 pub own-whole : (os : List Op) → AreOwn os → filter (is_of_caller 0) os ≡ os
 own-whole os own = filter_whole (is_of_caller 0) os (all-mine os own)
-
-module _ {P D : Type 0} (cache : Cache) (pools : Ghosts P) (devices : Devices D) (blocks : List Ptr) (os : List Op) (rs : List Reply) (before after : P) (was now : Option D) (own : AreOwn os)
-    (k l : List KeptBlock) (p q : PartyPlace) (start : IsAtStart cache blocks 0 k p) (stands : Stands cache q l)
-    (came : CameTo pools devices cache.config blocks (filter (is_of_caller p.number) os) rs (at p (map read_of k) before) (at q (map read_of l) after) was now) where
-  pub own-did : (old new : Crew OnHeap) → old.kept.items ≡ k ∷ [] → old.parties.items ≡ p ∷ [] → new.kept.items ≡ l ∷ [] → new.parties.items ≡ q ∷ [] → new.feeder ≡ old.feeder → DidOwnLines cache pools devices blocks os before after was now old new rs
-  own-did old new old_kept old_parties new_kept new_parties feeder = record {
-    lines = came.lines;
-    are = subst (λ (x : List Op). AreLinesOf x rs came.lines) (ap (λ (n : ℕ). filter (is_of_caller n) os) start.number ∙ own-whole os own) came.are;
-    had = k;
-    from = p;
-    kept = l;
-    to = q;
-    old_is = (old_kept, old_parties);
-    new_is = (new_kept, new_parties);
-    worked = record {
-      fits = subst (λ (m : ℕ). AllByRecursion (IsWorkOf cache.config m) came.lines) start.number came.fits;
-      waits = λ acts noted waits. record { number = came.number ∙ start.number; alone = came.joined ∙ start.alone; stands = stands; told = came.told acts noted waits.told };
-      keeps = came.kept;
-      cells = came.cells;
-      answers = λ acts noted told place. subst (λ (m : ℕ). AnswersLines cache.config (pools.size before) (pools.told before) place blocks p.own.about.openings q.own.seen m noted (map read_of k) came.lines) start.number (came.answers acts noted told place);
-      looks = λ acts noted told. subst (λ (m : ℕ). LooksLines cache.config (pools.size before) (pools.told before) p.own.about.openings p.own.seen q.own.seen m noted came.lines) start.number (came.looks acts noted told);
-      calls = came.calls;
-    };
-    asked = came.asked;
-    feeder = feeder;
-  }

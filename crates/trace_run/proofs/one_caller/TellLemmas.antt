@@ -66,12 +66,12 @@ mine-drop : (n : ℕ) (held : Option Key) → AllByRecursion (IsMine n) (events_
 mine-drop n None = tt
 mine-drop n (Some key) = ((refl, refl, refl), tt)
 
-mine-answered : (n t : ℕ) (ptr : Ptr) (from : Served) (a : Access) → AllByRecursion (IsMine n) (events_of_answered n t ptr from a)
+pub mine-answered : (n t : ℕ) (ptr : Ptr) (from : Served) (a : Access) → AllByRecursion (IsMine n) (events_of_answered n t ptr from a)
 mine-answered n t ptr from access.Hit = ((refl, refl, refl), tt)
 mine-answered n t ptr from (access.Past kept) = ((refl, refl, refl), tt)
 mine-answered n t ptr from access.Miss = ((refl, refl, refl), ((refl, refl, refl), tt))
 
-mine-refused : (n t : ℕ) (ptr : Ptr) (a : Access) → AllByRecursion (IsMine n) (events_of_refused n t ptr a)
+pub mine-refused : (n t : ℕ) (ptr : Ptr) (a : Access) → AllByRecursion (IsMine n) (events_of_refused n t ptr a)
 mine-refused n t ptr access.Hit = tt
 mine-refused n t ptr (access.Past kept) = ((refl, refl, refl), tt)
 mine-refused n t ptr access.Miss = ((refl, refl, refl), ((refl, refl, refl), tt))

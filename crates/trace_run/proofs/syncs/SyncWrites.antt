@@ -31,7 +31,7 @@ use Rattle.trace_run.proofs.syncs.SyncInserts.{HasInserted, all-inserted}
 use Rattle.trace_run.proofs.syncs.SyncSteps.{AreInHand, HasGivenCells, HasTaken, HaveNews, HaveSameHistories, all-given, all-taken, in-hand-as}
 use Rattle.trace_run.proofs.callers.MeetLemmas.{starts-then}
 
-lines-both : (xs ys : List CellEvent) → lines_of (xs ++ ys) ≡ lines_of xs ++ lines_of ys
+pub lines-both : (xs ys : List CellEvent) → lines_of (xs ++ ys) ≡ lines_of xs ++ lines_of ys
 lines-both xs ys = ap (map line.Entry) (map-append event_numbers xs ys) ∙ map-append line.Entry (map event_numbers xs) (map event_numbers ys)
 
 hand-at : (i k : ℕ) (cs : List OnHeap) (d : OnHeap) (x : PartyPlace) → AreInHand i cs x → k < length cs → front_of (i + k) x.own.seen ≡ lines_of (slice_index_or cs k d).value.history
