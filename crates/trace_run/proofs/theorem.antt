@@ -19,6 +19,7 @@ pub mod RanLemmas
 pub mod ReportLemmas
 pub mod RestLemmas
 pub mod RunEnds
+pub mod SequenceClose
 pub mod SourceLemmas
 pub mod TogetherRun
 pub mod TurnRun

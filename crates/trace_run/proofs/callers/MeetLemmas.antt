@@ -37,7 +37,7 @@ use Rattle.arc_table.proofs.SeenLemmas.{events-append, get-behind}
 use Rattle.arc_table.specs.declared.about.About.{About}
 use Rattle.trace_run.specs.declared.kept_blocks.KeptBlock.{KeptBlock}
 use Rattle.trace_run.specs.Deeds.{Noted}
-use Rattle.trace_run.specs.Meeting.{AreLast, HasLearned, HasParted, HaveMet, HasSameOwn, IsFed, IsLevel, JoinAll, Joins, MayJoin, PartAll, Waits}
+use Rattle.trace_run.specs.Meeting.{AreLast, HasLearned, HasParted, HaveMet, HasSameOwn, IsFed, IsLevel, JoinAll, Joins, MayJoin, PartAll, SeesEntries, Waits}
 use Rattle.trace_run.proofs.CellsLeft.{CellsGrow, all-entries-more, entries-more}
 use Rattle.trace_run.proofs.deeds.DeedLemmas.{others-still, told-still}
 use Rattle.trace_run.proofs.deeds.MakesLemmas.{grown-same}
@@ -257,6 +257,7 @@ module _ {C : Type 0} (m : Meanings C) (cache : Cache) (p : Place (Known C)) whe
     pub self : HasLearned gc p q
     pub all : AllByRecursion (λ o. HasLearned gc o q) others
     pub level : (lines : ℕ → List Line) → IsLevel gc lines p → AllByRecursion (IsLevel gc lines) others → IsLevel gc lines q
+    pub level_cells : (entries : ℕ → List Line) → SeesEntries gc entries p → AllByRecursion (SeesEntries gc entries) others → SeesEntries gc entries q
     pub cells : HasSeenItsEntries gc p → AllByRecursion (HasSeenItsEntries gc) others → HasSeenItsEntries gc q
     pub mine : q.own.mine ≡ p.own.mine
     -- they are parties of the cache
@@ -280,6 +281,7 @@ module _ {C : Type 0} (m : Meanings C) (cache : Cache) (p : Place (Known C)) whe
     };
     all = tt;
     level = λ lines own rest. own;
+    level_cells = λ entries own rest. own;
     cells = λ own rest. own;
     mine = refl;
     below = tt;
@@ -359,6 +361,10 @@ module _ {C : Type 0} (m : Meanings C) (cache : Cache) (p : Place (Known C)) whe
       level = λ lines own rest shard. elim (front_both (turn_of gc shard) r.own.seen o.own.seen) [
         | inl is ↦ is ∙ have.level lines own rest.1 shard
         | inr is ↦ is ∙ rest.0 shard
+      ];
+      level_cells = λ entries own rest i in_range. elim (front_both i r.own.seen o.own.seen) [
+        | inl is ↦ is ∙ have.level_cells entries own rest.1 i in_range
+        | inr is ↦ is ∙ rest.0 i in_range
       ];
       cells = λ own rest. cells-more (have.cells own rest.1) rest.0;
       mine = have.mine;
@@ -495,6 +501,11 @@ module _ {C : Type 0} (cache : Cache) (q r : Place (Known C)) (of_cells : CellsG
     (starts-then (front_of i r.own.seen) (front_of i q.own.seen) (front_of i p.own.seen) (of_cells i in_range) (self i in_range), all-go-on i in_range os learned),
     (refl, all-same i in_range os learned),
   )
+
+  -- and where r has seen just this of each cell, all have
+  pub all-level : (entries : ℕ → List Line) → SeesEntries cache.config entries r → (os : List (Place (Known C))) → AllByRecursion (λ o. HasLearned cache.config o q) os → AllByRecursion (SeesEntries cache.config entries) (map (parted_from r) os)
+  all-level entries sees [] learned = tt
+  all-level entries sees (o ∷ os) learned = ((λ i in_range. parted-front i o.own.seen r.own.seen (goes-on i in_range o learned.0) ∙ sees i in_range), all-level entries sees os learned.1)
 
 -- a party that waits still does once it has parted
 pub parted-waits : {C : Type 0} (cache : Cache) (lines : ℕ → List Line) (old new : Place (Known C)) → HasParted cache lines old new → (n : ℕ) (acts : List Act) (noted : List Noted) (kept : List KeptBlock) → Waits cache n acts noted kept old → Waits cache n acts noted kept new
