@@ -477,6 +477,10 @@ module _ (g : Config) (valid : IsConfig g) (i : ℕ) (in_range : IsCell g i) (p 
   pub cell-end : (before : List Line) × (front_of i q.own.seen ≡ before ++ end_entry p.number i)
   cell-end = (map line.Entry (map event_numbers e.before.value.history), ap (λ (x : PartyPlace). front_of i x.own.seen) t.gave ∙ back-front)
 
+  -- just that more
+  pub cell-last : front_of i q.own.seen ≡ front_of i p.own.seen ++ end_entry p.number i
+  cell-last = ap (λ (x : PartyPlace). front_of i x.own.seen) t.gave ∙ (back-front ∙ ap (λ (l : List Line). l ++ end_entry p.number i) before-front)
+
   pub cell-else : (j : ℕ) → IsCell g j → j ≢ i → front_of j q.own.seen ≡ front_of j p.own.seen
   cell-else j range differs = ap (λ (x : PartyPlace). front_of j x.own.seen) t.gave ∙ back-else j range differs
 
@@ -552,7 +556,7 @@ module _ (g : Config) (valid : IsConfig g) where
     pub are : AllByRecursion (IsCellDrop g) drops
     pub some_ended : HasEndedSome g drops p q
     pub told : (did : List Act) (had : List Noted) → HasToldOthers g did had p → HasToldOthers g (did ++ acts_of_events drops) (had ++ ends_from p.number i count) q
-    pub last : (j : ℕ) → IsCell g j → i ≤ j → j < i + count → (before : List Line) × (front_of j q.own.seen ≡ before ++ end_entry p.number j)
+    pub last : (j : ℕ) → IsCell g j → i ≤ j → j < i + count → front_of j q.own.seen ≡ front_of j p.own.seen ++ end_entry p.number j
     pub lower : (j : ℕ) → IsCell g j → j < i → front_of j q.own.seen ≡ front_of j p.own.seen
     pub kept : SeesEnds g p.own.about.openings q.own.seen p.number i count drops
     pub idle : IsUntouched g i p → HasEndedIdle g i (i + count) drops p q
@@ -629,12 +633,9 @@ module _ (g : Config) (valid : IsConfig g) where
             ))
             (rest.told (did ++ acts_of_events ends.1.drops) (had ++ now ∷ []) first);
         last = λ j range above below. dite (ℕ_discrete j i)
-            (λ is.
-            let e = cell-end g valid i here p r config sees entries all ends.1 in
-            (e.0, rest.lower j range (omega (arith, is)) ∙ (ap (λ (x : ℕ). front_of x r.own.seen) is ∙ (e.1 ∙ ap (λ (x : ℕ). e.0 ++ end_entry p.number x) (sym is)))))
+            (λ is. rest.lower j range (omega (arith, is)) ∙ subst (λ (x : ℕ). front_of x r.own.seen ≡ front_of x p.own.seen ++ end_entry p.number x) (sym is) (cell-last g valid i here p r config sees entries all ends.1))
             (λ differs.
-            let e = rest.last j range (later j i above differs) (omega (arith, below)) in
-            (e.0, e.1 ∙ ap (λ (n : ℕ). e.0 ++ end_entry n j) a.number));
+            rest.last j range (later j i above differs) (omega (arith, below)) ∙ (λ z. cell-else g valid i here p r config sees entries all ends.1 j range differs z ++ end_entry (a.number z) j));
         lower = λ j range less. rest.lower j range (omega (arith, less)) ∙ cell-else g valid i here p r config sees entries all ends.1 j range (λ is. omega (arith, is, less));
         kept =
             let e = sees-end g valid i here p r config sees entries all ends.1 in (

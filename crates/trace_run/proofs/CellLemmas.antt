@@ -318,14 +318,15 @@ module _ (cache : Cache) (ps : List PartyPlace) (e : Ended OnHeap) (ends : Ends 
         did = did;
       }
 
+-- a cell by its number
+pub get-of : (l : List OnHeap) (i : ℕ) (c : OnHeap) → slice_get l i ≡ Some c → get_elem? l i ≡ some c
+get-of [] i c at = cc
+get-of (x ∷ xs) zero c at = let is : x ≡ c = cc in ap some is
+get-of (x ∷ xs) (suc i) c at = get-of xs i c at
+
 -- all cells are, where each is
 pub all-cells-of : (trace : Trace) (noted : ℕ → List Noted) (e : Ended OnHeap) → length e.cells ≡ trace.config.cells → ((i : ℕ) (c : OnHeap) → get_elem? e.cells i ≡ some c → IsCellOf trace noted i c) → AreCellsOf trace noted e
 all-cells-of trace noted e count each = record { count = count; each = λ i c at. each i c (get-of e.cells i c at) }
-  where
-    get-of : (l : List OnHeap) (i : ℕ) (c : OnHeap) → slice_get l i ≡ Some c → get_elem? l i ≡ some c
-    get-of [] i c at = cc
-    get-of (x ∷ xs) zero c at = let is : x ≡ c = cc in ap some is
-    get-of (x ∷ xs) (suc i) c at = get-of xs i c at
 
 -- the cells of a run keep nothing
 pub all-empty : (cache : Cache) (ps : List PartyPlace) (e : Ended OnHeap) → Ends dbuf_meanings cache ps e → (trace : Trace) (noted : ℕ → List Noted) → AreCellsOf trace noted e → (j : ℕ) (c : OnHeap) → get_elem? e.cells j ≡ some c → dbuf_meanings.holds c ≡ []

@@ -174,10 +174,11 @@ module _ (cache : Cache) (p : PartyPlace) (others : List PartyPlace) (stands : S
             let r_told = ended.told did noted q_told in
             let is : noted ++ ends_from q.number 0 g.cells ≡ noted ++ ends_from p.number 0 g.cells = ap (λ (n : ℕ). noted ++ ends_from n 0 g.cells) have.number in
             subst (λ (l : List Noted). HasToldOthers g (did ++ acts_of_events ended.drops) l (left_alone r)) is record { cells = r_told.cells; kinds = r_told.kinds; entries = r_told.entries };
-        ends = λ i range. let e = ended.last i range (omega arith) (omega (arith, range)) in (e.0, e.1 ∙ ap (λ (n : ℕ). e.0 ++ end_entry n i) have.number);
+        ends = λ i range. (front_of i q.own.seen, ended.last i range (omega arith) (omega (arith, range)) ∙ ap (λ (n : ℕ). front_of i q.own.seen ++ end_entry n i) have.number);
         entries = all-entries others have.all apart;
         grows = λ i range. starts-then (front_of i r.own.seen) (front_of i q.own.seen) (front_of i p.own.seen) (then.cells i range) (have.self.cells i range);
         same = λ before own rest shard. then.shards shard ∙ ap (λ (l : List Line). events_in l ++ events_there g shard ended.drops) (have.level before own rest shard);
+        same_cells = λ sees own rest i range. ended.last i range (omega arith) (omega (arith, range)) ∙ (λ z. have.level_cells sees own rest i range z ++ end_entry (have.number z) i);
         one = λ o is seen shard. then.shards shard ∙ ap (λ (l : List Event). l ++ events_there g shard ended.drops) (one-front o is seen shard);
         idle = was-idle;
         kept = subst (λ (x : ℕ × List (List ℕ)). SeesEnds g x.1 r.own.seen x.0 0 g.cells ended.drops) (λ i. (have.number i, (ap (λ (a : About). a.openings) have.about) i)) ended.kept;

@@ -28,12 +28,12 @@ use Rattle.trace_run.specs.declared.kept_blocks.KeptBlock.{KeptBlock}
 use Rattle.trace_run.specs.Acts.{acts_of_drops}
 use Rattle.trace_run.specs.KeptBlocks.{AllQuiet, GivesAll, IsOwnedBy, Stands, holds_in, read_of, times}
 use Rattle.trace_run.specs.KeptReads.{KeptRead}
-use Rattle.trace_run.specs.Meeting.{AreLast, GaveBackJoined, HasLearned, HaveParted, IsApart, IsFed, IsLevel, JoinAll, MayJoin, PartAll, Waits}
+use Rattle.trace_run.specs.Meeting.{AreLast, GaveBackJoined, HasLearned, HaveParted, IsApart, IsFed, IsLevel, JoinAll, MayJoin, PartAll, SeesEntries, Waits}
 use Rattle.trace_run.specs.one_caller.OneCaller.{events_of_drops}
 use Rattle.trace_run.proofs.GiveLemmas.{all-alone, all-keep, all-leave, all-number, all-stand, all-told}
 use Rattle.trace_run.proofs.CellsLeft.{LeavesCells, leaves-grow}
-use Rattle.trace_run.proofs.callers.MeetLemmas.{HaveJoined, all-parted, are-last, have-joined, joined_of, left_alone, parted-then, parted_from, same-own-events, starts-events, starts-then}
-use Rattle.trace_run.proofs.one_caller.TellLemmas.{IsMine, mine-drops}
+use Rattle.trace_run.proofs.callers.MeetLemmas.{HaveJoined, all-level, all-parted, are-last, have-joined, joined_of, left_alone, parted-then, parted_from, same-own-events, starts-events, starts-then}
+use Rattle.trace_run.proofs.one_caller.TellLemmas.{IsMine, all-append, mine-drops}
 
 -- ---- numbers
 
@@ -246,6 +246,9 @@ module _ {C : Type 0} (m : Meanings C) (cache : Cache) (p : Place (Known C)) (ke
         gave = λ n acts noted waits. subst (Waits cache n (acts ++ acts_of_drops n reads) noted []) (sym parted.1) (last-waits n acts noted waits);
         fed = λ openings fed since acts noted none is. subst (IsFed cache openings fed since acts noted) (sym parted.1) (last-fed openings fed since acts noted none is);
         drops = λ before own rest shard. drops shard ∙ ap (λ (l : List Line). events_in l ++ events_of_drops p.number (holds_in gk shard reads)) (have.level before own rest shard);
+        same_cells = λ entries own rest.
+            let sees : SeesEntries gk entries r = λ i in_range. left.fronts i in_range ∙ have.level_cells entries own rest i in_range in
+            all-append (SeesEntries gk entries) xs (z ∷ []) (subst (AllByRecursion (SeesEntries gk entries)) (sym parted.0) (all-level cache q r (leaves-grow gk q r left) entries sees others have.all)) (subst (SeesEntries gk entries) (sym parted.1) sees, tt);
       }
 
   pub last-numbers : (r : Place (Known C)) → GivesAll m cache.config kept q r → (numbers : List ℕ) → numbers ≡ map (λ o. o.number) others → AreLast numbers r.joined

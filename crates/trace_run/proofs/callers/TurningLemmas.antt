@@ -15,7 +15,7 @@ use Rattle.trace_run.specs.declared.kept_blocks.KeptBlock.{KeptBlock}
 use Rattle.trace_run.specs.Acts.{acts_of_drops}
 use Rattle.trace_run.specs.KeptBlocks.{holds_in, read_of}
 use Rattle.trace_run.specs.Deeds.{KeepsCells, Noted}
-use Rattle.trace_run.specs.Meeting.{AllGave, AllKeepCells, AreWaiting, FirstGaveBack, FirstMayGoOn, GaveBackJoined, HasParted, HaveGivenBack, HaveParted, IsApart, IsFed, IsLevel, MayGoOn, Waits, drops_from}
+use Rattle.trace_run.specs.Meeting.{AllGave, AllKeepCells, AreWaiting, FirstGaveBack, FirstMayGoOn, GaveBackJoined, HasParted, HaveGivenBack, HaveParted, IsApart, IsFed, IsLevel, MayGoOn, SeesEntries, Waits, drops_from}
 use Rattle.trace_run.specs.one_caller.OneCaller.{events_of_drops}
 use Rattle.trace_run.proofs.callers.AfterEnds.{last-same}
 use Rattle.trace_run.proofs.callers.MeetLemmas.{parted-fed, parted-waits}
@@ -208,6 +208,14 @@ module _ {C : Type 0} (cache : Cache) (acts : ℕ → List Act) (noted : ℕ →
 
   -- ---- between two callers
 
+  -- where all had seen the same of each shard, this is it
+  abbrev StoodSame : (ℕ → List Event) → Type 0
+  StoodSame first = (before : ℕ → List Line) → IsLevel cache.config before old → AllByRecursion (IsLevel cache.config before) olds → (shard : ℕ) → first shard ≡ events_in (before shard)
+
+  -- where all had seen the same of each cell, these have
+  abbrev SeeSame : List (Place (Known C)) → Type 0
+  SeeSame ps = (entries : ℕ → List Line) → SeesEntries cache.config entries old → AllByRecursion (SeesEntries cache.config entries) olds → AllByRecursion (SeesEntries cache.config entries) ps
+
   -- So many callers have given back, and these are left.
   pub record Turning (all left : List (List KeptBlock)) (ps : List (Place (Known C))) : Type 0 where
     pub gone : List (List KeptBlock)
@@ -224,6 +232,8 @@ module _ {C : Type 0} (cache : Cache) (acts : ℕ → List Act) (noted : ℕ →
     pub lines : ℕ → List Line
     pub level : AllByRecursion (IsLevel cache.config lines) ps
     pub drops : (shard : ℕ) → events_in (lines shard) ≡ first shard ++ drops_from cache.config shard 0 gone
+    pub same : StoodSame first
+    pub same_cells : SeeSame ps
 
   pub turning-some : (all left : List (List KeptBlock)) (ps : List (Place (Known C))) → Turning all left ps → 0 < length ps
   turning-some all left ps t = let long = ap length t.are ∙ length-append t.waiting (t.feeder ∷ t.done) in omega arith
@@ -283,6 +293,8 @@ module _ {C : Type 0} (cache : Cache) (acts : ℕ → List Act) (noted : ℕ →
       lines = b.lines;
       level = subst (AllByRecursion (IsLevel cache.config b.lines)) (sym b.are) (all-append (IsLevel cache.config b.lines) b.rest (b.last ∷ []) (parted-level b.lines olds b.rest b.parted) (b.level, tt));
       drops = λ shard. sym (append-nil (events_in (b.lines shard)));
+      same = λ before own rest shard. b.drops before own rest shard ∙ append-nil (events_in (before shard));
+      same_cells = b.same_cells;
     }
 
     -- the first that is left may give back
@@ -319,8 +331,8 @@ module _ {C : Type 0} (cache : Cache) (acts : ℕ → List Act) (noted : ℕ →
       next-then : (gone : List (List KeptBlock)) (p : Place (Known C)) (waiting : List (Place (Known C))) (feeder : Place (Known C)) (done news : List (Place (Known C))) (first : ℕ → List Event) (lines : ℕ → List Line)
           → all ≡ gone ++ k ∷ ks → Waits cache (length gone) (acts (length gone)) (noted (length gone)) k p → AreWaiting cache acts noted (suc (length gone)) ks waiting → IsFed cache openings feeds since inserted synced feeder → AllGave cache acts noted 0 gone done
           → IsLevel cache.config lines p → AllByRecursion (IsLevel cache.config lines) (waiting ++ feeder ∷ done) → ((shard : ℕ) → events_in (lines shard) ≡ first shard ++ drops_from cache.config shard 0 gone)
-          → Keeping cache.config olds old (p ∷ waiting) feeder done → GaveBackJoined cache p k (waiting ++ feeder ∷ done) news → Turning all ks news
-      next-then gone p waiting feeder done news first lines is one waits fed gave own_level level drops keeps b =
+          → StoodSame first → SeeSame (p ∷ waiting ++ feeder ∷ done) → Keeping cache.config olds old (p ∷ waiting) feeder done → GaveBackJoined cache p k (waiting ++ feeder ∷ done) news → Turning all ks news
+      next-then gone p waiting feeder done news first lines is one waits fed gave own_level level drops same sees keeps b =
           let h = parted-split b.lines waiting feeder done b.rest b.parted in
           let number : ℕ = length gone in
           record {
@@ -343,15 +355,17 @@ module _ {C : Type 0} (cache : Cache) (acts : ℕ → List Act) (noted : ℕ →
                 b.drops lines own_level level shard
                 ∙ ((λ i. drops shard i ++ events_of_drops (one.number i) (holds_in cache.config shard (map read_of k)))
                 ∙ (append_assoc (first shard) (drops_from cache.config shard 0 gone) mine ∙ ap (λ (l : List Event). first shard ++ l) (sym (drops-last cache.config shard 0 number gone k (omega arith)))));
+            same = same;
+            same_cells = λ entries own rest. let each = sees entries own rest in b.same_cells entries each.0 each.1;
           }
 
       pub turned : (ps news : List (Place (Known C))) → Turning all (k ∷ ks) ps → FirstGaveBack cache k ps news → Turning all ks news
-      turned ps news t gave = go t.waiting t.waits t.keeps (subst (AllByRecursion (IsLevel cache.config t.lines)) t.are t.level) (subst (λ (l : List (Place (Known C))). FirstGaveBack cache k l news) t.are gave)
+      turned ps news t gave = go t.waiting t.waits t.keeps (subst (AllByRecursion (IsLevel cache.config t.lines)) t.are t.level) (subst SeeSame t.are t.same_cells) (subst (λ (l : List (Place (Known C))). FirstGaveBack cache k l news) t.are gave)
         where
-          go : (waiting : List (Place (Known C))) → AreWaiting cache acts noted (length t.gone) (k ∷ ks) waiting → Keeping cache.config olds old waiting t.feeder t.done → AllByRecursion (IsLevel cache.config t.lines) (waiting ++ t.feeder ∷ t.done)
+          go : (waiting : List (Place (Known C))) → AreWaiting cache acts noted (length t.gone) (k ∷ ks) waiting → Keeping cache.config olds old waiting t.feeder t.done → AllByRecursion (IsLevel cache.config t.lines) (waiting ++ t.feeder ∷ t.done) → SeeSame (waiting ++ t.feeder ∷ t.done)
               → FirstGaveBack cache k (waiting ++ t.feeder ∷ t.done) news → Turning all ks news
-          go [] waits keeps level gave = absurd waits
-          go (p ∷ waiting) waits keeps level gave = next-then t.gone p waiting t.feeder t.done news t.first t.lines t.parts waits.0 waits.1 t.fed t.gave level.0 level.1 t.drops keeps gave
+          go [] waits keeps level sees gave = absurd waits
+          go (p ∷ waiting) waits keeps level sees gave = next-then t.gone p waiting t.feeder t.done news t.first t.lines t.parts waits.0 waits.1 t.fed t.gave level.0 level.1 t.drops t.same sees keeps gave
 
   -- the feeder's party goes behind the callers'
   pub turned-all : (all : List (List KeptBlock)) (ps rest news : List (Place (Known C))) (feeder : Place (Known C)) → Turning all [] ps → feeder ≡ get_or ps 0 feeder → rest ≡ remove ps 0 → news ≡ rest ++ feeder ∷ []
@@ -382,4 +396,8 @@ module _ {C : Type 0} (cache : Cache) (acts : ℕ → List Act) (noted : ℕ →
             lines = t.lines;
             level = subst (AllByRecursion (IsLevel cache.config t.lines)) (sym n) (all-append (IsLevel cache.config t.lines) t.done (t.feeder ∷ []) level.1 (level.0, tt));
             drops = λ shard. t.drops shard ∙ ap (λ (l : List (List KeptBlock)). t.first shard ++ drops_from cache.config shard 0 l) whole;
+            same = t.same;
+            same_cells = λ entries own others.
+                let each = subst (AllByRecursion (SeesEntries cache.config entries)) is (t.same_cells entries own others) in
+                subst (AllByRecursion (SeesEntries cache.config entries)) (sym n) (all-append (SeesEntries cache.config entries) t.done (t.feeder ∷ []) each.1 (each.0, tt));
           }

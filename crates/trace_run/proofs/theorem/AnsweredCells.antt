@@ -58,7 +58,7 @@ slice-of (x ∷ xs) zero c at = ap (λ (y : OnHeap). Some y) (some-injective x c
 slice-of (x ∷ xs) (suc i) c at = slice-of xs i c at
 
 -- entries of two lists of events
-entries-two : (a b : List CellEvent) → map line.Entry (map event_numbers (a ++ b)) ≡ map line.Entry (map event_numbers a) ++ map line.Entry (map event_numbers b)
+pub entries-two : (a b : List CellEvent) → map line.Entry (map event_numbers (a ++ b)) ≡ map line.Entry (map event_numbers a) ++ map line.Entry (map event_numbers b)
 entries-two a b = ap (map line.Entry) (map-append event_numbers a b) ∙ map-append line.Entry (map event_numbers a) (map event_numbers b)
 
 -- a front of entries is the entries of as many events

@@ -257,10 +257,16 @@ module _ (cache : Cache) (olds news : List PartyPlace) (c : EndedCrew cache olds
   crew-cells = cells-of-run cache news e ends trace config noted g.callers z.own last-shown knows g.callers z.own last-shown c.ended.stands.of.config
       (λ i range. let h = c.ended.ends i range in (h.0, h.1 ∙ ap (λ (n : ℕ). h.0 ++ end_entry n i) feeder-number)) each
 
+  -- the feeder's party has seen all that was done to them
+  all-whole : (k : ℕ) (x : OnHeap) → get_elem? e.cells k ≡ some x → IsSeenWhole (openings_of trace) z.own.seen k x
+  all-whole k x at = seen-whole cache news e ends trace config noted g.callers z.own last-shown knows g.callers z.own last-shown c.ended.stands.of.config
+      (λ i range. let h = c.ended.ends i range in (h.0, h.1 ∙ ap (λ (n : ℕ). h.0 ++ end_entry n i) feeder-number)) each k x at
+
+  pub crew-seen : (k : ℕ) (x : OnHeap) → get_elem? e.cells k ≡ some x → map line.Entry (map event_numbers x.value.history) ≡ front_of k z.own.seen
+  crew-seen k x at = (all-whole k x at).entries
+
   -- what the cells still kept was given back
   pub crew-kept : AreEndedSo g 0 e.cells c.ended.drops
   crew-kept = ended-so (openings_of trace) z.own.seen g 0 e.cells c.ended.drops
-      (λ k x at. subst (λ (n : ℕ). IsSeenWhole (openings_of trace) z.own.seen n x) (let same : k ≡ 0 + k = omega arith in same)
-      (seen-whole cache news e ends trace config noted g.callers z.own last-shown knows g.callers z.own last-shown c.ended.stands.of.config
-      (λ i range. let h = c.ended.ends i range in (h.0, h.1 ∙ ap (λ (n : ℕ). h.0 ++ end_entry n i) feeder-number)) each k x at))
+      (λ k x at. subst (λ (n : ℕ). IsSeenWhole (openings_of trace) z.own.seen n x) (let same : k ≡ 0 + k = omega arith in same) (all-whole k x at))
       (subst (λ (x : List (List ℕ) × ℕ × ℕ). SeesEnds g x.0 z.own.seen x.1 0 x.2 c.ended.drops) (λ i. ((ap (λ (a : About). a.openings) (sym c.ended.about) ∙ knows) i, feeder-number i, sym ends.cells i)) c.ended.kept)

@@ -18,6 +18,7 @@ use Rattle.arc_core.specs.Operations.{Act, Fails, GivesBack, Keeps, Loads, Makes
 use Rattle.arc_core.specs.ShardLog.{ShardLog}
 use Rattle.arc_table.specs.declared.about.About.{About}
 use Rattle.arc_table.specs.declared.view.Known.{Known}
+use Rattle.arc_table.specs.declared.view.Line.{Line as Seen}
 use Rattle.arc_table.specs.declared.view.Line.TheVariants as line
 use Rattle.arc_table.specs.Ended.{Ended}
 use Rattle.arc_table.specs.Cache.{Cache}
@@ -36,7 +37,7 @@ use Rattle.trace_run.specs.declared.groups.Crew.{Crew}
 use Rattle.trace_run.specs.declared.kept_blocks.KeptBlock.{KeptBlock}
 use Rattle.trace_run.specs.Acts.{acts_of_drops}
 use Rattle.trace_run.specs.Answers.{AnswersAll, is_pool_fault}
-use Rattle.trace_run.specs.CellEnds.{AreCellsOf, AreEndedSo, EndedCrew, IsCellDrop, ends_from}
+use Rattle.trace_run.specs.CellEnds.{AreCellsOf, AreEndedSo, EndedCrew, IsCellDrop, end_entry, ends_from}
 use Rattle.trace_run.specs.Deeds.{HasToldAll, HasToldOthers, KeepsCells, Noted, acts_of_events, events_of_cell, events_there, lines_of_cell}
 use Rattle.trace_run.specs.Explaining.{BeginsWith, EndsWith, Explain, drops_at_end}
 use Rattle.trace_run.specs.FeedEvents.{events_of_line, events_of_lines, feeds_behind}
@@ -45,7 +46,7 @@ use Rattle.trace_run.specs.KeptBlocks.{Stands, holds_in, read_of}
 use Rattle.trace_run.specs.KeptReads.{KeptRead}
 use Rattle.trace_run.specs.Lines.{caller_of, is_of_caller, replies_where}
 use Rattle.trace_run.specs.ObjectAnswers.{AreAnsweredByCells}
-use Rattle.trace_run.specs.Meeting.{AllKeepCells, HasSettled, HaveGivenBack, HaveParted, IsLevel, Waits, drops_from}
+use Rattle.trace_run.specs.Meeting.{AllKeepCells, HasSettled, HaveGivenBack, HaveParted, IsLevel, SeesEntries, Waits, drops_from}
 use Rattle.trace_run.specs.callers.Looking.{HaveLooked}
 use Rattle.trace_run.specs.Objects.{Line}
 use Rattle.trace_run.specs.one_caller.Alone.{ends_in, histories_of}
@@ -58,14 +59,14 @@ use Rattle.trace_run.specs.callers.Groups.{HaveCome}
 use Rattle.trace_run.specs.Syncing.{inserts_noted}
 use Rattle.trace_run.specs.callers.Together.{AreCut, IsCut, IsCutLast, events_at_end, over_callers, reads_of_caller}
 use Rattle.trace_run.specs.callers.WorkLines.{AnswersLines, AreLinesOf, calls_of_lines, noted_of_work}
-use Rattle.trace_run.proofs.CellLemmas.{all-empty}
+use Rattle.trace_run.proofs.CellLemmas.{all-empty, get-of}
 use Rattle.trace_run.proofs.callers.AfterEnds.{crew-long, last-same, same-long}
 use Rattle.trace_run.proofs.callers.CallerActLemmas.{caller-is}
 use Rattle.trace_run.proofs.callers.GroupCounts.{IsLineAct, acts-counted, reads_of_act}
 use Rattle.trace_run.proofs.callers.GroupRunLemmas.{come-wait, gave-at, gone-long, gone-stopped, lines-acts, lines-noted}
 use Rattle.trace_run.proofs.callers.MeetLemmas.{all-before, starts-then}
 use Rattle.trace_run.proofs.one_caller.TellLemmas.{all-map}
-use Rattle.trace_run.proofs.theorem.CellRun.{crew-cells, crew-kept}
+use Rattle.trace_run.proofs.theorem.CellRun.{crew-cells, crew-kept, crew-seen}
 use Rattle.trace_run.proofs.theorem.CrewEnds.{crew-ended, crew-level}
 use Rattle.trace_run.proofs.theorem.LineActs.{Own, caller-own, own-fits}
 use Rattle.trace_run.proofs.theorem.AnsweredCells.{EndsFrom, all-by-cells, goes-on, slice-of}
@@ -297,6 +298,12 @@ module _ (cache : Cache) (valid : IsConfig cache.config) (restored : List Restor
   history-is : (i : ℕ) (l : ShardLog) → get_elem? closed.shards i ≡ some l → l.history ≡ fronts i
   history-is i l at = work-level dbuf_meanings cache restored blocks (os ++ more) ended-work rs h.closing closed h.ends count ended fronts all-level i l at
 
+  -- where all parties had seen the same between the groups, behind it stand the drops, and nothing else
+  pub run-shards : (before : ℕ → List Seen) → IsLevel g before crew.feeder → AllByRecursion (IsLevel g before) crew.parties.items → (i : ℕ) (l : ShardLog) → get_elem? closed.shards i ≡ some l
+      → l.history ≡ (events_in (before i) ++ drops_from g i 0 crew.kept.items) ++ events_there g i h.ended.ended.drops
+  run-shards before own rest i l at = history-is i l at
+      ∙ ap (λ (es : List Event). es ++ events_there g i c.ended.drops) (gave.drops i ∙ ap (λ (es : List Event). es ++ drops_from g i 0 crew.kept.items) (gave.same before own rest i))
+
   -- what the feeder had seen between the groups begins it
   pub since : (i : ℕ) (l : ShardLog) → get_elem? closed.shards i ≡ some l → StartsWith l.history (seen_of g i crew.feeder)
   since i l at =
@@ -345,6 +352,16 @@ module _ (cache : Cache) (valid : IsConfig cache.config) (restored : List Restor
     pub run-kept : AreEndedSo g 0 closed.cells ended-work.ended
     run-kept = crew-kept cache h.parties h.closing c stopped closed h.ends trace config noted knows-last many (λ n o at i range. (caller-tells n o at).entries i range)
         (acts_of_syncs g blocks work) (noted_of_syncs work) (subst (HasToldOthers g (acts_of_syncs g blocks work) (noted_of_syncs work)) (sym same-parties.1) gave.fed.told) feeder-noted
+
+    -- where all parties had seen the same of cells between the groups, behind it stand their ends, and nothing else
+    pub run-entries : (entries : ℕ → List Seen) → SeesEntries g entries crew.feeder → AllByRecursion (SeesEntries g entries) crew.parties.items → (i : ℕ) (x : OnHeap) → get_elem? closed.cells i ≡ some x
+        → map line.Entry (map event_numbers x.value.history) ≡ entries i ++ end_entry g.callers i
+    run-entries entries own rest i x at =
+        let all = all-before (SeesEntries g entries) c.callers c.feeder (subst (AllByRecursion (SeesEntries g entries)) c.are (gave.same_cells entries own rest)) in
+        let range : IsCell g i = subst (λ (k : ℕ). i < k) h.ends.cells (within closed.cells i x at) in
+        crew-seen cache h.parties h.closing c stopped closed h.ends trace config noted knows-last many (λ n o at i range. (caller-tells n o at).entries i range)
+        (acts_of_syncs g blocks work) (noted_of_syncs work) (subst (HasToldOthers g (acts_of_syncs g blocks work) (noted_of_syncs work)) (sym same-parties.1) gave.fed.told) feeder-noted i x at
+        ∙ (c.ended.same_cells entries all.1 all.0 i range ∙ ap (λ (n : ℕ). entries i ++ end_entry n i) (ap (λ (p : PartyPlace). p.number) same-parties.1 ∙ same-feeder-number))
 
     emptied : (j : ℕ) (x : OnHeap) → get_elem? closed.cells j ≡ some x → dbuf_meanings.holds x ≡ []
     emptied = all-empty cache h.closing closed h.ends trace noted run-cells
@@ -448,8 +465,3 @@ module _ (cache : Cache) (valid : IsConfig cache.config) (restored : List Restor
     where
       many-parted : length c.parted ≡ g.callers
       many-parted = same-long cache c.ended.lines c.callers c.parted c.ended.parted ∙ many
-
-      get-of : (l : List OnHeap) (i : ℕ) (x : OnHeap) → slice_get l i ≡ Some x → get_elem? l i ≡ some x
-      get-of [] i x at = cc
-      get-of (y ∷ ys) zero x at = let is : y ≡ x = cc in ap some is
-      get-of (y ∷ ys) (suc i) x at = get-of ys i x at
