@@ -37,7 +37,7 @@ use Rattle.arc_table.proofs.SeenLemmas.{events-append, get-behind}
 use Rattle.arc_table.specs.declared.about.About.{About}
 use Rattle.trace_run.specs.declared.kept_blocks.KeptBlock.{KeptBlock}
 use Rattle.trace_run.specs.Deeds.{Noted}
-use Rattle.trace_run.specs.Meeting.{AreLast, HasLearned, HasParted, HaveMet, HasSameOwn, IsFed, IsLevel, JoinAll, Joins, MayJoin, PartAll, SeesEntries, Waits}
+use Rattle.trace_run.specs.Meeting.{AreLast, HasLearned, HasParted, HaveMet, HaveParted, HasSameOwn, IsFed, IsLevel, JoinAll, Joins, MayJoin, PartAll, SeesEntries, Waits}
 use Rattle.trace_run.proofs.CellsLeft.{CellsGrow, all-entries-more, entries-more}
 use Rattle.trace_run.proofs.deeds.DeedLemmas.{others-still, told-still}
 use Rattle.trace_run.proofs.deeds.MakesLemmas.{grown-same}
@@ -478,6 +478,12 @@ module _ {C : Type 0} (cache : Cache) (q r o : Place (Known C)) (learned : HasLe
     only = λ only. record { events = own-seen-more cache.config o.number o.own.mine o.own.seen parting.own.seen x-starts only.events; entries = only.entries };
     same = λ kept stands. grown-same cache.config o parting refl refl refl x-starts x-cells stands.seen stands.cells;
   }
+
+pub parted-level : {C : Type 0} (cache : Cache) (lines : ℕ → List Line) (os xs : List (Place (Known C))) → HaveParted cache lines os xs → AllByRecursion (IsLevel cache.config lines) xs
+parted-level cache lines [] [] parted = tt
+parted-level cache lines [] (x ∷ xs) parted = absurd parted
+parted-level cache lines (o ∷ os) [] parted = absurd parted
+parted-level cache lines (o ∷ os) (x ∷ xs) parted = (parted.0.level, parted-level cache lines os xs parted.1)
 
 -- ---- what all have seen of cells, once they have parted from r
 
