@@ -15,17 +15,11 @@ use Rattle.trace_run.specs.declared.groups.Crew.{Crew}
 use Rattle.trace_run.specs.declared.kept_blocks.KeptBlock.{KeptBlock}
 use Rattle.trace_run.specs.KeptBlocks.{read_of}
 use Rattle.trace_run.specs.KeptReads.{KeptRead}
-use Rattle.trace_run.specs.Meeting.{HaveParted, IsLevel, MadeJoined, SeesEntries}
+use Rattle.trace_run.specs.Meeting.{MadeJoined, SeesEntries}
 use Rattle.trace_run.specs.Syncing.{lines_of}
 use Rattle.trace_run.specs.one_caller.InTurn.{StandAt}
 use Rattle.trace_run.specs.one_caller.Sequence.{Sequence}
-
--- parties that parted have all seen the same
-pub parted-level : {C : Type 0} (cache : Cache) (lines : ℕ → List Line) (os xs : List (Place (Known C))) → HaveParted cache lines os xs → AllByRecursion (IsLevel cache.config lines) xs
-parted-level cache lines [] [] parted = tt
-parted-level cache lines [] (x ∷ xs) parted = absurd parted
-parted-level cache lines (o ∷ os) [] parted = absurd parted
-parted-level cache lines (o ∷ os) (x ∷ xs) parted = (parted.0.level, parted-level cache lines os xs parted.1)
+use Rattle.trace_run.proofs.callers.MeetLemmas.{parted-level}
 
 -- the same of each cell, where it is told in other words
 see-so : {C : Type 0} (g : Config) (was now : ℕ → List Line) → ((i : ℕ) → IsCell g i → now i ≡ was i) → (xs : List (Place (Known C))) → AllByRecursion (SeesEntries g was) xs → AllByRecursion (SeesEntries g now) xs
