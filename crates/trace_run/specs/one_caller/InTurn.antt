@@ -151,7 +151,7 @@ pub record RunsInTurn {P D : Type 0} (pool : Ghosts P) (device : Devices D) (bef
   pub lines : AreInSequence pool device trace work.lines work.feeds (begins_so trace.config (found_keys report.rebuilt) (between_groups before 1 place) lent) reached
   pub last_line : Sequence P D
   pub ended : EndsThere pool device trace report.replies work.stopped ending reached after last_line
-  pub back : last_line.device ≡ back
+  pub handed_back : last_line.device ≡ back
   pub closes : ClosesThere trace last_line work.ended closed report.histories
   pub unfed : work.feeds ≡ [] → IsHandedBack device lent back
   -- the caller's reads of the pool are those that its events stand for
