@@ -27,14 +27,14 @@ use Rattle.trace_text.specs.declared.op.Op.{Op}
 use Rattle.trace_text.specs.declared.reply.Reply.{Reply}
 use Rattle.trace_text.specs.declared.reply.Reply.TheVariants as replies
 use Rattle.trace_text.specs.declared.trace.Trace.{Trace}
-use Rattle.trace_run.specs.Deeds.{HasAct, act_of_event, acts_of_events, events_there}
+use Rattle.trace_run.specs.Deeds.{HasAct, act_of_event, acts_of_events}
 use Rattle.trace_run.specs.KeptReads.{KeptRead}
 use Rattle.trace_run.specs.Lines.{is_in_shard, is_of_caller}
 use Rattle.trace_run.specs.ObjectLines.{OnObject, brought_there, events_of_bringing, events_of_hand, on_object}
 use Rattle.trace_run.specs.Objects.{Brought, Line, Loaded, Nothing, OwnEvent, Refused, Work, own_event}
 use Rattle.trace_run.specs.Openings.{openings_of}
-use Rattle.trace_run.specs.one_caller.Access.{access_of, events_of_answered, events_of_refused, held_by_access}
-use Rattle.trace_run.specs.one_caller.OneCaller.{events_of, events_there as line_events}
+use Rattle.trace_run.specs.one_caller.Access.{access_of, events_of_answered, held_by_access}
+use Rattle.trace_run.specs.one_caller.OneCaller.{events_there as line_events}
 use Rattle.trace_run.specs.Reads.{now_of}
 use Rattle.trace_run.specs.callers.Callers.{CameTo}
 use Rattle.trace_run.specs.callers.WorkLines.{AtWork, DidAll, DidAlone, DidLineBy, DidOps, NotesFor, NotesLine}
@@ -44,7 +44,7 @@ use Rattle.trace_run.proofs.DeviceReadLemmas.{none-came}
 use Rattle.trace_run.proofs.WorkLemmas.{AreHis, all-asked, by-number, came-with, his-lines, plainly}
 use Rattle.trace_run.proofs.callers.CallerActLemmas.{caller-is, own-lines}
 use Rattle.trace_run.proofs.one_caller.SequenceLines.{lines-over, lines-without}
-use Rattle.trace_run.proofs.one_caller.TellLemmas.{IsMine, all-append, all-map, mine-answered, mine-of, mine-refused}
+use Rattle.trace_run.proofs.one_caller.TellLemmas.{IsMine, all-append, mine-answered, mine-of, mine-refused}
 
 -- ---- whose the events of a line are
 

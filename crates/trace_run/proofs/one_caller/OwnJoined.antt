@@ -136,12 +136,6 @@ module _ (cache : Cache) (one : cache.config.callers ≡ 1) (rows : cache.row.pa
       kept-joined : r.joined ≡ joined_of (o ∷ [])
       kept-joined = gone.came.joined ∙ have.joined
 
-      pub part-row : IsPartyOf cache r
-      part-row = stands.of
-
-      pub part-free : r.held ≡ []
-      part-free = stands.free
-
       pub part-last : IsLast 1 r.joined
       part-last = subst (IsLast 1) (sym kept-joined) o-number
 
@@ -186,9 +180,9 @@ module _ (cache : Cache) (one : cache.config.callers ≡ 1) (rows : cache.row.pa
           record {
             shards = λ shard. ap events_in (have.level stand.lines level.1.0 (level.0, tt) shard) ∙ stand.events shard;
             cells = have.level_cells (λ i. lines_of (s.cells i)) entries.1.0 (entries.0, tt);
-            kept_is = sym (subst (AllByRecursion (λ (reads : List KeptBlock). map read_of reads ≡ s.kept)) kept stand.kept).0;
-            pool_is = pool;
-            device_is = device;
+            kept = sym (subst (AllByRecursion (λ (reads : List KeptBlock). map read_of reads ≡ s.kept)) kept stand.kept).0;
+            pool = pool;
+            device = device;
           }
 
       -- and behind the lines all stand where these led
@@ -202,7 +196,7 @@ module _ (cache : Cache) (one : cache.config.callers ≡ 1) (rows : cache.row.pa
               parted-front i o.own.seen r.own.seen (starts-then (front_of i r.own.seen) (front_of i q.own.seen) (front_of i o.own.seen) (gone.came.cells.fronts i in_range) (have.all.0.cells i in_range)) ∙ there.cells i in_range),
           (there.cells, tt),
         );
-        kept = subst (AllByRecursion (λ (reads : List KeptBlock). map read_of reads ≡ s.kept)) (sym kept) (sym there.kept_is, tt);
+        kept = subst (AllByRecursion (λ (reads : List KeptBlock). map read_of reads ≡ s.kept)) (sym kept) (sym there.kept, tt);
       }
 
       own-goes : (old new : Crew OnHeap) → old.feeder ≡ o → old.parties.items ≡ p ∷ [] → old.kept.items ≡ had ∷ [] → new.feeder ≡ parted_from r o → new.parties.items ≡ left_alone r ∷ [] → new.kept.items ≡ l ∷ []
@@ -214,10 +208,10 @@ module _ (cache : Cache) (one : cache.config.callers ≡ 1) (rows : cache.row.pa
           gone.gone met-all met-number trace of.config declared (ap (λ (a : About). a.openings) have.about ∙ knows.1.0) s
           (met-there old old_feeder old_parties old_kept s (subst (λ (c : Config). StandAt c s old) (sym of.config) stand) (ap (λ (b : BetweenGroups P). b.pool) pool) device) in (
             h.next,
-            (λ i. record { pool = h.there.pool_is i; group = (h.group ∙ ap (λ (b : BetweenGroups P). b.group) pool) i; next = (h.next_group ∙ ap (λ (b : BetweenGroups P). b.next) pool) i }),
-            h.there.device_is,
+            (λ i. record { pool = h.there.pool i; group = (h.group ∙ ap (λ (b : BetweenGroups P). b.group) pool) i; next = (h.next_group ∙ ap (λ (b : BetweenGroups P). b.next) pool) i }),
+            h.there.device,
             subst (λ (c : Config). StandAt c h.next new) of.config (last-stand new new_feeder new_parties new_kept h.next h.there),
-            h.in_sequence,
+            h.lines,
           )
 
       own-came : (old new : Crew OnHeap) → old.feeder ≡ o → old.parties.items ≡ p ∷ [] → old.kept.items ≡ had ∷ [] → new.feeder ≡ parted_from r o → new.parties.items ≡ left_alone r ∷ [] → new.kept.items ≡ l ∷ []

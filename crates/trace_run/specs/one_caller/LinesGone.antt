@@ -22,21 +22,21 @@ use Rattle.trace_run.specs.callers.Callers.{CameTo}
 use Rattle.trace_run.specs.one_caller.Sequence.{AreInSequence, Sequence}
 
 -- The sequence stands where a party is between its lines: it has seen of each shard and of each cell just what the sequence has.
-pub record IsThere {P D : Type 0} (g : Config) (at : Sequence P D) (p : PartyPlace) (kept : List KeptRead) (pool : P) (device : Option D) : Type 0 where
+pub record IsThere {P D : Type 0} (g : Config) (at : Sequence P D) (p : PartyPlace) (reads : List KeptRead) (now : P) (dev : Option D) : Type 0 where
   pub shards : (shard : ℕ) → seen_of g shard p ≡ at.shards shard
   pub cells : (i : ℕ) → IsCell g i → front_of i p.own.seen ≡ lines_of (at.cells i)
-  pub kept_is : at.kept ≡ kept
-  pub pool_is : at.pool.pool ≡ pool
-  pub device_is : at.device ≡ device
+  pub kept : at.kept ≡ reads
+  pub pool : at.pool.pool ≡ now
+  pub device : at.device ≡ dev
 
 -- These lines lead in sequence from there to where the party is then, which has every number still.
-pub record Gone {P D : Type 0} (pools : Ghosts P) (devices : Devices D) (trace : Trace) (g : Config) (lines : List Line) (at : Sequence P D) (p : PartyPlace) (kept : List KeptRead) (pool : P) (device : Option D) : Type 0 where
+pub record Gone {P D : Type 0} (pools : Ghosts P) (devices : Devices D) (trace : Trace) (g : Config) (ls : List Line) (at : Sequence P D) (p : PartyPlace) (reads : List KeptRead) (now : P) (dev : Option D) : Type 0 where
   pub next : Sequence P D
-  pub there : IsThere g next p kept pool device
+  pub there : IsThere g next p reads now dev
   pub group : next.pool.group ≡ at.pool.group
   pub next_group : next.pool.next ≡ at.pool.next
   pub all : HasAll p
-  pub in_sequence : AreInSequence pools devices trace lines [] at next
+  pub lines : AreInSequence pools devices trace ls [] at next
 
 -- What operations came to, which are all of the one caller. Where its party has every number, they led in sequence on from where it stood, and no event that was made has another party's number.
 pub record CameAlone {P D : Type 0} (pools : Ghosts P) (devices : Devices D) (g : Config) (blocks : List Ptr) (ops_done : List Op) (replied : List Reply) (old new : At OnHeap P) (was now : Option D) : Type 0 where

@@ -1,9 +1,9 @@
-use Rattle.std.proofs.Common.{◌≡◌, [], ◌∷◌, ◌++◌, List, length, sym, ap, ◌∙◌, arith, refl}
+use Rattle.std.proofs.Common.{◌≡◌, [], ◌∷◌, ◌++◌, List, length, ap, ◌∙◌, arith, refl}
 use Rattle.dbuf_cells.specs.Turns.{PartyPlace}
 use Rattle.trace_run.specs.declared.kept_blocks.KeptBlock.{KeptBlock}
 use Rattle.trace_run.specs.Devices.{lent_in}
 use Rattle.trace_run.proofs.one_caller.OwnLines.{one-starts}
-use Rattle.trace_run.proofs.one_caller.OwnJoined.{meet-free, meet-row, met-stands, own-did, part-free, part-last, part-row}
+use Rattle.trace_run.proofs.one_caller.OwnJoined.{meet-free, meet-row, met-stands, own-did, part-last}
 use Rattle.trace_run.proofs.in_turn.own_lines.Goals as goal
 
 pub join-requires-clause-row : goal.join-requires-clause-row
