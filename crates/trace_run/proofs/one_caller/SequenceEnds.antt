@@ -148,7 +148,7 @@ module _ {P D : Type 0} (trace : Trace) (cache : Cache) (config : cache.config �
 
     takes : TakesCells trace at.cells work these.cells xs
     takes = record {
-      many = λ i in_range. cell-there i (subst (λ (h : Config). IsCell h i) (sym config) in_range);
+      many = j.count ∙ ap (λ (h : Config). h.cells) config;
       limit = λ i c is. (began i c is).0;
       opening = λ i c is. (began i c is).1;
       sound = j.sound;
