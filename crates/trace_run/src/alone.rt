@@ -160,7 +160,8 @@ fn other_line(
             let party = resize_alone(alloc, rt, arcs, party, c)?;
             Ok((party, Reply::Capped { c }))
         }
-        Op::Read { .. } | Op::Hold { .. } | Op::Drop { .. } | Op::Feed | Op::Txg { .. } => unreachable!(),
+        Op::Read { .. } | Op::Hold { .. } | Op::Drop { .. } | Op::Feed | Op::Txg { .. } =>
+            unreachable!(),
         Op::Get { .. } | Op::Put { .. } | Op::Patch { .. } | Op::Pin { .. } | Op::Unpin { .. } => {
             unreachable!()
         }

@@ -30,7 +30,8 @@ use Rattle.trace_run.specs.callers.Together.{GroupLines, ends_group, groups_begu
 use Rattle.trace_run.proofs.DeviceLemmas.{lent-same, lent-then}
 use Rattle.trace_run.proofs.callers.BesideLemmas.{none-found}
 use Rattle.trace_run.proofs.feeds.FeedLemmas.{answered-then, none-answered}
-use Rattle.trace_run.proofs.theorem.WorkLemmas.{first-done, no-feed}
+use Rattle.trace_run.proofs.FurtherLemmas.{first-done}
+use Rattle.trace_run.proofs.theorem.WorkLemmas.{no-feed}
 
 -- ---- the lines among others
 

@@ -122,7 +122,7 @@ line-requires-clause-sized g c = λ _ _.
 -- ---- a line that is no caller's is a capacity
 
 pub other_line-requires-clause-nobody : goal.other_line-requires-clause-nobody
-other_line-requires-clause-nobody g c = λ _ _.
+other_line-requires-clause-nobody g c =
     let op = c.index-ops-number.result in
     let here : slice_get c.args.trace.now.ops c.loop-number.number ≡ Some op =
     ap (λ (l : List Op). slice_get l c.loop-number.number) (sym c.as_slice-ops.ensures) ∙ slice_get_read _ _ _ _ refl c.loop-number-test.true c.index-ops-number.is in
@@ -130,7 +130,7 @@ other_line-requires-clause-nobody g c = λ _ _.
     nobody-else (caller_of op) (λ n of. subst (λ (k : ℕ). n < k) c.requires.one (all-callers c.args.trace.now c.requires.formed c.loop-number.number op here n of)) other
 
 pub other_line-requires-clause-plain : goal.other_line-requires-clause-plain
-other_line-requires-clause-plain g c = λ _ _.
+other_line-requires-clause-plain g c =
     let here : slice_get c.args.trace.now.ops c.loop-number.number ≡ Some c.index-ops-number.result =
     ap (λ (l : List Op). slice_get l c.loop-number.number) (sym c.as_slice-ops.ensures) ∙ slice_get_read _ _ _ _ refl c.loop-number-test.true c.index-ops-number.is in
     plain-there c.args.trace.now.ops c.loop-number.number c.index-ops-number.result c.requires.plain here
