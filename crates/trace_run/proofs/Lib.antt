@@ -10,6 +10,7 @@ pub mod DeviceReadLemmas
 pub mod DropLemmas
 pub mod EndSteps
 pub mod FeederLemmas
+pub mod FurtherLemmas
 pub mod GetLemmas
 pub mod GiveLemmas
 pub mod KeptBlockLemmas

@@ -1,5 +1,5 @@
 //! The run of a trace with one caller over the shared cache.
-ghost use Rattle.std.specs.Prelude.{◌≡◌, ℕ, [], IfOk, List, map};
+ghost use Rattle.std.specs.Prelude.{◌≡◌, ℕ, [], IfOk, List, None, false, map};
 ghost use Rattle.arc_lists.specs.Adapting.{IsCapacity};
 ghost use Rattle.arc_table.specs.Geometry.{parties_of};
 ghost use Rattle.arc_table.specs.Reading.{KeepsDevice};
@@ -13,6 +13,7 @@ ghost use Rattle.trace_run.specs.callers.CallerLines.{DidLines, HasFed, HasResiz
 ghost use Rattle.trace_run.specs.RunWork.{only_ended};
 ghost use Rattle.trace_run.specs.CellEnds.{AreCellsOf, HasSeenEnds};
 ghost use Rattle.trace_run.specs.KeptBlocks.{Stands, read_of};
+ghost use Rattle.trace_run.specs.Lines.{caller_of, has_further, is_further};
 ghost use Rattle.trace_run.specs.Meeting.{HasFeeder};
 ghost use Rattle.trace_run.specs.Opened.{AreOpened, HasJoined};
 ghost use Rattle.trace_run.specs.Openings.{AllKnow, openings_of};
@@ -26,7 +27,7 @@ ghost use Rattle.trace_run.specs.Restores.{restored_shard, restores_in};
 use crate::cells::end_cells_joined;
 use crate::device::Device;
 use crate::kept_blocks::{KeptBlocks, give_back_all};
-use crate::lines::{is_of_caller, is_on_object, line};
+use crate::lines::{is_of_caller, line};
 use crate::opening::open_cache;
 use crate::ran::{Ending, Ran};
 use crate::resizing::resize_joined;
@@ -134,7 +135,7 @@ fn restore_alone(
     Ok(party)
 }
 
-/// Does a line that is no caller's.
+/// Does a line that is no caller's, where it is no feed and no sync.
 fn other_line(
     alloc: Global,
     rt: &impl Wait,
@@ -148,19 +149,25 @@ fn other_line(
     requires joined { (openings : List (List ℕ)) × HasFeeder arcs.now openings party }
     requires rows { arcs.now.row.parties ≡ parties_of arcs.now.config }
     requires possible { IsOperation arcs.now.config.callers arcs.now.config.shards op.now }
+    requires nobody { caller_of op.now ≡ None }
+    requires plain { is_further op.now ≡ false }
     ensures stands { (kept : List KeptBlock) → Stands arcs.now party kept → IfOk result (λ r. Stands arcs.now r.0 kept) }
     ensures joined { (openings : List (List ℕ)) → HasFeeder arcs.now openings party → IfOk result (λ r. HasFeeder arcs.now openings r.0) }
     ensures did { IfOk result (λ r. (c : ℕ) × (op.now ≡ Op.Cap c) × (r.1 ≡ Reply.Capped c) × HasResized arcs.now.config c party r.0) }
 {
-    // A trace with a line that is not done yet is refused before it is run.
-    let Op::Cap { c } = *op else {
-        return Err(NoMemory);
-    };
-    let party = resize_alone(alloc, rt, arcs, party, c)?;
-    Ok((party, Reply::Capped { c }))
+    match *op {
+        Op::Cap { c } => {
+            let party = resize_alone(alloc, rt, arcs, party, c)?;
+            Ok((party, Reply::Capped { c }))
+        }
+        Op::Read { .. } | Op::Hold { .. } | Op::Drop { .. } | Op::Feed | Op::Txg { .. } => unreachable!(),
+        Op::Get { .. } | Op::Put { .. } | Op::Patch { .. } | Op::Pin { .. } | Op::Unpin { .. } => {
+            unreachable!()
+        }
+    }
 }
 
-/// Does all lines of a trace of one caller, one after another, over the pool and the cache device that are handed in.
+/// Does all lines of a trace of one caller, one after another, over the pool and the cache device that are handed in: reads, holds, drops and capacities.
 fn lines_alone<P: Pool, D: CacheDev, G: Gate>(
     alloc: Global,
     rt: &impl Wait,
@@ -180,6 +187,7 @@ fn lines_alone<P: Pool, D: CacheDev, G: Gate>(
     requires stands { Stands arcs.now party kept.old }
     requires named { AreNamed trace.now.blocks (map read_of kept.old) }
     requires joined { HasFeeder arcs.now (openings_of trace.now) party }
+    requires plain { has_further trace.now.ops ≡ false }
     ensures stands { IfOk result (λ r. Stands arcs.now r.0 kept.new) }
     ensures did { IfOk result (λ r. DidLines arcs.now.config P.Pool trace.now.blocks trace.now.ops r.1.items
         (at party (map read_of kept.old) pool.old) (at r.0 (map read_of kept.new) pool.new)) }
@@ -200,10 +208,6 @@ fn lines_alone<P: Pool, D: CacheDev, G: Gate>(
             party = after;
             replies.push(reply)?;
             continue;
-        }
-        // A trace of one caller with a line on an object is refused before it is run.
-        if is_on_object(op) {
-            return Err(NoMemory);
         }
         gate.before(caller, number as u32);
         let reply = line(alloc, rt, arcs, &mut party, kept, pool, device, blocks, op)?;
@@ -226,6 +230,7 @@ fn run_over<P: Pool, D: CacheDev, G: Gate>(
     requires formed { IsFormed trace.now }
     requires one { trace.now.config.callers ≡ 1 }
     requires keys { HaveKeys restored.now }
+    requires plain { has_further trace.now.ops ≡ false }
     ensures ran { IfOk result (λ ran. RanAlone P.Pool pool.old pool.new trace.now restored.now ran.replies.items ran.closed) }
     ensures asks { IfOk result (λ ran. (calls : List Call) × AsksLines D.CacheDev trace.now.config.shards trace.now.blocks (restored_shard trace.now.config restored.now) []
         trace.now.ops ran.replies.items calls device.old device.new) }
@@ -264,6 +269,7 @@ pub(crate) fn run_alone<P: Pool, D: CacheDev, G: Gate>(
     requires formed { IsFormed trace.now }
     requires one { trace.now.config.callers ≡ 1 }
     requires keys { HaveKeys restored.now }
+    requires plain { has_further trace.now.ops ≡ false }
     ensures ran { IfOk result (λ ran. RanAlone P.Pool pool.old pool.new trace.now restored.now ran.replies.items ran.closed) }
     ensures read { IfOk result (λ ran. ReadsAlone P.Pool D.CacheDev pool.old trace.now restored.now ran.replies.items (lent_in device.old) (lent_in device.new)) }
     ensures cells { IfOk result (λ ran. AreCellsOf trace.now (only_ended trace.now.config) ran.closed) }

@@ -27,6 +27,7 @@ use Rattle.trace_text.specs.declared.reply.Reply.{Reply}
 use Rattle.trace_text.specs.declared.trace.Trace.{Trace}
 use Rattle.trace_run.specs.declared.ran.Ending.{Ending}
 use Rattle.trace_run.specs.declared.ran.Ending.TheVariants.{Whole, Fork, Sync, Full}
+use Rattle.trace_run.proofs.FurtherLemmas.{first-done, off-objects}
 use Rattle.trace_run.specs.Acts.{acts_of, acts_of_all, acts_of_caller, acts_of_callers, acts_of_drops}
 use Rattle.trace_run.specs.CellEnds.{AreCellsOf, ends_from}
 use Rattle.trace_run.specs.Deeds.{Noted, acts_of_events, with_number}
@@ -267,12 +268,6 @@ module _ (trace : Trace) (restored : List Restored) (replies : List Reply) (ends
 
 -- ---- the work itself, and the cells
 
-pub first-done : (test : Op → Bool) (o : Op) (os : List Op) → list_any test (o ∷ os) ≡ false → (test o ≡ false) × (list_any test os ≡ false)
-first-done test o os none = elim (cases_true (test o)) [
-  | inl is ↦ absurd (false≢true (sym none ∙ rw is refl))
-  | inr not_it ↦ (not_it, rw not_it at none)
-]
-
 -- no line asks for a feed
 pub no-feed : (op : Op) → is_further op ≡ false → is_feed op ≡ false
 no-feed (ops.Read n t x window) done = refl
@@ -338,26 +333,12 @@ module _ (g : Config) where
     | inr other ↦ rw other (feeder-noted os rs)
   ]
 
-  -- none is on an object
-  off : (op : Op) → is_further op ≡ false → on_object op ≡ None
-  off (ops.Read n t x window) done = refl
-  off (ops.Hold n t x) done = refl
-  off (ops.Drop n x) done = refl
-  off (ops.Get n t at window) done = absurd (false≢true (sym done))
-  off (ops.Put n t at size fill) done = absurd (false≢true (sym done))
-  off (ops.Patch n t at from bytes) done = absurd (false≢true (sym done))
-  off (ops.Pin n t at) done = absurd (false≢true (sym done))
-  off (ops.Unpin n at) done = absurd (false≢true (sym done))
-  off ops.Feed done = refl
-  off (ops.Txg t) done = refl
-  off (ops.Cap c) done = refl
-
   pub plain-off : (os : List Op) (rs : List Reply) → list_any is_further os ≡ false → (k : ℕ) (l : Line) → slice_get (plain_lines os rs) k ≡ Some l → on_object l.op ≡ None
   plain-off [] rs done k l at = cc
   plain-off (o ∷ os) [] done k l at = cc
   plain-off (o ∷ os) (r ∷ rs) done zero l at =
       let same : record { op = o; reply = r; work = no_work } ≡ l = cc in
-      ap (λ (y : Line). on_object y.op) (sym same) ∙ off o (first-done is_further o os done).0
+      ap (λ (y : Line). on_object y.op) (sym same) ∙ off-objects o (first-done is_further o os done).0
   plain-off (o ∷ os) (r ∷ rs) done (suc k) l at = plain-off os rs (first-done is_further o os done).1 k l at
 
   pub plain-noted : (os : List Op) (rs : List Reply) (n : ℕ) → only_ended g n ≡ noted_by g (plain_work os rs) n

@@ -1,6 +1,6 @@
 -- One caller's lines in sequence: what each finds of the shards, of the cells, of the pool and of the cache device, and what it leaves of them (arc_read, dmu_read, dmu_write, spa_sync and
 -- l2arc_feed_thread, for a single thread). Each finds all that the lines before it did, and nothing else.
-use Rattle.std.specs.Prelude.{◌≡◌, ◌≢◌, ℕ, suc, ◌<◌, List, [], ◌∷◌, ◌++◌, Option, None, Some, IfSome, map, slice_get}
+use Rattle.std.specs.Prelude.{◌≡◌, ◌≢◌, ℕ, suc, ◌<◌, List, [], ◌∷◌, ◌++◌, Option, None, Some, IfSome, length, map, slice_get}
 use Rattle.std.specs.List.{AllByRecursion, range_with_len}
 use Rattle.blk_ptr.specs.Hash.{shard_of}
 use Rattle.blk_ptr.specs.declared.ptr.Ptr.{Ptr}
@@ -131,7 +131,7 @@ pub record IsFeedHere (g : Config) (s : ℕ → PlainShard) (feed : FeedDone) : 
 
 -- A sync took these cells just as the lines before it left them, and what it noted of them is this work.
 pub record TakesCells (trace : Trace) (from : ℕ → List CellEvent) (work : Work) (cells : List OnHeap) (xs : List SyncItem) : Type 0 where
-  pub many : (i : ℕ) → IsCell trace.config i → (c : OnHeap) × (slice_get cells i ≡ Some c)
+  pub many : length cells ≡ trace.config.cells
   pub limit : (i : ℕ) (c : OnHeap) → slice_get cells i ≡ Some c → c.value.limit ≡ trace.config.dbuf_bytes
   pub opening : (i : ℕ) (c : OnHeap) → slice_get cells i ≡ Some c → c.value.opening ≡ opening_map trace i
   pub sound : (i : ℕ) (c : OnHeap) → slice_get cells i ≡ Some c → IsSound c.value

@@ -1,4 +1,4 @@
-use Rattle.std.proofs.Common.{◌≡◌, ℕ, true, List, [], None, Some, map, take, refl, sym, ap, ◌∙◌, subst, arith}
+use Rattle.std.proofs.Common.{◌≡◌, ◌<◌, ℕ, true, false, List, [], None, Some, map, take, refl, sym, ap, ◌∙◌, subst, arith}
 use Rattle.std.specs.Prelude.{slice_get}
 use Rattle.std.proofs.lemmas.Option.{slice_get_read}
 use Rattle.blk_ptr.specs.declared.ptr.Ptr.{Ptr}
@@ -6,7 +6,7 @@ use Rattle.trace_text.specs.declared.op.Op.{Op}
 use Rattle.trace_text.specs.declared.reply.Reply.{Reply}
 use Rattle.trace_run.specs.callers.CallerLines.{DidLine, DidLines, at}
 use Rattle.trace_run.specs.KeptBlocks.{read_of}
-use Rattle.trace_run.specs.Lines.{is_of_caller}
+use Rattle.trace_run.specs.Lines.{caller_of, is_of_caller}
 use Rattle.trace_run.specs.Openings.{openings_of}
 use Rattle.trace_run.proofs.AnswerLemmas.{take_one}
 use Rattle.trace_run.proofs.CapLemmas.{capped-line, feeder-after}
@@ -17,8 +17,9 @@ use Rattle.trace_run.specs.one_caller.Asking.{AsksLine, AsksLines}
 use Rattle.trace_run.proofs.one_caller.AskingLemmas.{device-same, device-then}
 use Rattle.trace_run.proofs.one_caller.AskingLines.{asks-line, capped-asks}
 use Rattle.trace_run.proofs.RunLemmas.{keeps-then}
-use Rattle.trace_run.proofs.WorkLemmas.{none-is, with-plain}
-use Rattle.trace_run.proofs.callers.GroupRunLemmas.{all-declared}
+use Rattle.trace_run.proofs.FurtherLemmas.{nobody-else, off-objects, plain-there}
+use Rattle.trace_run.proofs.WorkLemmas.{with-plain}
+use Rattle.trace_run.proofs.callers.GroupRunLemmas.{all-callers, all-declared}
 use Rattle.trace_run.specs.ObjectLines.{on_object}
 use Rattle.trace_run.specs.callers.WorkLines.{at_work}
 use Rattle.arc_table.specs.Reading.{outside}
@@ -89,7 +90,7 @@ loop-number-preserved g c =
     let here : slice_get ops c.loop-number.number ≡ Some op =
     ap (λ (l : List Op). slice_get l c.loop-number.number) (sym c.as_slice-ops.ensures) ∙ slice_get_read _ _ _ _ refl c.loop-number-test.true c.index-ops-number.is in
     let his : is_of_caller 0 op ≡ true = ap (λ (k : ℕ). is_of_caller k op) (sym (c.number-caller.ensures ∙ c.requires.number)) ∙ (sym c.is_of_caller.ensures ∙ c.if-not-is_of_caller.false) in
-    let plain : on_object op ≡ None = none-is (on_object op) (sym c.is_on_object.ensures ∙ c.if-is_on_object.false) in
+    let plain : on_object op ≡ None = off-objects op (plain-there ops c.loop-number.number op c.requires.plain here) in
     let start = at c.args.party (map read_of c.args.kept.now) c.args.pool.now in
     let before = at c.loop-number.party (map read_of c.loop-number.kept) c.loop-number.pool in
     let after = at c.line.new.party (map read_of c.line.new.kept) c.line.new.pool in
@@ -117,3 +118,19 @@ line-requires-clause-sized g c = λ _ _.
     let here : slice_get c.args.trace.now.ops c.loop-number.number ≡ Some c.index-ops-number.result =
     ap (λ (l : List Op). slice_get l c.loop-number.number) (sym c.as_slice-ops.ensures) ∙ slice_get_read _ _ _ _ refl c.loop-number-test.true c.index-ops-number.is in
     (all-declared c.args.trace.now c.requires.formed c.loop-number.number c.index-ops-number.result here).1
+
+-- ---- a line that is no caller's is a capacity
+
+pub other_line-requires-clause-nobody : goal.other_line-requires-clause-nobody
+other_line-requires-clause-nobody g c = λ _ _.
+    let op = c.index-ops-number.result in
+    let here : slice_get c.args.trace.now.ops c.loop-number.number ≡ Some op =
+    ap (λ (l : List Op). slice_get l c.loop-number.number) (sym c.as_slice-ops.ensures) ∙ slice_get_read _ _ _ _ refl c.loop-number-test.true c.index-ops-number.is in
+    let other : is_of_caller 0 op ≡ false = ap (λ (k : ℕ). is_of_caller k op) (sym (c.number-caller.ensures ∙ c.requires.number)) ∙ (sym c.is_of_caller.ensures ∙ c.if-not-is_of_caller.true) in
+    nobody-else (caller_of op) (λ n of. subst (λ (k : ℕ). n < k) c.requires.one (all-callers c.args.trace.now c.requires.formed c.loop-number.number op here n of)) other
+
+pub other_line-requires-clause-plain : goal.other_line-requires-clause-plain
+other_line-requires-clause-plain g c = λ _ _.
+    let here : slice_get c.args.trace.now.ops c.loop-number.number ≡ Some c.index-ops-number.result =
+    ap (λ (l : List Op). slice_get l c.loop-number.number) (sym c.as_slice-ops.ensures) ∙ slice_get_read _ _ _ _ refl c.loop-number-test.true c.index-ops-number.is in
+    plain-there c.args.trace.now.ops c.loop-number.number c.index-ops-number.result c.requires.plain here

@@ -43,3 +43,6 @@ returns-clause-ran g c = λ rebuilt found.
           (unfed-left g.D.CacheDev trace c.requires.formed.config _ has.work did.replies.items (ends_in did.closed) (histories_of did.closed) has.run.explained (ap (λ (x : RunWork). x.feeds) (has.plain c.requires.one done))
           c.args.device.now c.run_alone.new.device c.run_alone.ensures.device),
     )
+
+pub run_alone-requires-clause-plain : goal.run_alone-requires-clause-plain
+run_alone-requires-clause-plain g c κs within = ap has_further (sym c.as_slice.ensures) ∙ (sym c.has_further.ensures ∙ c.if-has_further.false)
