@@ -72,9 +72,9 @@ pub record AreFeedsTold (config : Config) (ops : List Op) (replies : List Reply)
   pub told : filter is_fed (replies_where is_feed ops replies) ≡ map (λ feed. Fed feed.report) feeds
   pub shapes : AllByRecursion (IsFeedOf config.shards) feeds
 
--- The feeder, whose party p was, did a line `feed` while all others had joined it; then they parted. With their parties it had every number.
+-- The feeder did a line `feed` while all others had joined it, so that it had every number; then they parted.
 pub record FedJoined {C D : Type 0} (m : Meanings C) (devices : Ghosts D) (cache : Cache) (reply : Reply) (was now : Device D) (p : Place (Known C)) (olds : List (Place (Known C))) (q : Place (Known C)) (news : List (Place (Known C))) : Type 0 where
-  -- with the others' parties, before the feed and behind it
+  -- its party then, before the feed and behind it
   pub joined : Place (Known C)
   pub worked : Place (Known C)
   pub number : joined.number ≡ cache.config.callers

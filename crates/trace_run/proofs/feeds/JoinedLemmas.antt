@@ -31,7 +31,7 @@ use Rattle.trace_run.specs.FeedEvents.{FedJoined, events_of_made}
 use Rattle.trace_run.specs.Feeds.{DoesFeeds, FeedDone, IsIdleFeeder, IsSettledFeeder, MadeFeeds, MadeFeedsOf}
 use Rattle.trace_run.specs.KeptBlocks.{Stands}
 use Rattle.trace_run.specs.Meeting.{AreLast, JoinAll, MayGoOn, PartAll}
-use Rattle.trace_run.proofs.ResizeLemmas.{HasMade, last-of, left, left-front, parted, q-all, q-number, q-stands}
+use Rattle.trace_run.proofs.ResizeLemmas.{HasMade, last-of, left, left-front, parted, q-all, q-stands}
 use Rattle.trace_run.proofs.callers.MeetLemmas.{HaveJoined}
 use Rattle.trace_run.proofs.callers.TurnLemmas.{joined}
 use Rattle.trace_run.proofs.feeds.FedLemmas.{made-leave}
