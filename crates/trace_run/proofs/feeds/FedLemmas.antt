@@ -46,7 +46,7 @@ use Rattle.trace_run.specs.Objects.{Line, no_work, ops_of, replies_of}
 use Rattle.trace_run.specs.Restores.{events_by_feeder, restores_in}
 use Rattle.trace_run.specs.RunWork.{AllFit, FitsBy, lines_of_caller, lines_of_feeder}
 use Rattle.trace_run.specs.KeptReads.{KeptRead}
-use Rattle.trace_run.specs.callers.Beside.{FeedsBeside, LendsAndFeeds, WorksBeside}
+use Rattle.trace_run.specs.callers.Beside.{FeedsBeside, WorksBeside}
 use Rattle.trace_run.specs.callers.DeviceForks.{UsedAtOnce, UsedInGroups}
 use Rattle.trace_run.specs.callers.Groups.{AreEndLines}
 use Rattle.trace_run.specs.callers.InOrder.{AreInGroup}
@@ -429,48 +429,51 @@ pub record HasFedMore {C : Type 0} (cache : Cache) (feeds : List FeedDone) (p q 
   pub starts : (shard : ℕ) → StartsWith (seen_of cache.config shard q) (seen_of cache.config shard p)
 
 module _ {C D : Type 0} (m : Meanings C) (devices : Ghosts D) (cache : Cache) where
-  -- what several feeds leave
-  pub record Leaves (feeds : List FeedDone) (p q : Place (Known C)) : Type 0 where
-    pub still : StandsStill m cache p q
-    pub events : (shard : ℕ) → own_events cache.config.callers (seen_of cache.config shard q) ≡ own_events cache.config.callers (seen_of cache.config shard p) ++ events_of_made cache.config shard feeds
-
-  feeds-leave : (fs : List FeedDone) (was now : D) (old new : CursorState) (p q : Place (Known C)) → Stands cache p [] → p.number ≡ cache.config.callers → MadeFeeds m devices cache fs was now old new p q → Leaves fs p q
-  feeds-leave [] was now old new p q stands number made = record {
-    still = still-same m cache p q stands made.2;
-    events = λ shard. ap (λ (x : Place (Known C)). own_events cache.config.callers (seen_of cache.config shard x)) made.2 ∙ sym (append-nil (own_events cache.config.callers (seen_of cache.config shard p)));
-  }
-  feeds-leave (f ∷ fs) was now old new p q stands number made =
-      let r : Place (Known C) = made.1 in
-      let one = made.3 in
+  feeds-still : (fs : List FeedDone) (was now : D) (old new : CursorState) (p q : Place (Known C)) → Stands cache p [] → MadeFeeds m devices cache fs was now old new p q → StandsStill m cache p q
+  feeds-still [] was now old new p q stands made = still-same m cache p q stands made.2
+  feeds-still (f ∷ fs) was now old new p q stands (next, r, same, one, rest) =
       let still = acts-still m cache one.made.fed.acts p r stands one.made.fed.did in
-      let rest = feeds-leave fs made.0 now f.after new r q still.stands (still.left.stays.number ∙ number) made.4 in
-      record {
-        still = still-then m cache p r q still rest.still;
-        events = λ shard.
-            let first : own_events cache.config.callers (seen_of cache.config shard r) ≡ own_events cache.config.callers (seen_of cache.config shard p) ++ events_at cache.config cache.config.callers shard f.acts =
-            subst (λ (x : ℕ × List Act). own_events x.0 (seen_of cache.config shard r) ≡ own_events x.0 (seen_of cache.config shard p) ++ events_at cache.config x.0 shard x.1) (λ i. (number i, one.acts i))
-            (make_events m devices cache.config was made.0 f.before f.after p r f.report one.made.fed shard) in
-            rest.events shard
-            ∙ (ap (λ (l : List Event). l ++ events_of_made cache.config shard fs) first
-            ∙ append_assoc (own_events cache.config.callers (seen_of cache.config shard p)) (events_at cache.config cache.config.callers shard f.acts) (events_of_made cache.config shard fs));
-      }
+      still-then m cache p r q still (feeds-still fs next now f.after new r q still.stands rest)
 
-  leave-none : (p q : Place (Known C)) → Stands cache p [] → q ≡ p → Leaves [] p q
-  leave-none p q stands is = record {
-    still = still-same m cache p q stands is;
-    events = λ shard. ap (λ (x : Place (Known C)). own_events cache.config.callers (seen_of cache.config shard x)) is ∙ sym (append-nil (own_events cache.config.callers (seen_of cache.config shard p)));
-  }
+  -- several feeds leave the party so that it stands still
+  pub made-still : (fs : List FeedDone) (a b : Device D) (p q : Place (Known C)) → Stands cache p [] → MadeFeedsOf m devices cache fs a b p q → StandsStill m cache p q
+  made-still fs device.None device.None p q stands made = still-same m cache p q stands made.1
+  made-still fs (device.Short a) (device.Short b) p q stands made = still-same m cache p q stands made.2
+  made-still fs (device.Ready a) (device.Ready b) p q stands made = feeds-still fs a.dev b.dev a.cursor b.cursor p q stands made.1
+  made-still fs device.None (device.Short b) p q stands made = absurd made
+  made-still fs device.None (device.Ready b) p q stands made = absurd made
+  made-still fs (device.Short a) device.None p q stands made = absurd made
+  made-still fs (device.Short a) (device.Ready b) p q stands made = absurd made
+  made-still fs (device.Ready a) device.None p q stands made = absurd made
+  made-still fs (device.Ready a) (device.Short b) p q stands made = absurd made
 
-  pub made-leave : (fs : List FeedDone) (a b : Device D) (p q : Place (Known C)) → Stands cache p [] → p.number ≡ cache.config.callers → MadeFeedsOf m devices cache fs a b p q → Leaves fs p q
-  made-leave fs device.None device.None p q stands number made = subst (λ (l : List FeedDone). Leaves l p q) (sym made.0) (leave-none p q stands made.1)
-  made-leave fs (device.Short a) (device.Short b) p q stands number made = subst (λ (l : List FeedDone). Leaves l p q) (sym made.0) (leave-none p q stands made.2)
-  made-leave fs (device.Ready a) (device.Ready b) p q stands number made = feeds-leave fs a.dev b.dev a.cursor b.cursor p q stands number made.1
-  made-leave fs device.None (device.Short b) p q stands number made = absurd made
-  made-leave fs device.None (device.Ready b) p q stands number made = absurd made
-  made-leave fs (device.Short a) device.None p q stands number made = absurd made
-  made-leave fs (device.Short a) (device.Ready b) p q stands number made = absurd made
-  made-leave fs (device.Ready a) device.None p q stands number made = absurd made
-  made-leave fs (device.Ready a) (device.Short b) p q stands number made = absurd made
+  series-events : (fs : List FeedDone) (was now : D) (old new : CursorState) (p q : Place (Known C)) → MadeFeeds m devices cache fs was now old new p q → (shard : ℕ)
+      → own_events cache.config.callers (seen_of cache.config shard q) ≡ own_events cache.config.callers (seen_of cache.config shard p) ++ events_of_made cache.config shard fs
+  series-events [] was now old new p q made shard = ap (λ (x : Place (Known C)). own_events cache.config.callers (seen_of cache.config shard x)) made.2 ∙ sym (append-nil (own_events cache.config.callers (seen_of cache.config shard p)))
+  series-events (f ∷ fs) was now old new p q (next, r, same, one, rest) shard =
+      let first : own_events cache.config.callers (seen_of cache.config shard r) ≡ own_events cache.config.callers (seen_of cache.config shard p) ++ events_at cache.config cache.config.callers shard f.acts =
+      subst (λ (x : ℕ × List Act). own_events x.0 (seen_of cache.config shard r) ≡ own_events x.0 (seen_of cache.config shard p) ++ events_at cache.config x.0 shard x.1) (λ i. (one.made.ready.on.feeder i, one.acts i))
+      (make_events m devices cache.config was next f.before f.after p r f.report one.made.fed shard) in
+      series-events fs next now f.after new r q rest shard
+      ∙ (ap (λ (es : List Event). es ++ events_of_made cache.config shard fs) first ∙ append_assoc (own_events cache.config.callers (seen_of cache.config shard p)) (events_at cache.config cache.config.callers shard f.acts) (events_of_made cache.config shard fs))
+
+  none-made : (fs : List FeedDone) (p q : Place (Known C)) → fs ≡ [] → q ≡ p → (shard : ℕ) → own_events cache.config.callers (seen_of cache.config shard q) ≡ own_events cache.config.callers (seen_of cache.config shard p) ++ events_of_made cache.config shard fs
+  none-made fs p q none is shard =
+      ap (λ (x : Place (Known C)). own_events cache.config.callers (seen_of cache.config shard x)) is
+      ∙ (sym (append-nil (own_events cache.config.callers (seen_of cache.config shard p))) ∙ ap (λ (l : List FeedDone). own_events cache.config.callers (seen_of cache.config shard p) ++ events_of_made cache.config shard l) (sym none))
+
+  -- the party's own events are those of the feeds, whoever has joined it
+  pub made-events : (fs : List FeedDone) (a b : Device D) (p q : Place (Known C)) → MadeFeedsOf m devices cache fs a b p q → (shard : ℕ)
+      → own_events cache.config.callers (seen_of cache.config shard q) ≡ own_events cache.config.callers (seen_of cache.config shard p) ++ events_of_made cache.config shard fs
+  made-events fs device.None device.None p q made = none-made fs p q made.0 made.1
+  made-events fs (device.Short a) (device.Short b) p q made = none-made fs p q made.0 made.2
+  made-events fs (device.Ready a) (device.Ready b) p q made = series-events fs a.dev b.dev a.cursor b.cursor p q made.1
+  made-events fs device.None (device.Short b) p q made = absurd made
+  made-events fs device.None (device.Ready b) p q made = absurd made
+  made-events fs (device.Short a) device.None p q made = absurd made
+  made-events fs (device.Short a) (device.Ready b) p q made = absurd made
+  made-events fs (device.Ready a) device.None p q made = absurd made
+  made-events fs (device.Ready a) (device.Short b) p q made = absurd made
 
   feeds-shaped : (fs : List FeedDone) (was now : D) (old new : CursorState) (p q : Place (Known C)) → MadeFeeds m devices cache fs was now old new p q → AllByRecursion (IsFeedOf cache.config.shards) fs
   feeds-shaped [] was now old new p q made = tt
@@ -497,12 +500,12 @@ module _ {C D : Type 0} (m : Meanings C) (devices : Ghosts D) (cache : Cache) wh
 
   pub fed-more : (fs : List FeedDone) (a b : Device D) (p q : Place (Known C)) → IsIdleFeeder cache p → IsIdleFeeder cache q → MadeFeedsOf m devices cache fs a b p q → HasFedMore cache fs p q
   fed-more fs a b p q idle again made =
-      let leaves = made-leave fs a b p q idle.stands idle.number made in
+      let still = made-still fs a b p q idle.stands made in
       record {
         idle = again;
-        same = leaves.still.same;
-        events = leaves.events;
-        starts = λ shard. starts-events (front_of (turn_of cache.config shard) q.own.seen) (front_of (turn_of cache.config shard) p.own.seen) (leaves.still.starts shard);
+        same = still.same;
+        events = made-events fs a b p q made;
+        starts = λ shard. starts-events (front_of (turn_of cache.config shard) q.own.seen) (front_of (turn_of cache.config shard) p.own.seen) (still.starts shard);
       }
 
   -- ---- a group with feeds

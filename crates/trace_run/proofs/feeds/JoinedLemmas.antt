@@ -34,7 +34,7 @@ use Rattle.trace_run.specs.Meeting.{AreLast, JoinAll, MayGoOn, PartAll}
 use Rattle.trace_run.proofs.ResizeLemmas.{HasMade, last-of, left, left-front, parted, q-all, q-stands}
 use Rattle.trace_run.proofs.callers.MeetLemmas.{HaveJoined}
 use Rattle.trace_run.proofs.callers.TurnLemmas.{joined}
-use Rattle.trace_run.proofs.feeds.FedLemmas.{made-leave}
+use Rattle.trace_run.proofs.feeds.FedLemmas.{made-still}
 use Rattle.trace_run.proofs.feeds.FeedStands.{acts-still}
 use Rattle.trace_run.proofs.one_caller.TellLemmas.{all-append}
 
@@ -103,7 +103,7 @@ module _ {C D : Type 0} (m : Meanings C) (devices : Ghosts D) (cache : Cache) wh
 
   feeds-made : (fs : List FeedDone) (a b : Device D) (p q : Place (Known C)) → IsSettledFeeder cache p → IsSettledFeeder cache q → HasAll p → MadeFeedsOf m devices cache fs a b p q → HasMade cache (λ shard. events_of_made g shard fs) p q
   feeds-made fs a b p q before after all made =
-      let still = (made-leave m devices cache fs a b p q before.stands before.number made).still in
+      let still = made-still m devices cache fs a b p q before.stands made in
       record {
         stays = still.left.stays;
         stands = still.stands;

@@ -1,5 +1,5 @@
 -- The feeder's party while one caller does its lines, which it joined for that time; and a feed, for which the caller joined it: what it has made then, and what it has seen.
-use Rattle.std.proofs.Common.{◌≡◌, ℕ, ◌<◌, List, [], ◌∷◌, ◌++◌, sym, ap, ◌∙◌, subst, append-nil, append_assoc}
+use Rattle.std.proofs.Common.{◌≡◌, ℕ, List, [], ◌∷◌, ◌++◌, sym, ap, ◌∙◌, subst, append-nil}
 use Rattle.vdev_io.specs.declared.device.CacheDev.{Ghosts}
 use Rattle.arc_core.specs.declared.config.Config.{Config}
 use Rattle.arc_core.specs.declared.event.Event.{Event}
@@ -14,22 +14,17 @@ use Rattle.arc_table.specs.Fronts.{StartsWith, list_at}
 use Rattle.arc_table.specs.Items.{Meanings}
 use Rattle.arc_table.specs.Seen.{seen_of}
 use Rattle.arc_table.specs.Telling.{opening_of}
-use Rattle.l2_dev.specs.Cursor.{CursorState}
-use Rattle.l2_feed.specs.Acts.{Act}
-use Rattle.l2_feed.specs.Alone.{events_at}
-use Rattle.l2_feed.proofs.Between.{make_events}
 use Rattle.trace_text.specs.declared.op.Op.{Op}
 use Rattle.trace_text.specs.declared.reply.Reply.{Reply}
 use Rattle.trace_run.specs.declared.device.Device.{Device}
-use Rattle.trace_run.specs.declared.device.Device.TheVariants as device
 use Rattle.trace_run.specs.Devices.{WasLent, lent_in}
 use Rattle.trace_run.specs.FeedEvents.{events_of_made}
 use Rattle.trace_run.specs.FeedSeries.{AreMadeSoFar, SeesMore}
-use Rattle.trace_run.specs.Feeds.{AreFedReplies, FeedDone, IsIdleFeeder, MadeFeeds, MadeFeedsOf}
+use Rattle.trace_run.specs.Feeds.{AreFedReplies, FeedDone, IsIdleFeeder, MadeFeedsOf}
 use Rattle.trace_run.specs.Meeting.{HasParted, MadeJoined}
 use Rattle.trace_run.proofs.DeviceLemmas.{lent-same}
 use Rattle.trace_run.proofs.callers.MeetLemmas.{same-own-events, starts-then}
-use Rattle.trace_run.proofs.feeds.FedLemmas.{HasFedMore}
+use Rattle.trace_run.proofs.feeds.FedLemmas.{HasFedMore, made-events}
 use Rattle.trace_run.proofs.feeds.FeedLemmas.{made-none}
 use Rattle.trace_run.proofs.feeds.SeriesLemmas.{group-so-far, moved-so-far, one-so-far, sees-by, sees-same}
 
@@ -68,34 +63,6 @@ module _ {C D : Type 0} (m : Meanings C) (devices : Ghosts D) (cache : Cache) wh
 
   -- ---- the caller had joined it
 
-  series-events : (fs : List FeedDone) (was now : D) (old new : CursorState) (p q : Place (Known C)) → MadeFeeds m devices cache fs was now old new p q → (shard : ℕ)
-      → own_events g.callers (seen_of g shard q) ≡ own_events g.callers (seen_of g shard p) ++ events_of_made g shard fs
-  series-events [] was now old new p q made shard = ap (λ (x : Place (Known C)). own_events g.callers (seen_of g shard x)) made.2 ∙ sym (append-nil (own_events g.callers (seen_of g shard p)))
-  series-events (f ∷ fs) was now old new p q (next, r, same, one, rest) shard =
-      let first : own_events g.callers (seen_of g shard r) ≡ own_events g.callers (seen_of g shard p) ++ events_at g g.callers shard f.acts =
-      subst (λ (x : ℕ × List Act). own_events x.0 (seen_of g shard r) ≡ own_events x.0 (seen_of g shard p) ++ events_at g x.0 shard x.1) (λ i. (one.made.ready.on.feeder i, one.acts i))
-      (make_events m devices g was next f.before f.after p r f.report one.made.fed shard) in
-      series-events fs next now f.after new r q rest shard
-      ∙ (ap (λ (es : List Event). es ++ events_of_made g shard fs) first ∙ append_assoc (own_events g.callers (seen_of g shard p)) (events_at g g.callers shard f.acts) (events_of_made g shard fs))
-
-  none-made : (fs : List FeedDone) (p q : Place (Known C)) → fs ≡ [] → q ≡ p → (shard : ℕ) → own_events g.callers (seen_of g shard q) ≡ own_events g.callers (seen_of g shard p) ++ events_of_made g shard fs
-  none-made fs p q none is shard =
-      ap (λ (x : Place (Known C)). own_events g.callers (seen_of g shard x)) is
-      ∙ (sym (append-nil (own_events g.callers (seen_of g shard p))) ∙ ap (λ (l : List FeedDone). own_events g.callers (seen_of g shard p) ++ events_of_made g shard l) (sym none))
-
-  -- the party's own events are those of the feeds, whoever has joined it
-  pub made-events : (fs : List FeedDone) (a b : Device D) (p q : Place (Known C)) → MadeFeedsOf m devices cache fs a b p q → (shard : ℕ)
-      → own_events g.callers (seen_of g shard q) ≡ own_events g.callers (seen_of g shard p) ++ events_of_made g shard fs
-  made-events fs device.None device.None p q made = none-made fs p q made.0 made.1
-  made-events fs (device.Short a) (device.Short b) p q made = none-made fs p q made.0 made.2
-  made-events fs (device.Ready a) (device.Ready b) p q made = series-events fs a.dev b.dev a.cursor b.cursor p q made.1
-  made-events fs device.None (device.Short b) p q made = absurd made
-  made-events fs device.None (device.Ready b) p q made = absurd made
-  made-events fs (device.Short a) device.None p q made = absurd made
-  made-events fs (device.Short a) (device.Ready b) p q made = absurd made
-  made-events fs (device.Ready a) device.None p q made = absurd made
-  made-events fs (device.Ready a) (device.Short b) p q made = absurd made
-
   module _ (fs : List FeedDone) (a b : Device D) (p q joined worked : Place (Known C)) (olds news : List (Place (Known C))) (number : p.number ≡ g.callers) (made : MadeFeedsOf m devices cache fs a b joined worked)
       (met : MadeJoined cache (λ shard. events_of_made g shard fs) p olds q news) (before : (shard : ℕ) → seen_of g shard joined ≡ met.front shard) (behind : (shard : ℕ) → seen_of g shard worked ≡ seen_of g shard q) where
     front-own : (shard : ℕ) → own_events g.callers (met.front shard) ≡ own_events g.callers (seen_of g shard p)
@@ -111,7 +78,7 @@ module _ {C D : Type 0} (m : Meanings C) (devices : Ghosts D) (cache : Cache) wh
       same = met.made;
       events = λ shard.
           ap (own_events g.callers) (sym (behind shard))
-          ∙ (made-events fs a b joined worked made shard ∙ ap (λ (es : List Event). es ++ events_of_made g shard fs) (ap (own_events g.callers) (before shard) ∙ front-own shard));
+          ∙ (made-events m devices cache fs a b joined worked made shard ∙ ap (λ (es : List Event). es ++ events_of_made g shard fs) (ap (own_events g.callers) (before shard) ∙ front-own shard));
       starts = λ shard. starts-then (seen_of g shard q) (met.front shard) (seen_of g shard p) (front-starts shard) (met.since shard);
     }
 

@@ -1,5 +1,5 @@
 -- One caller, one step more: its own lines up to one that is no caller's, or that one.
-use Rattle.std.proofs.Common.{◌≡◌, ◌≢◌, ℕ, zero, suc, ◌+◌, ◌^◌, ◌<◌, ◌≤◌, true, false, Option, List, [], ◌∷◌, ◌++◌, Some, None, Result, Ok, Err, length, take, drop, refl, sym, ap, ◌∙◌, subst, arith, append-nil, length-append, inl, inr}
+use Rattle.std.proofs.Common.{◌≡◌, ◌≢◌, ℕ, zero, suc, ◌+◌, ◌<◌, ◌≤◌, true, false, Option, List, [], ◌∷◌, ◌++◌, Some, None, Result, Ok, Err, length, take, drop, refl, sym, ap, ◌∙◌, subst, arith, append-nil, length-append, inl, inr}
 use Rattle.std.specs.Prelude.{count_by, filter, slice_get, slice_range}
 use Rattle.std.specs.List.{AllByRecursion}
 use Rattle.std.proofs.lemmas.Bool.{false≢true}
@@ -45,7 +45,7 @@ use Rattle.trace_run.specs.Objects.{Line, no_work, ops_of, replies_of}
 use Rattle.trace_run.specs.Openings.{AllKnow, openings_of}
 use Rattle.trace_run.specs.RunWork.{AllFit, FitsBy, RunWork, lines_of_caller}
 use Rattle.trace_run.specs.callers.Group.{AllWorked, LeavesPool, WorkedAt}
-use Rattle.trace_run.specs.callers.Groups.{AreEndLines, DidEndLine, HaveCome, HaveCounted, HaveReached, MaySync, goes_on}
+use Rattle.trace_run.specs.callers.Groups.{AreEndLines, DidEndLine, HaveCome, HaveCounted, HaveReached, goes_on}
 use Rattle.trace_run.specs.callers.InOrder.{AreInGroup}
 use Rattle.trace_run.specs.callers.Together.{BetweenGroups, IsCutLast, between_groups, over_callers}
 use Rattle.trace_run.specs.callers.WorkLines.{AreLinesOf, IsWorkOf, calls_of_lines}
@@ -429,12 +429,6 @@ module _ {P D : Type 0} (cache : Cache) (restored : List Restored) (pools : Ghos
   -- the caller may join the feeder
   pub turn-may : cache.row.parties ≡ parties_of cache.config → MayGoOn cache [] old.feeder old.parties.items
   turn-may rows = may-resize cache restored (pools.size start.pool) (pools.told start.pool) start.next trace.blocks os rs w old reached.come rows
-
-  pub turn-sync : (lines : ℕ) × (lines < 2 ^ 32) × MaySync pools lines was
-  turn-sync = (length rs, omega (arith, more, few), between.may_sync)
-
-  pub turn-idle : IsIdleFeeder cache old.feeder
-  turn-idle = idle
 
   module _ (op : Op) (at : slice_get trace.ops (length rs) ≡ Some op) (last : Crew OnHeap) (fin : BetweenGroups P) where
     room-here : length rs < length trace.ops

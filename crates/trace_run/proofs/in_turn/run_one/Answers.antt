@@ -5,12 +5,10 @@ use Rattle.arc_core.specs.declared.config.Config.{Config}
 use Rattle.blk_ptr.specs.declared.ptr.Ptr.{Ptr}
 use Rattle.trace_run.specs.Feeds.{MayBeFed}
 use Rattle.trace_run.specs.RunWork.{plain_work}
-use Rattle.trace_run.specs.callers.Together.{IsFirstPlace, between_groups, report_of_closed}
+use Rattle.trace_run.specs.callers.Together.{IsFirstPlace, between_groups}
 use Rattle.trace_run.proofs.callers.GroupRunLemmas.{come-wait, lines-acts, lines-noted, may-resize}
 use Rattle.trace_run.proofs.callers.GroupsLemmas.{crew-rows, have-started}
 use Rattle.trace_run.proofs.callers.StepLemmas.{first-may}
-use Rattle.trace_run.specs.Devices.{lent_in}
-use Rattle.trace_run.specs.one_caller.InTurn.{RunsInTurn}
 use Rattle.trace_run.proofs.one_caller.TurnBegins.{turn-begun}
 use Rattle.trace_run.proofs.theorem.TurnRun.{runs-at}
 use Rattle.trace_run.proofs.theorem.TogetherRun.{group-fed, group-together}
