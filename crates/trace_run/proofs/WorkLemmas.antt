@@ -105,6 +105,10 @@ module _ {P D : Type 0} (pools : PoolGhosts P) (devices : DeviceGhosts D) (g : C
   pub with-plain : (op : Op) (reply : Reply) (a b : AtWork P D) → on_object op ≡ None → DidWith pools devices g blocks op reply a b → DidLine g pools blocks op reply (plainly a) (plainly b)
   with-plain op reply a b plain did = (subst (λ (o : Option OnObject). DidLineBy pools devices g blocks o (record { op = op; reply = reply; work = did.0 }) a b) plain did.1).1
 
+  -- and what a party with every number asked the device for
+  pub with-asks : (op : Op) (reply : Reply) (a b : AtWork P D) → on_object op ≡ None → DidWith pools devices g blocks op reply a b → AloneAsks g devices blocks a.party a.outside.device b.outside.device op reply
+  with-asks op reply a b plain did = (subst (λ (o : Option OnObject). DidLineBy pools devices g blocks o (record { op = op; reply = reply; work = did.0 }) a b) plain did.1).3
+
   -- ---- one line more
 
   lines-of-more : (os : List Op) (rs : List Reply) (ls : List Line) (l : Line) → AreLinesOf os rs ls → AreLinesOf (os ++ l.op ∷ []) (rs ++ l.reply ∷ []) (ls ++ l ∷ [])

@@ -3,7 +3,7 @@ ghost use Rattle.std.specs.Prelude.{◌≡◌, ◌≢◌, ◌<◌, ◌+◌, ◌^
 ghost use Rattle.arc_table.specs.Reading.{KeepsDevice, outside};
 ghost use Rattle.arc_table.specs.Seen.{HasAll};
 ghost use Rattle.blk_ptr.specs.Hash.{shard_of};
-ghost use Rattle.vdev_io.specs.Calls.{Call, KeepsPool, MakesCalls};
+ghost use Rattle.vdev_io.specs.Calls.{KeepsPool, MakesCalls};
 ghost use Rattle.dbuf_state.specs.Dbufs.{window_of};
 ghost use Rattle.trace_run.specs.Acts.{acts_of_hold, acts_of_read};
 ghost use Rattle.trace_run.specs.Answering.{KeepsImage, ReadsImage};
@@ -13,8 +13,8 @@ ghost use Rattle.trace_run.specs.DeviceReads.{AsksFor};
 ghost use Rattle.trace_run.specs.ObjectLines.{IsSized, on_object};
 ghost use Rattle.trace_run.specs.Effects.{calls_of, effect_of};
 ghost use Rattle.trace_run.specs.KeptBlocks.{Drops, Stands, read_of};
-ghost use Rattle.trace_run.specs.Lines.{caller_of, is_of_caller, shard_of_line};
-ghost use Rattle.trace_run.specs.one_caller.Asking.{Asks, AsksLine};
+ghost use Rattle.trace_run.specs.Lines.{caller_of, is_of_caller};
+ghost use Rattle.trace_run.specs.one_caller.Asking.{Asks};
 ghost use Rattle.trace_run.specs.one_caller.OneCaller.{NamesSource, events_of_hold, events_of_read, kept_after_drop, kept_after_hold, oldest_key};
 ghost use Rattle.trace_run.specs.one_caller.OverShards.{AreNamed};
 ghost use Rattle.trace_run.specs.Reads.{CameFromPool, DidActs, IsRefused, access_now, now_of};
@@ -187,8 +187,6 @@ pub(crate) fn line<P: Pool, D: CacheDev>(
     ensures stands { IfOk result (λ reply. Stands arcs.now party.new kept.new) }
     ensures did { IfOk result (λ reply. DidWith P.Pool D.CacheDev arcs.now.config blocks.now op.now reply
         (at_work party.old (map read_of kept.old) (outside pool.old device.old)) (at_work party.new (map read_of kept.new) (outside pool.new device.new))) }
-    ensures asks { on_object op.now ≡ None → IfOk result (λ reply. HasAll party.old → (calls : List Call)
-        × AsksLine D.CacheDev blocks.now (now_of arcs.now.config (shard_of_line arcs.now.config.shards blocks.now op.now) party.old) op.now reply calls device.old device.new) }
     ensures pool { KeepsPool P.Pool pool.old pool.new }
     ensures device { KeepsDevice D.CacheDev device.old device.new }
 {

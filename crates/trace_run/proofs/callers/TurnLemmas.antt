@@ -63,6 +63,22 @@ all-cells : {C : Type 0} (cache : Cache) (os : List (Place (Known C))) → AllBy
 all-cells cache [] apart = tt
 all-cells cache (o ∷ os) apart = (apart.0.1.cells, all-cells cache os apart.1)
 
+-- a party stands as it did once all others have parted from it
+pub left-stands : {C : Type 0} (cache : Cache) (kept : List KeptBlock) (r : Place (Known C)) → Stands cache r kept → Stands cache (left_alone r) kept
+left-stands cache kept r stands = record {
+  valid = stands.valid;
+  of = record { row = stands.of.row; config = stands.of.config };
+  free = stands.free;
+  cells = record { own = stands.cells.own; joined = tt };
+  idle = stands.idle;
+  unclaimed = stands.unclaimed;
+  seen = record { own = stands.seen.own; joined = tt };
+  apart = tt;
+  joined = tt;
+  owned = stands.owned;
+  listed = stands.listed;
+}
+
 -- ---- the drops of one number are no other's
 
 all-at : {A : Type 0} (P : A → Type 0) (l : List A) → AllByRecursion P l → (i : ℕ) (a : A) → get_elem? l i ≡ some a → P a
@@ -169,19 +185,7 @@ module _ {C : Type 0} (m : Meanings C) (cache : Cache) (p : Place (Known C)) (ke
     last = left_alone r
 
     last-stands : Stands cache last []
-    last-stands = record {
-      valid = after.valid;
-      of = record { row = after.of.row; config = after.of.config };
-      free = after.free;
-      cells = record { own = after.cells.own; joined = tt };
-      idle = after.idle;
-      unclaimed = after.unclaimed;
-      seen = record { own = after.seen.own; joined = tt };
-      apart = tt;
-      joined = tt;
-      owned = tt;
-      listed = after.listed;
-    }
+    last-stands = left-stands cache [] r after
 
     last-cells : KeepsCells gk p last
     last-cells = record {

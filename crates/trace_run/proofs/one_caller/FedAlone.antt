@@ -29,7 +29,7 @@ use Rattle.trace_run.specs.KeptBlocks.{Stands}
 use Rattle.trace_run.specs.Meeting.{HasFeeder, HasParted, IsApart, IsJoinedBy, IsLevel, JoinAll, Joins, MadeJoined, MayGoOn}
 use Rattle.trace_run.proofs.callers.GroupsLemmas.{parted-length}
 use Rattle.trace_run.proofs.callers.MeetLemmas.{HaveJoined, left_alone, parted_from}
-use Rattle.trace_run.proofs.callers.TurnLemmas.{joined, joined-all, joined-stands}
+use Rattle.trace_run.proofs.callers.TurnLemmas.{joined, joined-all, joined-stands, left-stands}
 use Rattle.trace_run.proofs.deeds.DeedLemmas.{told-still}
 use Rattle.trace_run.proofs.deeds.MakesLemmas.{grown-same, same-then}
 
@@ -97,19 +97,7 @@ module _ {C : Type 0} (cache : Cache) (more : (shard : ℕ) → List Event) (p :
     }
 
     pub p1-stands : Stands cache p1 had
-    p1-stands = record {
-      valid = stands.valid;
-      of = record { row = stands.of.row; config = stands.of.config };
-      free = stands.free;
-      cells = record { own = stands.cells.own; joined = tt };
-      idle = stands.idle;
-      unclaimed = stands.unclaimed;
-      seen = record { own = stands.seen.own; joined = tt };
-      apart = tt;
-      joined = tt;
-      owned = stands.owned;
-      listed = stands.listed;
-    }
+    p1-stands = left-stands cache had p stands
 
     -- there are just two numbers
     pub both-have : (a b : Place (Known C)) → a.number ≡ 0 → b.number ≡ 1 → (n : ℕ) → n < parties_of g → SomeHas n (a ∷ b ∷ [])

@@ -47,7 +47,7 @@ use Rattle.trace_run.specs.one_caller.LinesGone.{CameAlone, Gone, IsThere}
 use Rattle.trace_run.specs.one_caller.Sequence.{Sequence}
 use Rattle.trace_run.proofs.CellsLeft.{CellsGrow}
 use Rattle.trace_run.proofs.callers.MeetLemmas.{HaveJoined, joined_of, left_alone, parted-front, parted-then, parted_from, starts-then}
-use Rattle.trace_run.proofs.callers.TurnLemmas.{joined, joined-all, joined-stands}
+use Rattle.trace_run.proofs.callers.TurnLemmas.{joined, joined-all, joined-stands, left-stands}
 use Rattle.trace_run.proofs.deeds.DeedLemmas.{told-still}
 use Rattle.trace_run.proofs.deeds.MakesLemmas.{grown-same, keeps-then}
 use Rattle.trace_run.proofs.deeds.OperatesDone.{cell-there}
@@ -152,19 +152,7 @@ module _ (cache : Cache) (one : cache.config.callers ≡ 1) (rows : cache.row.pa
       feeder-parted = parted-then cache q r o have.all.0 stands.of gone.came.cells.shards gone.came.cells.fronts (gone.others met-all o.number other low)
 
       last-stands : Stands cache (left_alone r) l
-      last-stands = record {
-        valid = stands.valid;
-        of = record { row = stands.of.row; config = stands.of.config };
-        free = stands.free;
-        cells = record { own = stands.cells.own; joined = tt };
-        idle = stands.idle;
-        unclaimed = stands.unclaimed;
-        seen = record { own = stands.seen.own; joined = tt };
-        apart = tt;
-        joined = tt;
-        owned = stands.owned;
-        listed = stands.listed;
-      }
+      last-stands = left-stands cache l r stands
 
       last-number : r.number ≡ 0
       last-number = gone.came.number ∙ met-number

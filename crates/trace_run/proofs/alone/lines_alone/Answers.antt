@@ -18,7 +18,7 @@ use Rattle.trace_run.proofs.one_caller.AskingLemmas.{device-same, device-then}
 use Rattle.trace_run.proofs.one_caller.AskingLines.{asks-line, capped-asks}
 use Rattle.trace_run.proofs.RunLemmas.{keeps-then}
 use Rattle.trace_run.proofs.FurtherLemmas.{nobody-else, off-objects, plain-there}
-use Rattle.trace_run.proofs.WorkLemmas.{with-plain}
+use Rattle.trace_run.proofs.WorkLemmas.{with-asks, with-plain}
 use Rattle.trace_run.proofs.callers.GroupRunLemmas.{all-callers, all-declared}
 use Rattle.trace_run.specs.ObjectLines.{on_object}
 use Rattle.trace_run.specs.callers.WorkLines.{at_work}
@@ -94,9 +94,10 @@ loop-number-preserved g c =
     let start = at c.args.party (map read_of c.args.kept.now) c.args.pool.now in
     let before = at c.loop-number.party (map read_of c.loop-number.kept) c.loop-number.pool in
     let after = at c.line.new.party (map read_of c.line.new.kept) c.line.new.pool in
+    let work = at_work c.loop-number.party (map read_of c.loop-number.kept) (outside c.loop-number.pool c.loop-number.device) in
+    let then = at_work c.line.new.party (map read_of c.line.new.kept) (outside c.line.new.pool c.line.new.device) in
     let one : DidLine config g.P.Pool blocks op reply before after = subst (λ (bs : List Ptr). DidLine config g.P.Pool bs op reply before after) c.as_slice-blocks.ensures
-    (with-plain g.P.Pool g.D.CacheDev config c.as_slice-blocks.result.now op reply (at_work c.loop-number.party (map read_of c.loop-number.kept) (outside c.loop-number.pool c.loop-number.device))
-    (at_work c.line.new.party (map read_of c.line.new.kept) (outside c.line.new.pool c.line.new.device)) plain c.in_ok-reply.ensures.did) in
+    (with-plain g.P.Pool g.D.CacheDev config c.as_slice-blocks.result.now op reply work then plain c.in_ok-reply.ensures.did) in
     record {
       stands = c.in_ok-reply.ensures.stands;
       named = line-named config g.P.Pool blocks op reply before after was.named one;
@@ -106,7 +107,7 @@ loop-number-preserved g c =
           (lines-more config g.P.Pool blocks (take c.loop-number.number ops) replies op reply start before after was.did one);
       asks = λ all.
           let so_far = was.asks all in
-          let mine = c.in_ok-reply.ensures.asks plain (lines-all config g.P.Pool blocks (take c.loop-number.number ops) replies start before was.did all) in
+          let mine = with-asks g.P.Pool g.D.CacheDev config c.as_slice-blocks.result.now op reply work then plain c.in_ok-reply.ensures.did (lines-all config g.P.Pool blocks (take c.loop-number.number ops) replies start before was.did all) in
           asks-line g.D.CacheDev config g.P.Pool blocks (take c.loop-number.number ops) replies op reply _ c.in_ok-push-2.ensures.items start before (sym (take_one ops c.loop-number.number op here)) was.did all so_far.0 mine.0 c.args.device.now c.loop-number.device c.line.new.device so_far.1
           (subst (λ (bs : List Ptr). AsksLine g.D.CacheDev bs (now_of config (shard_of_line config.shards bs op) c.loop-number.party) op reply mine.0 c.loop-number.device c.line.new.device) c.as_slice-blocks.ensures mine.1);
       left = device-then g.D.CacheDev c.args.device.now c.loop-number.device c.line.new.device was.left c.in_ok-reply.ensures.device;

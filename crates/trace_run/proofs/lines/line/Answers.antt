@@ -13,7 +13,7 @@ use Rattle.trace_run.proofs.RunLemmas.{got}
 use Rattle.trace_run.proofs.WorkLemmas.{object-ok, plain-ok}
 use Rattle.std.proofs.Common.{[], refl}
 use Rattle.trace_run.proofs.one_caller.AskingLemmas.{device-same}
-use Rattle.trace_run.proofs.one_caller.AskingLines.{AloneAsks, hold-line-asks, read-line-asks}
+use Rattle.trace_run.proofs.one_caller.AskingLines.{hold-line-asks, read-line-asks}
 use Rattle.trace_run.proofs.lines.line.Goals as goal
 
 pub returns-in-Read-clause-did : goal.returns-in-Read-clause-did
@@ -81,22 +81,6 @@ returns-in-Get-clause-did g c =
     ] in
     object-ok g.P.Pool g.D.CacheDev c.args.arcs.now.config c.args.blocks.now c.args.party.now c.object_line.new.party (outside c.args.pool.now c.args.device.now) (outside c.object_line.new.pool c.object_line.new.device) (map read_of c.args.kept.now) c.args.op.now
     c.object_line.result c.requires.own on c.object_line.ensures.pool c.object_line.ensures.device c.object_line.ensures.did
-
-pub returns-in-Read-clause-asks : goal.returns-in-Read-clause-asks
-returns-in-Read-clause-asks g c = λ plain.
-    subst (λ (op : Op). IfOk c.read_line.result (AloneAsks c.args.arcs.now.config g.D.CacheDev c.args.blocks.now c.args.party.now c.args.device.now c.read_line.new.device op)) (sym c.in-Read.is)
-    (read-line-asks c.args.arcs.now.config g.D.CacheDev c.args.blocks.now c.args.party.now c.args.device.now c.read_line.new.device c.in-Read.n c.in-Read.t c.in-Read.x c.in-Read.w _ c.read_line.result
-    (got c.args.blocks.now c.in-Read.x _ (rw c.in-Read.is at c.requires.declared)) c.read_line.ensures.asks)
-
-pub returns-in-Hold-clause-asks : goal.returns-in-Hold-clause-asks
-returns-in-Hold-clause-asks g c = λ plain.
-    subst (λ (op : Op). IfOk c.hold_line.result (AloneAsks c.args.arcs.now.config g.D.CacheDev c.args.blocks.now c.args.party.now c.args.device.now c.hold_line.new.device op)) (sym c.in-Hold.is)
-    (hold-line-asks c.args.arcs.now.config g.D.CacheDev c.args.blocks.now c.args.party.now c.args.device.now c.hold_line.new.device c.in-Hold.n c.in-Hold.t c.in-Hold.x _ c.hold_line.result
-    (got c.args.blocks.now c.in-Hold.x _ (rw c.in-Hold.is at c.requires.declared)) c.hold_line.ensures.asks)
-
-pub returns-in-Drop-clause-asks : goal.returns-in-Drop-clause-asks
-returns-in-Drop-clause-asks g c = λ plain all.
-    subst (λ (op : Op). AloneAsks c.args.arcs.now.config g.D.CacheDev c.args.blocks.now c.args.party.now c.args.device.now c.args.device.now op c.drop_line.result) (sym c.in-Drop.is) (λ all. ([], (refl, refl))) all
 
 pub returns-in-Drop-clause-device : goal.returns-in-Drop-clause-device
 returns-in-Drop-clause-device g c = device-same g.D.CacheDev c.args.device.now
