@@ -17,7 +17,7 @@ ghost use Rattle.trace_run.specs.RunWork.{RunWork};
 ghost use Rattle.trace_run.specs.callers.Beside.{TriesBeside, WasInUse};
 ghost use Rattle.trace_run.specs.callers.InOrder.{AreInGroup};
 ghost use Rattle.trace_run.specs.callers.Group.{IsFork, LeavesFront, LeavesPool};
-ghost use Rattle.trace_run.specs.callers.Groups.{AreBetween, DidEndLine, DidLinesAtOnce, AreDone, KeepNothing, MaySync, StepsOn, goes_on};
+ghost use Rattle.trace_run.specs.callers.Groups.{AreBetween, DidEndLine, DidLinesAtOnce, DidSync, AreDone, KeepNothing, MaySync, StepsOn, goes_on};
 ghost use Rattle.trace_run.specs.Meeting.{MayGoOn};
 ghost use Rattle.trace_run.specs.Lines.{has_sync, is_sync};
 ghost use Rattle.trace_run.specs.Tally.{AreDeclared};
@@ -220,6 +220,61 @@ pub(crate) fn first_place(blocks: &[Ptr], pool_len: u64) -> u64
     place
 }
 
+/// Does a line `txg`, once all callers have come back: its reply, or how the lines end where the sync stopped.
+fn txg_line<P: Pool>(
+    alloc: Global,
+    rt: &impl Wait,
+    arcs: &Cells,
+    crew: Crew<HeapCell>,
+    t: u64,
+    syncs: Syncs,
+    pool: &mut P,
+) -> Result<(Crew<HeapCell>, Syncs, Result<Reply, Ending>), NoMemory>
+    requires may { MayGoOn arcs.now [] crew.feeder crew.parties.items }
+    requires feeder { crew.feeder.number ≡ arcs.now.config.callers }
+    requires sync { (lines : ℕ) × (lines < 2 ^ 32) × MaySync P.Pool lines (between_groups pool.old syncs.group syncs.next) }
+    ensures did { IfOk result (λ done. DidSync arcs.now P.Pool t (between_groups pool.old syncs.group syncs.next) (between_groups pool.new done.1.group done.1.next) crew done.0 done.2) }
+    ensures kept { IfOk result (λ done. done.0.kept ≡ crew.kept) }
+    ensures later { IfOk result (λ done. syncs.next ≤ done.1.next) }
+    ensures pool { LeavesFront P.Pool syncs.next pool.old pool.new }
+{
+    let Crew {
+        feeder,
+        parties,
+        kept,
+    } = crew;
+    let Syncs { group, next } = syncs;
+    let AfterSync {
+        feeder,
+        callers,
+        came,
+    } = sync_joined(alloc, rt, arcs, feeder, parties, group, t, pool, next)?;
+    let crew = Crew {
+        feeder,
+        parties: callers,
+        kept,
+    };
+    match came {
+        Ok(synced) => {
+            let syncs = Syncs {
+                group: group + 1,
+                next: synced.next,
+            };
+            let reply = Reply::Synced {
+                group,
+                blocks: synced.blocks,
+                bytes: synced.bytes,
+            };
+            Ok((crew, syncs, Ok(reply)))
+        }
+        Err(SyncFault::PoolFault) => Ok((crew, syncs, Err(Ending::Sync))),
+        Err(SyncFault::PoolFull { need, left }) => {
+            Ok((crew, syncs, Err(Ending::Full { need, left })))
+        }
+        Err(SyncFault::NoMemory) => Err(NoMemory),
+    }
+}
+
 /// Does the line that ends a group, once all callers have come back: its reply, or how the lines end where a sync stops.
 pub(crate) fn end_line<P: Pool>(
     alloc: Global,
@@ -240,14 +295,13 @@ pub(crate) fn end_line<P: Pool>(
     ensures pool { LeavesFront P.Pool syncs.next pool.old pool.new }
     ensures still { is_sync op.now ≡ false → LeavesPool P.Pool pool.old pool.new }
 {
-    let Crew {
-        feeder,
-        parties,
-        kept,
-    } = crew;
-    let Syncs { group, next } = syncs;
     match *op {
         Op::Cap { c } => {
+            let Crew {
+                feeder,
+                parties,
+                kept,
+            } = crew;
             let (feeder, parties) = resize_joined(alloc, rt, arcs, feeder, parties, c)?;
             let crew = Crew {
                 feeder,
@@ -255,42 +309,12 @@ pub(crate) fn end_line<P: Pool>(
                 kept,
             };
             let syncs = Syncs {
-                group: group + 1,
-                next,
+                group: syncs.group + 1,
+                next: syncs.next,
             };
             Ok((crew, syncs, Ok(Reply::Capped { c })))
         }
-        Op::Txg { t } => {
-            let AfterSync {
-                feeder,
-                callers,
-                came,
-            } = sync_joined(alloc, rt, arcs, feeder, parties, group, t, pool, next)?;
-            let crew = Crew {
-                feeder,
-                parties: callers,
-                kept,
-            };
-            match came {
-                Ok(synced) => {
-                    let syncs = Syncs {
-                        group: group + 1,
-                        next: synced.next,
-                    };
-                    let reply = Reply::Synced {
-                        group,
-                        blocks: synced.blocks,
-                        bytes: synced.bytes,
-                    };
-                    Ok((crew, syncs, Ok(reply)))
-                }
-                Err(SyncFault::PoolFault) => Ok((crew, syncs, Err(Ending::Sync))),
-                Err(SyncFault::PoolFull { need, left }) => {
-                    Ok((crew, syncs, Err(Ending::Full { need, left })))
-                }
-                Err(SyncFault::NoMemory) => Err(NoMemory),
-            }
-        }
+        Op::Txg { t } => txg_line(alloc, rt, arcs, crew, t, syncs, pool),
         Op::Read { .. } | Op::Hold { .. } | Op::Drop { .. } | Op::Feed => unreachable!(),
         Op::Get { .. } | Op::Put { .. } | Op::Patch { .. } | Op::Pin { .. } | Op::Unpin { .. } => {
             unreachable!()
