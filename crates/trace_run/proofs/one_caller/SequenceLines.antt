@@ -27,7 +27,7 @@ use Rattle.trace_run.specs.Deeds.{events_of_cell, events_there}
 use Rattle.trace_run.specs.DeviceReads.{AsksFor, LineAsks}
 use Rattle.trace_run.specs.Effects.{calls_of, effect_of}
 use Rattle.trace_run.specs.Lines.{is_of_caller}
-use Rattle.trace_run.specs.ObjectLines.{CameFrom, OnObject, brought_there, events_of_bringing, on_object}
+use Rattle.trace_run.specs.ObjectLines.{CameFrom, OnObject, TellsBrought, brought_there, events_of_bringing, on_object}
 use Rattle.trace_run.specs.ObjectReplies.{ActsFor, AnswersObject, BringsAt}
 use Rattle.trace_run.specs.Objects.{Brought, Line, Loaded, Nothing, Refused, Work, own_event}
 use Rattle.trace_run.specs.Openings.{opening_map, openings_of}
@@ -124,10 +124,12 @@ module _ {P D E : Type 0} (pools : Ghosts P) (devices : Devices D) (given : Devi
         by-cell : (F : ℕ → List Mapping → List CellEvent → Type 0) → F x.cell.value.limit x.cell.value.opening x.cell.value.history → F g.dbuf_bytes (opening_map trace i) (cells i)
         by-cell F f = subst (λ (z : ℕ × List Mapping × List CellEvent). F z.0 z.1 z.2) (λ k. (began.0 k, began.1 k, history k)) f
 
-        does-object : AsksFor devices (size_brought l.work.brought) (effect_with l.work.brought l.reply) a.outside.device b.outside.device → b.kept ≡ a.kept → DoesObject pools given trace on.at on.tick l (standing a cells) (standing b (with_line cells l))
-        does-object asked kept = record {
+        does-object : AsksFor devices (size_brought l.work.brought) (effect_with l.work.brought l.reply) a.outside.device b.outside.device
+            → TellsBrought (pools.told a.outside.pool) l.work.brought → b.kept ≡ a.kept → DoesObject pools given trace on.at on.tick l (standing a cells) (standing b (with_line cells l))
+        does-object asked told kept = record {
           brought = by-cell (λ limit opening h. BringsAt (pools.size a.outside.pool) on.at (outline_after limit opening h) l.work.brought) x.brought;
           found = found-in a.party l.work.brought x.found;
+          range = told;
           acts = subst (λ (n : ℕ). ActsFor g n (own_event l.op) (outline_after g.dbuf_bytes (opening_map trace i) (cells i)) l.work l.reply) number
               (by-cell (λ limit opening h. ActsFor g a.party.number (own_event l.op) (outline_after limit opening h) l.work l.reply) x.acts);
           answer = by-cell (λ limit opening h. AnswersObject (pools.size a.outside.pool) (pools.told a.outside.pool) limit opening h l.work.brought l.op l.reply) x.answer;
@@ -147,7 +149,7 @@ module _ {P D E : Type 0} (pools : Ghosts P) (devices : Devices D) (given : Devi
       left-object on is d =
           let x = subst (λ (o : Option OnObject). IfSome o (λ on. DidAlone pools devices g a.outside b.outside a.party b.party on l)) is (d.1.alone all) in
           record {
-            does = subst (λ (o : Option OnObject). DoesOwn pools given trace o l (standing a cells) (standing b (with_line cells l))) (sym is) (does-object on x d.1.asked d.0);
+            does = subst (λ (o : Option OnObject). DoesOwn pools given trace o l (standing a cells) (standing b (with_line cells l))) (sym is) (does-object on x d.1.asked d.1.range d.0);
             has_all = x.all;
             sees_then = λ j in_range. x.cells j in_range ∙ (ap (λ (s : List Seen). s ++ lines_of (events_of_cell j l.work.noted)) (sees j in_range) ∙ sym (lines-both (cells j) (events_of_cell j l.work.noted)));
           }

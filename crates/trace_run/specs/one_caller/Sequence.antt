@@ -45,7 +45,7 @@ use Rattle.trace_run.specs.KeptBlocks.{holds_in}
 use Rattle.trace_run.specs.KeptReads.{KeptRead}
 use Rattle.trace_run.specs.Lines.{caller_of, shard_of_line}
 use Rattle.trace_run.specs.Meeting.{resizes_in}
-use Rattle.trace_run.specs.ObjectLines.{OnObject, brought_there, events_of_bringing, on_object}
+use Rattle.trace_run.specs.ObjectLines.{OnObject, TellsBrought, brought_there, events_of_bringing, on_object}
 use Rattle.trace_run.specs.ObjectReplies.{ActsFor, AnswersObject, BringsAt}
 use Rattle.trace_run.specs.Objects.{Brought, Line, Loaded, Nothing, Refused, Work, no_work, own_event}
 use Rattle.trace_run.specs.Openings.{opening_map}
@@ -157,10 +157,11 @@ module _ {P D : Type 0} (pools : Ghosts P) (devices : Devices D) (trace : Trace)
         (λ old new. (calls : List Call) × AsksLine devices trace.blocks (shard_behind trace.config from.shards (shard_of_line trace.config.shards trace.blocks l.op)) l.op l.reply calls old new) from.device to.device
 
   -- A line on an object: what was brought for it, what it did and what it is answered go by its block's cell, by the shards and by what the pool tells, as it found them. It makes the events for what was brought,
-  -- and then these with the cell's number, which are its acts.
+  -- and then these with the cell's number, which are its acts. Where the pool gave a block, the bytes that it tells there are of its pointer.
   pub record DoesObject (at : Oid) (tick : ℕ) (l : Line) (from to : Sequence P D) : Type 0 where
     pub brought : BringsAt (pools.size from.pool.pool) at (outline_behind trace from.cells (cell_of trace.config.cells at)) l.work.brought
     pub found : IsFoundIn trace.config (shard_behind trace.config from.shards) l.work.brought
+    pub range : TellsBrought (pools.told from.pool.pool) l.work.brought
     pub acts : ActsFor trace.config 0 (own_event l.op) (outline_behind trace from.cells (cell_of trace.config.cells at)) l.work l.reply
     pub answer : AnswersObject (pools.size from.pool.pool) (pools.told from.pool.pool) trace.config.dbuf_bytes (opening_map trace (cell_of trace.config.cells at)) (from.cells (cell_of trace.config.cells at)) l.work.brought l.op l.reply
     pub made : List Event
