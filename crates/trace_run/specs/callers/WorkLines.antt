@@ -119,7 +119,7 @@ size_brought Nothing = 0
 size_brought (Loaded ptr from) = ptr.key.size
 size_brought (Refused ptr) = ptr.key.size
 
--- what was brought for a line that was answered so asked the device for, by what the shards were: for nothing, nothing
+-- What the device was asked for to bring this, where the line was answered so and the shards were these. Where nothing was brought it was not asked.
 abbrev pub AsksBrought : {D : Type 0} → DeviceGhosts D → Config → (ℕ → PlainShard) → Brought → Reply → (old new : D) → Type 0
 AsksBrought devices g s Nothing reply old new = new ≡ old
 AsksBrought devices g s (Loaded ptr from) reply old new = Asks devices (s (shard_of g.shards ptr.key)) ptr (Answered from) old new
