@@ -38,7 +38,7 @@ use Rattle.trace_run.specs.declared.kept_blocks.KeptBlock.{KeptBlock}
 use Rattle.trace_run.specs.Effects.{calls_from}
 use Rattle.trace_run.specs.KeptBlocks.{AllQuiet, IsOwnedBy, Stands, held_key, listed_all, listed_for, times}
 use Rattle.trace_run.specs.KeptReads.{kept_read}
-use Rattle.trace_run.specs.Read.{IsMismatch}
+use Rattle.trace_run.specs.Read.{IsFromPool, IsMismatch, TellsBlock}
 use Rattle.trace_run.specs.Reads.{CallsFor, DidAnswer, DidFail, DidRead, IsCauseOf, IsGot, now_of}
 use Rattle.arc_table.specs.Seen.{AddsAll, HasAll}
 use Rattle.trace_run.specs.Making.{HasSeenItsEvents}
@@ -204,6 +204,20 @@ module _ {P : Type 0} (pools : PoolGhosts P) (ptr : Ptr) (old new : P) where
   held-calls hold served.L2 d = d.0
   held-calls hold served.Pool d = (new, d.call, refl)
   held-calls hold served.Past d = absurd d
+
+  -- where the pool gave the block, the bytes that it tells in the key's range are of the pointer
+  pub block-told : (bytes : List ℕ) → GivesBlock pools ptr old new bytes → TellsBlock (pools.told old) ptr
+  block-told bytes d = go (pools.told old) d.told
+    where
+      go : (image : Option (List ℕ)) → IfSome image (λ told. bytes ≡ range_of told ptr.key) → TellsBlock image ptr
+      go None told = tt
+      go (Some image) told = subst (λ (l : List ℕ). IsOf l ptr) told d.of
+
+  pub held-told : (hold : Hold) (from : Served) → PoolDid pools ptr old new (Ok (gave.Held hold from)) → IsFromPool from → TellsBlock (pools.told old) ptr
+  held-told hold served.Hit d came = absurd came
+  held-told hold served.L2 d came = absurd came
+  held-told hold served.Pool d came = block-told hold.block.value d
+  held-told hold served.Past d came = absurd d
 
   pub past-got : (block : ℕ) (kept : Kept) → held_key kept ≡ None → GivesBlock pools ptr old new (bytes_of kept)
       → IsGot (pools.told old) block ptr (record { served = served.Past; read = record { block = block; kept = kept } })

@@ -39,7 +39,7 @@ acts_of_dropping n block kept GivenBack = acts_of_drop n (oldest_key block kept)
 acts_of_dropping n block kept (PoolRefused call) = []
 acts_of_dropping n block kept NoEffect = []
 
--- An operation with its reply, where its caller keeps these reads. Of one on an object nothing is said yet, since none is done.
+-- An operation with its reply, where its caller keeps these reads. The acts of one on an object and of a sync don't follow from the reply: `acts_with` of WorkLines has them.
 abbrev pub acts_of : List Ptr → List KeptRead → Op → Reply → List Act
 acts_of blocks kept (ops.Read n t x window) reply = option_map_or (λ ptr. acts_of_read n t ptr (effect_of reply)) (slice_get blocks x) []
 acts_of blocks kept (ops.Hold n t x) reply = option_map_or (λ ptr. acts_of_hold n t ptr (effect_of reply)) (slice_get blocks x) []
@@ -73,8 +73,8 @@ acts_of_drops n (read ∷ reads) = acts_of_drop n read.held ++ acts_of_drops n r
 abbrev pub acts_of_caller : List Ptr → (n : ℕ) → List Op → List Reply → List Act
 acts_of_caller blocks n ops replies = acts_of_all blocks [] ops replies ++ acts_of_drops n (kept_after_all blocks [] ops replies)
 
--- The events that the number n makes in each shard for a line: a capacity is given to every shard. A sync inserts under the cells' numbers, and a feed
--- is not done yet.
+-- The events that the number n makes in each shard for a line, the same in all: a capacity is given to every shard. A sync inserts under the cells' numbers, and a feed's events differ
+-- from shard to shard: `events_of_made` of FeedEvents has them.
 abbrev pub events_of_feeder : (n : ℕ) → Op → List Event
 events_of_feeder n (ops.Cap c) = Resize n c ∷ []
 events_of_feeder n (ops.Txg t) = []

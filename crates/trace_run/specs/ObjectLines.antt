@@ -49,7 +49,8 @@ use Rattle.trace_run.specs.MadeLines.{made_of}
 use Rattle.trace_run.specs.Objects.{AnswersKey, AnswersNoBlock, AnswersRange, Brought, Nothing, Loaded, Refused, acts_of_bringing, loads_of}
 use Rattle.trace_run.specs.one_caller.Access.{AsksPool, MayComeFrom, access_of, events_of_answered, events_of_refused, held_by_access}
 use Rattle.trace_run.specs.one_caller.Asking.{Asks}
-use Rattle.trace_run.specs.Reads.{IsRefused, access_now, now_of}
+use Rattle.trace_run.specs.Read.{IsFromPool, TellsBlock}
+use Rattle.trace_run.specs.Reads.{CameFromPool, IsRefused, access_now, now_of}
 
 -- ---- the block's cell
 
@@ -72,10 +73,11 @@ pub record FindsCell (g : Config) (i : ℕ) (cell : OnHeap) (p q : PartyPlace) :
 
 module _ {P D : Type 0} (pools : PoolGhosts P) (devices : DeviceGhosts D) (g : Config) (p : PartyPlace) (before now : Outside P D) where
   -- The reads for a pointer that came to this, whose key names a block of the pool. What a party that has every number asked the device for follows from the
-  -- shard.
+  -- shard. Where the pool gave the bytes, those that it tells in the key's range are of the pointer.
   pub record SpentOnRead (ptr : Ptr) (e : Effect) : Type 0 where
     pub valid : IsValid (pools.size before.pool) ptr.key
     pub calls : MakesCalls pools (calls_of e) before.pool now.pool
+    pub range : CameFromPool e → TellsBlock (pools.told before.pool) ptr
     pub asked : AsksFor devices ptr.key.size e before.device now.device
     pub asks : HasAll p → Asks devices (now_of g (shard_of g.shards ptr.key) p) ptr e before.device now.device
 
@@ -90,6 +92,12 @@ abbrev pub CameFrom : Config → PartyPlace → Brought → Type 0
 CameFrom g p Nothing = Unit {0}
 CameFrom g p (Loaded ptr from) = MayComeFrom (access_now g ptr p) from
 CameFrom g p (Refused ptr) = AsksPool (access_now g ptr p)
+
+-- where the pool gave a block, the bytes that it tells in the key's range are of the block's pointer
+abbrev pub TellsBrought : (image : Option (List ℕ)) → Brought → Type 0
+TellsBrought image Nothing = Unit {0}
+TellsBrought image (Loaded ptr from) = IsFromPool from → TellsBlock image ptr
+TellsBrought image (Refused ptr) = Unit {0}
 
 -- ---- the events of shards
 

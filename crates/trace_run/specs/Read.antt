@@ -13,6 +13,10 @@ IsFromPool served.L2 = ⊥
 IsFromPool served.Pool = Unit {0}
 IsFromPool served.Past = Unit {0}
 
+-- where a pool tells its bytes, those in the pointer's range are of the pointer
+abbrev pub TellsBlock : (image : Option (List ℕ)) → Ptr → Type 0
+TellsBlock image ptr = IfSome image (λ told. IsOf (range_of told ptr.key) ptr)
+
 -- The bytes that a read gives are of the pointer. Over a pool that tells its bytes they are those in the key's range, where they came from
 -- there in this call. Wherever they came from, a plain read gives the same ones if it gives any, or two contents have one digest.
 pub record IsReadOf (image : Option (List ℕ)) (ptr : Ptr) (from : Served) (bytes : List ℕ) : Type 0 where

@@ -1,4 +1,4 @@
-//! The run of a trace with one caller over the shared cache.
+//! The run of a trace with one caller over the shared cache, whose lines are reads, holds, drops and capacities.
 ghost use Rattle.std.specs.Prelude.{◌≡◌, ℕ, [], IfOk, List, None, false, map};
 ghost use Rattle.arc_lists.specs.Adapting.{IsCapacity};
 ghost use Rattle.arc_table.specs.Geometry.{parties_of};

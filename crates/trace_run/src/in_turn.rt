@@ -28,7 +28,7 @@ ghost use Rattle.trace_run.specs.callers.GroupRun.{RanTogether};
 ghost use Rattle.trace_run.specs.callers.Groups.{MaySync};
 ghost use Rattle.trace_run.specs.callers.Together.{BetweenGroups, between_groups, report_of_closed};
 ghost use Rattle.trace_run.specs.one_caller.Alone.{histories_of};
-ghost use Rattle.trace_run.specs.one_caller.InTurn.{AreDoneInTurn, AreInTurn, AreOwn, DidOtherLine, DidOwnLines, RunsInTurn, StepsInTurn};
+ghost use Rattle.trace_run.specs.one_caller.InTurn.{AreDoneInTurn, AreOwn, DidOtherLine, DidOwnLines, HaveComeInTurn, RunsInTurn, StepsInTurn};
 ghost use Rattle.trace_run.specs.one_caller.LinesGone.{CameAlone};
 ghost use Rattle.trace_run.specs.one_caller.OverShards.{AreNamed};
 
@@ -256,10 +256,10 @@ fn next_lines<P: Pool, D: CacheDev, G: Gate>(
     requires rows { arcs.now.row.parties ≡ parties_of arcs.now.config }
     requires device { MayBeFed D.CacheDev arcs.now.config device.old }
     requires between { (start : BetweenGroups P) × (restored : List Restored) × (was : Device D) × (work : RunWork)
-        × AreInTurn arcs.now restored P.Pool D.CacheDev trace.now start (between_groups pool.old syncs.group syncs.next) was device.old replies.old.items work crew }
+        × HaveComeInTurn arcs.now restored P.Pool D.CacheDev trace.now start (between_groups pool.old syncs.group syncs.next) was device.old replies.old.items work crew }
     requires more { vec_len replies.old < length trace.now.ops }
     ensures did { (start : BetweenGroups P) (restored : List Restored) (was : Device D) (work : RunWork)
-        → AreInTurn arcs.now restored P.Pool D.CacheDev trace.now start (between_groups pool.old syncs.group syncs.next) was device.old replies.old.items work crew
+        → HaveComeInTurn arcs.now restored P.Pool D.CacheDev trace.now start (between_groups pool.old syncs.group syncs.next) was device.old replies.old.items work crew
         → IfOk result (λ done. StepsInTurn arcs.now restored P.Pool D.CacheDev trace.now start (between_groups pool.new done.1.group done.1.next) was device.new replies.old.items replies.new.items done.2 done.0) }
     ensures later { IfOk result (λ done. syncs.next ≤ done.1.next) }
     ensures pool { LeavesFront P.Pool syncs.next pool.old pool.new }
@@ -316,9 +316,9 @@ fn all_in_turn<P: Pool, D: CacheDev, G: Gate>(
     requires rows { arcs.now.row.parties ≡ parties_of arcs.now.config }
     requires device { MayBeFed D.CacheDev arcs.now.config device.old }
     requires between { (restored : List Restored) × (work : RunWork)
-        × AreInTurn arcs.now restored P.Pool D.CacheDev trace.now (between_groups pool.old syncs.group syncs.next) (between_groups pool.old syncs.group syncs.next) device.old device.old [] work crew }
+        × HaveComeInTurn arcs.now restored P.Pool D.CacheDev trace.now (between_groups pool.old syncs.group syncs.next) (between_groups pool.old syncs.group syncs.next) device.old device.old [] work crew }
     ensures done { (restored : List Restored) (work : RunWork)
-        → AreInTurn arcs.now restored P.Pool D.CacheDev trace.now (between_groups pool.old syncs.group syncs.next) (between_groups pool.old syncs.group syncs.next) device.old device.old [] work crew
+        → HaveComeInTurn arcs.now restored P.Pool D.CacheDev trace.now (between_groups pool.old syncs.group syncs.next) (between_groups pool.old syncs.group syncs.next) device.old device.old [] work crew
         → IfOk result (λ came. (all : RunWork) × AreDoneInTurn arcs.now restored P.Pool D.CacheDev trace.now (between_groups pool.old syncs.group syncs.next) pool.new device.old device.new came.ending came.replies.items all came.crew) }
     ensures pool { LeavesFront P.Pool syncs.next pool.old pool.new }
     ensures still { has_sync trace.now.ops ≡ false → LeavesPool P.Pool pool.old pool.new }

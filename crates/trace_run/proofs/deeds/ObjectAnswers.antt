@@ -65,7 +65,7 @@ use Rattle.trace_run.specs.Objects.{Brought, Nothing, Loaded, Refused, loads_of}
 use Rattle.trace_run.specs.Reads.{IsRefused, now_of}
 use Rattle.trace_run.proofs.DeviceReadLemmas.{DeviceDid}
 use Rattle.trace_run.proofs.DeviceReadLemmas as device
-use Rattle.trace_run.proofs.GetLemmas.{PoolDid, fault-calls, fault-cause, held-calls, ok-valid, pool-did}
+use Rattle.trace_run.proofs.GetLemmas.{PoolDid, block-told, fault-calls, fault-cause, held-calls, held-told, ok-valid, pool-did}
 use Rattle.trace_run.proofs.one_caller.AskingLemmas as asking
 use Rattle.trace_run.proofs.deeds.BringDone.{BringDone, bring-then, bytes-refuse, nothing-brought, pool-refuses, read-brings, source_of_read}
 use Rattle.trace_run.proofs.deeds.CellFound.{LeavesSeen, found-before, found-behind, seen-done, turn-finds, turn-placed}
@@ -320,12 +320,14 @@ module _ (g : Config) (valid : IsConfig g) (at : Oid) (t : ℕ) (p q : PartyPlac
       spent-loaded (gave.Held hold from) answer = record {
         valid = valid-of (gave.Held hold from) answer;
         calls = held-calls pools ptr before.pool now.pool hold from (pool-of (Ok (gave.Held hold from)) answer);
+        range = held-told pools ptr before.pool now.pool hold from (pool-of (Ok (gave.Held hold from)) answer);
         asked = device-of (Ok (gave.Held hold from)) answer;
         asks = asked-alone (Ok (gave.Held hold from)) answer;
       }
       spent-loaded (gave.Past block kept) answer = record {
         valid = valid-of (gave.Past block kept) answer;
         calls = (now.pool, (pool-of (Ok (gave.Past block kept)) answer).call, refl);
+        range = λ came. block-told pools ptr before.pool now.pool block.value (pool-of (Ok (gave.Past block kept)) answer);
         asked = device-of (Ok (gave.Past block kept)) answer;
         asks = asked-alone (Ok (gave.Past block kept)) answer;
       }
@@ -334,6 +336,7 @@ module _ (g : Config) (valid : IsConfig g) (at : Oid) (t : ℕ) (p q : PartyPlac
       spent-failed answer = record {
         valid = (pool-of (Err fault.PoolFault) answer).1;
         calls = fault-calls pools ptr before.pool now.pool fault.PoolFault (pool-of (Err fault.PoolFault) answer);
+        range = λ came. absurd came;
         asked = device-of (Err fault.PoolFault) answer;
         asks = asked-alone (Err fault.PoolFault) answer;
       }
@@ -342,6 +345,7 @@ module _ (g : Config) (valid : IsConfig g) (at : Oid) (t : ℕ) (p q : PartyPlac
       spent-others found answer = record {
         valid = (pool-of (Err (fault.Mismatch found)) answer).1;
         calls = fault-calls pools ptr before.pool now.pool (fault.Mismatch found) (pool-of (Err (fault.Mismatch found)) answer);
+        range = λ came. absurd came;
         asked = device-of (Err (fault.Mismatch found)) answer;
         asks = asked-alone (Err (fault.Mismatch found)) answer;
       }

@@ -32,7 +32,7 @@ use Rattle.trace_run.specs.DeviceReads.{AsksFor}
 use Rattle.trace_run.specs.Effects.{Effect, NoEffect, calls_of, effect_of}
 use Rattle.trace_run.specs.KeptReads.{KeptRead}
 use Rattle.trace_run.specs.Lines.{is_of_caller}
-use Rattle.trace_run.specs.ObjectLines.{Did, DidGet, DidNot, DidObjectLine, DidPatch, DidPin, DidPut, DidUnpin, DidWork, IsBrought, RefusesBlock, RefusesBytes, RefusesUnpin, SpentOn, its_number, on_object}
+use Rattle.trace_run.specs.ObjectLines.{Did, DidGet, DidNot, DidObjectLine, DidPatch, DidPin, DidPut, DidUnpin, DidWork, IsBrought, RefusesBlock, RefusesBytes, RefusesUnpin, SpentOn, TellsBrought, its_number, on_object}
 use Rattle.trace_run.specs.ObjectReplies.{ActsFor, BringsAt, LooksFrom, RefusesAt}
 use Rattle.trace_run.specs.Objects.{Brought, IsAnswered, IsRefusedWith, Loaded, NotesNothing, NotesOwn, Nothing, Refused, Work, own_event}
 use Rattle.trace_run.proofs.deeds.ObjectReplies.{By, From, bad-key, brings-so, dbufs-so, did-work, found_outline, from-done, from-not, inside-it, made-of, no-block, past-it, same-pin, to-bring, tried}
@@ -62,18 +62,20 @@ module _ {P D : Type 0} (pools : PoolGhosts P) (devices : DeviceGhosts D) (g : C
   -- what was read for what was brought: nothing, where the reply tells of no read
   record Spent (brought : Brought) (reply : Reply) : Type 0 where
     pub calls : MakesCalls pools (calls_of (effect_with brought reply)) before.pool now.pool
+    pub range : TellsBrought (pools.told before.pool) brought
     pub asked : AsksFor devices (size_brought brought) (effect_with brought reply) before.device now.device
 
   none-spent : (reply : Reply) → effect_of reply ≡ NoEffect → now ≡ before → Spent Nothing reply
   none-spent reply quiet same = record {
     calls = subst (λ (e : Effect). MakesCalls pools (calls_of e) before.pool now.pool) (sym quiet) (ap (λ (x : Outside P D). x.pool) same);
+    range = tt;
     asked = subst (λ (e : Effect). AsksFor devices 0 e before.device now.device) (sym quiet) (ap (λ (x : Outside P D). x.device) same);
   }
 
   spent-on : (brought : Brought) (reply : Reply) → effect_of reply ≡ NoEffect → SpentOn pools devices g p before now brought reply → Spent brought reply
   spent-on Nothing reply quiet s = none-spent reply quiet s
-  spent-on (Loaded ptr from) reply quiet s = record { calls = s.calls; asked = s.asked }
-  spent-on (Refused ptr) reply quiet s = record { calls = s.calls; asked = s.asked }
+  spent-on (Loaded ptr from) reply quiet s = record { calls = s.calls; range = s.range; asked = s.asked }
+  spent-on (Refused ptr) reply quiet s = record { calls = s.calls; range = tt; asked = s.asked }
 
   -- what a line that has this work was answered, by the cell that was found
   abbrev AnswersSo : Op → Reply → Work → Type 0
@@ -99,6 +101,7 @@ module _ {P D : Type 0} (pools : PoolGhosts P) (devices : DeviceGhosts D) (g : C
       joined = d.work.joined;
       keeps = d.work.keeps;
       calls = spent.calls;
+      range = spent.range;
       asked = spent.asked;
       pool = pool;
       device = device;
@@ -121,6 +124,7 @@ module _ {P D : Type 0} (pools : PoolGhosts P) (devices : DeviceGhosts D) (g : C
       joined = w.joined;
       keeps = w.keeps;
       calls = spent.calls;
+      range = spent.range;
       asked = spent.asked;
       pool = pool;
       device = device;
@@ -185,7 +189,7 @@ module _ {P D : Type 0} (pools : PoolGhosts P) (devices : DeviceGhosts D) (g : C
           (
             (r.0, refl),
             d.work,
-            record { calls = r.2.calls; asked = r.2.asked },
+            record { calls = r.2.calls; range = tt; asked = r.2.asked },
             refused-from (Refused r.0) _ refusals.PoolFault so d (brings, r.2.valid) (r.0, refl, inside-it at (outline_in d.cell) (found_outline d.cell) same last d.why.0, brings, d.why.2) r.2,
           ),
         )
@@ -197,7 +201,7 @@ module _ {P D : Type 0} (pools : PoolGhosts P) (devices : DeviceGhosts D) (g : C
           (
             (r.0, refl),
             d.work,
-            record { calls = r.2.calls; asked = r.2.asked },
+            record { calls = r.2.calls; range = tt; asked = r.2.asked },
             refused-from (Refused r.0) _ (refusals.Mismatch found) so d (brings, r.2.valid) (r.0, refl, inside-it at (outline_in d.cell) (found_outline d.cell) same last d.why.0, brings, d.why.2) r.2,
           ),
         )

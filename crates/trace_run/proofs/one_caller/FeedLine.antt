@@ -1,4 +1,4 @@
--- One caller's line `feed`: it is the feed of the shards as the sequence has them, and the parties stand level behind it.
+-- One caller's line `feed`: it is the feed of the shards as they were between the lines, and the parties stand level behind it.
 use Rattle.std.proofs.Common.{◌≡◌, ℕ, ◌≤◌, List, [], ◌∷◌, ◌++◌, length, Ok, refl, sym, ap, ◌∙◌, subst, arith, append-nil}
 use Rattle.std.specs.Prelude.{Option}
 use Rattle.std.specs.List.{AllByRecursion}
@@ -30,7 +30,7 @@ use Rattle.trace_run.specs.Feeds.{AreFedReplies, AsksOfFeeds, FeedDone, IsIdleFe
 use Rattle.trace_run.specs.Objects.{no_work}
 use Rattle.trace_run.specs.callers.Together.{BetweenGroups}
 use Rattle.trace_run.specs.one_caller.InTurn.{DidFeed, GoInSequence, IsOfTrace, StandAt}
-use Rattle.trace_run.specs.one_caller.Sequence.{DoesFeed, IsFeedHere, Sequence, shard_behind}
+use Rattle.trace_run.specs.one_caller.Sequence.{BetweenLines, DoesFeed, IsFeedHere, shard_behind}
 use Rattle.trace_run.proofs.feeds.FedLemmas.{asks-of}
 use Rattle.trace_run.proofs.feeds.FeedLemmas.{few-fed}
 use Rattle.trace_run.proofs.one_caller.StandLemmas.{front-there, stand-behind}
@@ -75,14 +75,14 @@ module _ {P D : Type 0} (cache : Cache) (pools : Ghosts P) (devices : Devices D)
   abbrev feeds : List FeedDone
   feeds = done.fed.feeds
 
-  module _ (trace : Trace) (of : IsOfTrace cache trace old) (at : Sequence P D) (device_is : at.device ≡ lent_in was) (stood : StandAt trace.config at old) where
+  module _ (trace : Trace) (of : IsOfTrace cache trace old) (at : BetweenLines P D) (device_is : at.device ≡ lent_in was) (stood : StandAt trace.config at old) where
     stands : StandAt cache.config at old
     stands = subst (λ (g : Config). StandAt g at old) (sym of.config) stood
 
-    abbrev next : Sequence P D
-    next = record { pool = at.pool; device = lent_in now; shards = λ shard. at.shards shard ++ events_of_made trace.config shard feeds; cells = at.cells; kept = at.kept }
+    abbrev next : BetweenLines P D
+    next = record { outside = at.outside; device = lent_in now; shards = λ shard. at.shards shard ++ events_of_made trace.config shard feeds; cells = at.cells; kept = at.kept }
 
-    -- the feeder has seen of each shard just what the sequence has
+    -- the feeder has seen of each shard just what was done there by then
     sees : (shard : ℕ) → seen_of cache.config shard done.joined ≡ at.shards shard
     sees shard = done.met shard ∙ front-there cache (λ i. events_of_made cache.config i feeds) old new done.made at stands shard
 

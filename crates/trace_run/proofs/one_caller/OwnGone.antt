@@ -39,7 +39,7 @@ use Rattle.trace_run.specs.Reads.{now_of}
 use Rattle.trace_run.specs.callers.Callers.{CameTo}
 use Rattle.trace_run.specs.callers.WorkLines.{AtWork, DidAll, DidAlone, DidLineBy, DidOps, NotesFor, NotesLine}
 use Rattle.trace_run.specs.one_caller.LinesGone.{CameAlone, Gone, IsThere}
-use Rattle.trace_run.specs.one_caller.Sequence.{Sequence}
+use Rattle.trace_run.specs.one_caller.Sequence.{BetweenLines}
 use Rattle.trace_run.proofs.DeviceReadLemmas.{none-came}
 use Rattle.trace_run.proofs.WorkLemmas.{AreHis, all-asked, by-number, came-with, his-lines, plainly}
 use Rattle.trace_run.proofs.callers.CallerActLemmas.{caller-is, own-lines}
@@ -173,7 +173,7 @@ module _ {P D : Type 0} (pools : Ghosts P) (devices : Devices D) (g : Config) (b
     came-alone : (rs : List Reply) (was now : Option E)
         → (came : CameTo pools given g blocks ops_his rs (plainly pools devices g blocks a) (plainly pools devices g blocks b) was now) → DidAll pools devices g blocks came.lines a b
         → ((trace : Trace) → g ≡ trace.config → blocks ≡ trace.blocks → AllByRecursion (λ (l : Line). is_of_caller 0 l.op ≡ true) came.lines → HasAll a.party → a.party.number ≡ 0 → a.party.own.about.openings ≡ openings_of trace
-        → (at : Sequence P E) → IsThere g at a.party a.kept a.outside.pool was → Gone pools given trace g came.lines at b.party b.kept b.outside.pool now)
+        → (at : BetweenLines P E) → IsThere g at a.party a.kept a.outside.pool was → Gone pools given trace g came.lines at b.party b.kept b.outside.pool now)
         → CameAlone pools given g blocks ops_his rs (plainly pools devices g blocks a) (plainly pools devices g blocks b) was now
     came-alone rs was now came did goes =
         let his : AreHis pools devices g blocks a.party.number came.lines = his-lines pools devices g blocks a.party.number ops_his rs came.lines (own-lines a.party.number all) came.are in

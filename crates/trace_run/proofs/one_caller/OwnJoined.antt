@@ -44,7 +44,7 @@ use Rattle.trace_run.specs.callers.Together.{BetweenGroups, between_groups}
 use Rattle.trace_run.specs.callers.WorkLines.{AnswersLines, AreLinesOf, IsWorkOf, LooksLines}
 use Rattle.trace_run.specs.one_caller.InTurn.{AreOwn, DidOwnLines, GoInSequence, IsOfTrace, StandAt}
 use Rattle.trace_run.specs.one_caller.LinesGone.{CameAlone, Gone, IsThere}
-use Rattle.trace_run.specs.one_caller.Sequence.{Sequence}
+use Rattle.trace_run.specs.one_caller.Sequence.{BetweenLines}
 use Rattle.trace_run.proofs.CellsLeft.{CellsGrow}
 use Rattle.trace_run.proofs.callers.MeetLemmas.{HaveJoined, joined_of, left_alone, parted-front, parted-then, parted_from, starts-then}
 use Rattle.trace_run.proofs.callers.TurnLemmas.{joined, joined-all, joined-stands, left-stands}
@@ -160,8 +160,8 @@ module _ (cache : Cache) (one : cache.config.callers ≡ 1) (rows : cache.row.pa
       keeps : KeepsCells g p r
       keeps = keeps-then g p q r met-keeps gone.came.cells
 
-      -- where all stood at the sequence, the party that both met in did so too
-      met-there : (old : Crew OnHeap) → old.feeder ≡ o → old.parties.items ≡ p ∷ [] → old.kept.items ≡ had ∷ [] → (s : Sequence P D) → StandAt g s old → s.pool.pool ≡ before → s.device ≡ was → IsThere g s q (map read_of had) before was
+      -- where all stood there, the party that both met in did so too
+      met-there : (old : Crew OnHeap) → old.feeder ≡ o → old.parties.items ≡ p ∷ [] → old.kept.items ≡ had ∷ [] → (s : BetweenLines P D) → StandAt g s old → s.outside.pool ≡ before → s.device ≡ was → IsThere g s q (map read_of had) before was
       met-there old feeder parties kept s stand pool device =
           let level : AllByRecursion (IsLevel g stand.lines) (o ∷ p ∷ []) = subst (AllByRecursion (IsLevel g stand.lines)) (λ i. feeder i ∷ parties i) stand.level in
           let entries : AllByRecursion (SeesEntries g (λ i. lines_of (s.cells i))) (o ∷ p ∷ []) = subst (AllByRecursion (SeesEntries g (λ i. lines_of (s.cells i)))) (λ i. feeder i ∷ parties i) stand.entries in
@@ -174,7 +174,7 @@ module _ (cache : Cache) (one : cache.config.callers ≡ 1) (rows : cache.row.pa
           }
 
       -- and behind the lines all stand where these led
-      last-stand : (new : Crew OnHeap) → new.feeder ≡ parted_from r o → new.parties.items ≡ left_alone r ∷ [] → new.kept.items ≡ l ∷ [] → (s : Sequence P D) → IsThere g s r (map read_of l) after now → StandAt g s new
+      last-stand : (new : Crew OnHeap) → new.feeder ≡ parted_from r o → new.parties.items ≡ left_alone r ∷ [] → new.kept.items ≡ l ∷ [] → (s : BetweenLines P D) → IsThere g s r (map read_of l) after now → StandAt g s new
       last-stand new feeder parties kept s there = record {
         lines = seen;
         events = there.shards;

@@ -37,7 +37,7 @@ use Rattle.trace_run.specs.Syncing.{SyncsJoined, inserts_in, inserts_noted, line
 use Rattle.trace_run.specs.callers.Groups.{DidCap}
 use Rattle.trace_run.specs.callers.Together.{BetweenGroups, StoppedAt, StopsSync, SyncsGroup, between_groups}
 use Rattle.trace_run.specs.one_caller.InTurn.{GoInSequence, IsOfTrace, StandAt}
-use Rattle.trace_run.specs.one_caller.Sequence.{EndsThere, GoesOn, LeavesSynced, Sequence, StopsThere, TakesCells, TheseCells}
+use Rattle.trace_run.specs.one_caller.Sequence.{BetweenLines, EndsThere, GoesOn, LeavesSynced, StopsThere, TakesCells, TheseCells}
 use Rattle.trace_run.proofs.CellLemmas.{opening-at, opening-same}
 use Rattle.trace_run.proofs.callers.EndLineLemmas.{Halted, JustThese, StoppedAs, SyncedThese, Turned}
 use Rattle.trace_run.proofs.callers.MeetLemmas.{parted-level}
@@ -59,7 +59,7 @@ there cells i below = elim (slice_get_cases cells i).1 [
   | inr out ↦ absurd (omega (arith, below, out.0))
 ]
 
-module _ {P D : Type 0} (trace : Trace) (cache : Cache) (config : cache.config ≡ trace.config) (old new : Crew OnHeap) (kept : new.kept.items ≡ old.kept.items) (at : Sequence P D) (stands : StandAt cache.config at old) where
+module _ {P D : Type 0} (trace : Trace) (cache : Cache) (config : cache.config ≡ trace.config) (old new : Crew OnHeap) (kept : new.kept.items ≡ old.kept.items) (at : BetweenLines P D) (stands : StandAt cache.config at old) where
   abbrev g : Config
   g = cache.config
 
@@ -72,9 +72,9 @@ module _ {P D : Type 0} (trace : Trace) (cache : Cache) (config : cache.config �
   -- ---- a capacity
 
   module _ (c : ℕ) (r : Resized cache c old.feeder old.parties.items new.feeder new.parties.items) where
-    abbrev capped : Sequence P D
+    abbrev capped : BetweenLines P D
     capped = record {
-      pool = between_groups at.pool.pool (suc at.pool.group) at.pool.next;
+      outside = between_groups at.outside.pool (suc at.outside.group) at.outside.next;
       device = at.device;
       shards = λ shard. at.shards shard ++ resizes_in trace.config.shards trace.config.callers c shard;
       cells = at.cells;
@@ -102,9 +102,9 @@ module _ {P D : Type 0} (trace : Trace) (cache : Cache) (config : cache.config �
     abbrev j : SyncsJoined cache t old.feeder old.parties.items new.feeder new.parties.items these.cells these.xs
     j = these.joined
 
-    abbrev synced : BetweenGroups P → Sequence P D
+    abbrev synced : BetweenGroups P → BetweenLines P D
     synced pool = record {
-      pool = pool;
+      outside = pool;
       device = at.device;
       shards = λ shard. at.shards shard ++ inserts_noted trace.config t work.noted shard (at.shards shard);
       cells = λ i. at.cells i ++ events_of_cell i work.noted;
@@ -173,10 +173,10 @@ module _ {P D : Type 0} (trace : Trace) (cache : Cache) (config : cache.config �
 
 module _ {P D : Type 0} (cache : Cache) (pools : Ghosts P) (devices : Devices D) (trace : Trace) where
   -- where the parties stood is told of the trace's configuration
-  of-cache : (at : Sequence P D) (crew : Crew OnHeap) → cache.config ≡ trace.config → StandAt trace.config at crew → StandAt cache.config at crew
+  of-cache : (at : BetweenLines P D) (crew : Crew OnHeap) → cache.config ≡ trace.config → StandAt trace.config at crew → StandAt cache.config at crew
   of-cache at crew config = subst (λ (h : Config). StandAt h at crew) (sym config)
 
-  of-trace : (at : Sequence P D) (crew : Crew OnHeap) → cache.config ≡ trace.config → StandAt cache.config at crew → StandAt trace.config at crew
+  of-trace : (at : BetweenLines P D) (crew : Crew OnHeap) → cache.config ≡ trace.config → StandAt cache.config at crew → StandAt trace.config at crew
   of-trace at crew config = subst (λ (h : Config). StandAt h at crew) config
 
   module _ (openings : List (List ℕ)) (before : List Line) (op : Op) (reply : Reply) (from to : BetweenGroups P) (old new : Crew OnHeap) (turn : Turned cache pools openings before op reply from to old new) (is : IsOfTrace cache trace old) (lent : Option D) where
@@ -190,7 +190,7 @@ module _ {P D : Type 0} (cache : Cache) (pools : Ghosts P) (devices : Devices D)
     cap-goes c replied did at pool device stood =
         let stands = of-cache at old is.config stood in
         let next = capped trace cache is.config old new kept-then at stands c did.resized in
-        let stays : next.pool ≡ to = ap (λ (b : BetweenGroups P). between_groups b.pool (suc b.group) b.next) pool ∙ sym did.stays in (
+        let stays : next.outside ≡ to = ap (λ (b : BetweenGroups P). between_groups b.pool (suc b.group) b.next) pool ∙ sym did.stays in (
           next,
           stays,
           device,
@@ -215,7 +215,7 @@ module _ {P D : Type 0} (cache : Cache) (pools : Ghosts P) (devices : Devices D)
             (
               refl,
               record {
-                synced = sync-as pools trace.config (JustThese turn.work these.cells these.xs) (TheseCells trace at.cells) (these-cells trace cache is.config old new kept-then at stands is.knows.0 t turn.work these) [] t reply turn.work at.pool to group;
+                synced = sync-as pools trace.config (JustThese turn.work these.cells these.xs) (TheseCells trace at.cells) (these-cells trace cache is.config old new kept-then at stands is.knows.0 t turn.work these) [] t reply turn.work at.outside to group;
                 leaves = synced-leaves trace cache is.config old new kept-then at stands is.knows.0 t turn.work these to;
               },
             ),
@@ -232,15 +232,15 @@ module _ {P D : Type 0} (cache : Cache) (pools : Ghosts P) (devices : Devices D)
         go (inr sync) = subst Goes (sym sync.1) (sync-goes sync.0 sync.2 sync.3)
 
   module _ (replies : List Reply) (done : RunWork) (ending : Ending) (from : BetweenGroups P) (after : P) (old new : Crew OnHeap) (h : Halted cache pools trace replies done ending from after old new) (is : IsOfTrace cache trace old) (lent : Option D)
-      (at : Sequence P D) (pool : at.pool ≡ from) (device : at.device ≡ lent) (stood : StandAt trace.config at old) where
+      (at : BetweenLines P D) (pool : at.outside ≡ from) (device : at.device ≡ lent) (stood : StandAt trace.config at old) where
     kept-there : new.kept.items ≡ old.kept.items
     kept-there = h.so.made.kept
 
     stands-there : StandAt cache.config at old
     stands-there = of-cache at old is.config stood
 
-    abbrev last : Sequence P D
-    last = synced trace cache is.config old new kept-there at stands-there is.knows.0 h.tick h.work h.these at.pool
+    abbrev last : BetweenLines P D
+    last = synced trace cache is.config old new kept-there at stands-there is.knows.0 h.tick h.work h.these at.outside
 
     abbrev Just : List Line → ℕ → Work → List OnHeap → List SyncItem → Type 0
     Just = JustThese h.work h.these.cells h.these.xs
@@ -249,14 +249,14 @@ module _ {P D : Type 0} (cache : Cache) (pools : Ghosts P) (devices : Devices D)
     stops-there : (why : SyncFault) (s : StopsSync pools cache.config Just trace replies [] h.work why from after) → s.behind.tick ≡ h.tick → StopsThere pools devices trace replies h.work why at after last
     stops-there why s tick =
         let there = subst (λ (x : Config × BetweenGroups P). StopsSync pools x.0 Just trace replies [] h.work why x.1 after) (λ i. (is.config i, sym pool i)) s in
-        let same = stops-sync-as pools trace.config Just (TheseCells trace at.cells) (these-cells trace cache is.config old new kept-there at stands-there is.knows.0 h.tick h.work h.these) trace replies [] h.work why at.pool after there in
+        let same = stops-sync-as pools trace.config Just (TheseCells trace at.cells) (these-cells trace cache is.config old new kept-there at stands-there is.knows.0 h.tick h.work h.these) trace replies [] h.work why at.outside after there in
         record {
           stops = record { behind = s.behind; answer = same.answer };
-          leaves = subst (λ (t : ℕ). LeavesSynced trace.config t h.work at last) (sym tick) (synced-leaves trace cache is.config old new kept-there at stands-there is.knows.0 h.tick h.work h.these at.pool);
+          leaves = subst (λ (t : ℕ). LeavesSynced trace.config t h.work at last) (sym tick) (synced-leaves trace cache is.config old new kept-there at stands-there is.knows.0 h.tick h.work h.these at.outside);
         }
 
-    pub halted-goes : (last : Sequence P D) × (last.device ≡ lent) × StandAt trace.config last new × EndsThere pools devices trace replies h.work ending at after last
-    halted-goes = (last, device, of-trace last new is.config (synced-stands trace cache is.config old new kept-there at stands-there is.knows.0 h.tick h.work h.these at.pool), go ending h.is h.ticks)
+    pub halted-goes : (last : BetweenLines P D) × (last.device ≡ lent) × StandAt trace.config last new × EndsThere pools devices trace replies h.work ending at after last
+    halted-goes = (last, device, of-trace last new is.config (synced-stands trace cache is.config old new kept-there at stands-there is.knows.0 h.tick h.work h.these at.outside), go ending h.is h.ticks)
       where
         go : (e : Ending) → StoppedAs pools cache.config Just trace replies h.work e from after → ((t : ℕ) → StoppedAt trace replies e t → t ≡ h.tick) → EndsThere pools devices trace replies h.work e at after last
         go Whole never ticks = absurd never

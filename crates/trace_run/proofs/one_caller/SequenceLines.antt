@@ -27,7 +27,7 @@ use Rattle.trace_run.specs.Deeds.{events_of_cell, events_there}
 use Rattle.trace_run.specs.DeviceReads.{AsksFor, LineAsks}
 use Rattle.trace_run.specs.Effects.{calls_of, effect_of}
 use Rattle.trace_run.specs.Lines.{is_of_caller}
-use Rattle.trace_run.specs.ObjectLines.{CameFrom, OnObject, brought_there, events_of_bringing, on_object}
+use Rattle.trace_run.specs.ObjectLines.{CameFrom, OnObject, TellsBrought, brought_there, events_of_bringing, on_object}
 use Rattle.trace_run.specs.ObjectReplies.{ActsFor, AnswersObject, BringsAt}
 use Rattle.trace_run.specs.Objects.{Brought, Line, Loaded, Nothing, Refused, Work, own_event}
 use Rattle.trace_run.specs.Openings.{opening_map, openings_of}
@@ -37,7 +37,7 @@ use Rattle.trace_run.specs.callers.Together.{between_groups}
 use Rattle.trace_run.specs.callers.WorkLines.{AsksBrought, AtWork, DidAlone, DidAll, DidLineBy, effect_with, size_brought}
 use Rattle.trace_run.specs.one_caller.Asking.{AsksLine}
 use Rattle.trace_run.specs.one_caller.LinesGone.{Gone, IsThere}
-use Rattle.trace_run.specs.one_caller.Sequence.{AreInSequence, Does, DoesLine, DoesObject, DoesOwn, IsFoundIn, NotFromDevice, OfLent, Sequence}
+use Rattle.trace_run.specs.one_caller.Sequence.{AreInSequence, BetweenLines, DoesAnyLine, DoesLine, DoesObject, DoesOwn, IfLent, IsFoundIn, NotFromDevice}
 use Rattle.trace_run.proofs.CapLemmas.{his-some}
 use Rattle.trace_run.proofs.CellLemmas.{opening-at, opening-same}
 use Rattle.trace_run.proofs.DeviceReadLemmas.{none-asked}
@@ -57,14 +57,14 @@ module _ {P D E : Type 0} (pools : Ghosts P) (devices : Devices D) (given : Devi
   -- what lines asked of the device over which they were run they asked of the one that was lent
   record Lends : Type 0 where
     pub plain : (op : Op) (reply : Reply) (s : PlainShard) (a b : D) → LineAsks devices blocks op reply a b → (calls : List Call) × AsksLine devices blocks s op reply calls a b
-        → OfLent (NotFromDevice (effect_of reply)) (λ old new. (calls : List Call) × AsksLine given blocks s op reply calls old new) (lend a) (lend b)
+        → IfLent (NotFromDevice (effect_of reply)) (λ old new. (calls : List Call) × AsksLine given blocks s op reply calls old new) (lend a) (lend b)
     pub object : (brought : Brought) (reply : Reply) (s : ℕ → PlainShard) (a b : D) → AsksFor devices (size_brought brought) (effect_with brought reply) a b → AsksBrought devices g s brought reply a b
-        → OfLent (NotFromDevice (effect_with brought reply)) (AsksBrought given g s brought reply) (lend a) (lend b)
+        → IfLent (NotFromDevice (effect_with brought reply)) (AsksBrought given g s brought reply) (lend a) (lend b)
 
   module _ (lends : Lends) (valid : IsConfig g) (group next : ℕ) where
-    -- the sequence where this caller is, whose party has seen so much of cells
-    abbrev standing : AtWork P D → (ℕ → List CellEvent) → Sequence P E
-    standing a cells = record { pool = between_groups a.outside.pool group next; device = lend a.outside.device; shards = λ shard. seen_of g shard a.party; cells = cells; kept = a.kept }
+    -- where this caller is, whose party has seen so much of cells
+    abbrev standing : AtWork P D → (ℕ → List CellEvent) → BetweenLines P E
+    standing a cells = record { outside = between_groups a.outside.pool group next; device = lend a.outside.device; shards = λ shard. seen_of g shard a.party; cells = cells; kept = a.kept }
 
     abbrev SeesThese : AtWork P D → (ℕ → List CellEvent) → Type 0
     SeesThese a cells = (i : ℕ) → IsCell g i → front_of i a.party.own.seen ≡ lines_of (cells i)
@@ -120,14 +120,16 @@ module _ {P D E : Type 0} (pools : Ghosts P) (devices : Devices D) (given : Devi
             (x.opening ∙ (ap (λ (os : List (List ℕ)). slice_index_or os i []) openings
             ∙ (opening-at (λ k. opening_numbers g.dbuf_bytes (opening_map trace k)) 0 g.cells i (cell-there g valid on.at) ∙ ap (λ k. opening_numbers g.dbuf_bytes (opening_map trace k)) (let z : 0 + i ≡ i = omega arith in z))))
 
-        -- what is so by the cell that was found is so by the sequence
+        -- what is so by the cell that was found is so by what the lines before did there
         by-cell : (F : ℕ → List Mapping → List CellEvent → Type 0) → F x.cell.value.limit x.cell.value.opening x.cell.value.history → F g.dbuf_bytes (opening_map trace i) (cells i)
         by-cell F f = subst (λ (z : ℕ × List Mapping × List CellEvent). F z.0 z.1 z.2) (λ k. (began.0 k, began.1 k, history k)) f
 
-        does-object : AsksFor devices (size_brought l.work.brought) (effect_with l.work.brought l.reply) a.outside.device b.outside.device → b.kept ≡ a.kept → DoesObject pools given trace on.at on.tick l (standing a cells) (standing b (with_line cells l))
-        does-object asked kept = record {
+        does-object : AsksFor devices (size_brought l.work.brought) (effect_with l.work.brought l.reply) a.outside.device b.outside.device
+            → TellsBrought (pools.told a.outside.pool) l.work.brought → b.kept ≡ a.kept → DoesObject pools given trace on.at on.tick l (standing a cells) (standing b (with_line cells l))
+        does-object asked told kept = record {
           brought = by-cell (λ limit opening h. BringsAt (pools.size a.outside.pool) on.at (outline_after limit opening h) l.work.brought) x.brought;
           found = found-in a.party l.work.brought x.found;
+          range = told;
           acts = subst (λ (n : ℕ). ActsFor g n (own_event l.op) (outline_after g.dbuf_bytes (opening_map trace i) (cells i)) l.work l.reply) number
               (by-cell (λ limit opening h. ActsFor g a.party.number (own_event l.op) (outline_after limit opening h) l.work l.reply) x.acts);
           answer = by-cell (λ limit opening h. AnswersObject (pools.size a.outside.pool) (pools.told a.outside.pool) limit opening h l.work.brought l.op l.reply) x.answer;
@@ -147,7 +149,7 @@ module _ {P D E : Type 0} (pools : Ghosts P) (devices : Devices D) (given : Devi
       left-object on is d =
           let x = subst (λ (o : Option OnObject). IfSome o (λ on. DidAlone pools devices g a.outside b.outside a.party b.party on l)) is (d.1.alone all) in
           record {
-            does = subst (λ (o : Option OnObject). DoesOwn pools given trace o l (standing a cells) (standing b (with_line cells l))) (sym is) (does-object on x d.1.asked d.0);
+            does = subst (λ (o : Option OnObject). DoesOwn pools given trace o l (standing a cells) (standing b (with_line cells l))) (sym is) (does-object on x d.1.asked d.1.range d.0);
             has_all = x.all;
             sees_then = λ j in_range. x.cells j in_range ∙ (ap (λ (s : List Seen). s ++ lines_of (events_of_cell j l.work.noted)) (sees j in_range) ∙ sym (lines-both (cells j) (events_of_cell j l.work.noted)));
           }
@@ -192,36 +194,36 @@ module _ {P D E : Type 0} (pools : Ghosts P) (devices : Devices D) (given : Devi
             [],
             [],
             refl,
-            subst (λ (o : Option ℕ). Does pools given trace o l [] (standing a cells) (standing m (with_line cells l))) (sym (caller-is 0 l.op his.0)) (refl, does-line l a m cells number his.0 all openings sees w d.1),
+            subst (λ (o : Option ℕ). DoesAnyLine pools given trace o l [] (standing a cells) (standing m (with_line cells l))) (sym (caller-is 0 l.op his.0)) (refl, does-line l a m cells number his.0 all openings sees w d.1),
             rest.3,
           ),
         )
 
-  -- from a sequence that stands there
+  -- from where the party is
   goes : Lends → IsConfig g → (ls : List Line) (a b : AtWork P D) → DidAll pools devices g blocks ls a b → AllByRecursion (λ (l : Line). is_of_caller 0 l.op ≡ true) ls → HasAll a.party → a.party.number ≡ 0
-      → a.party.own.about.openings ≡ openings_of trace → (at : Sequence P E) → IsThere g at a.party a.kept a.outside.pool (lend a.outside.device) → Gone pools given trace g ls at b.party b.kept b.outside.pool (lend b.outside.device)
+      → a.party.own.about.openings ≡ openings_of trace → (at : BetweenLines P E) → IsThere g at a.party a.kept a.outside.pool (lend a.outside.device) → Gone pools given trace g ls at b.party b.kept b.outside.pool (lend b.outside.device)
   goes lends valid ls a b d his all number openings at there =
-      let here = standing lends valid at.pool.group at.pool.next a at.cells in
+      let here = standing lends valid at.outside.group at.outside.next a at.cells in
       let is : at ≡ here = λ k. record {
-        pool = record { pool = there.pool k; group = at.pool.group; next = at.pool.next };
+        outside = record { pool = there.pool k; group = at.outside.group; next = at.outside.next };
         device = there.device k;
         shards = λ shard. sym (there.shards shard) k;
         cells = at.cells;
         kept = there.kept k;
       } in
-      let r = lead-on lends valid at.pool.group at.pool.next ls a b d his number all openings at.cells there.cells in
+      let r = lead-on lends valid at.outside.group at.outside.next ls a b d his number all openings at.cells there.cells in
       record {
-        next = standing lends valid at.pool.group at.pool.next b r.0;
+        next = standing lends valid at.outside.group at.outside.next b r.0;
         there = record { shards = λ shard. refl; cells = r.1; kept = refl; pool = refl; device = refl };
         group = refl;
         next_group = refl;
         all = r.2;
-        lines = subst (λ (x : Sequence P E). AreInSequence pools given trace ls [] x (standing lends valid at.pool.group at.pool.next b r.0)) (sym is) r.3;
+        lines = subst (λ (x : BetweenLines P E). AreInSequence pools given trace ls [] x (standing lends valid at.outside.group at.outside.next b r.0)) (sym is) r.3;
       }
 
   -- by what is the trace's
   goes-as : Lends → (h : Config) (bs : List Ptr) → IsConfig h → h ≡ g → bs ≡ blocks → (ls : List Line) (a b : AtWork P D) → DidAll pools devices h bs ls a b → AllByRecursion (λ (l : Line). is_of_caller 0 l.op ≡ true) ls → HasAll a.party
-      → a.party.number ≡ 0 → a.party.own.about.openings ≡ openings_of trace → (at : Sequence P E) → IsThere h at a.party a.kept a.outside.pool (lend a.outside.device) → Gone pools given trace h ls at b.party b.kept b.outside.pool (lend b.outside.device)
+      → a.party.number ≡ 0 → a.party.own.about.openings ≡ openings_of trace → (at : BetweenLines P E) → IsThere h at a.party a.kept a.outside.pool (lend a.outside.device) → Gone pools given trace h ls at b.party b.kept b.outside.pool (lend b.outside.device)
   goes-as lends h bs valid config is ls a b d his all number openings at there =
       subst (λ (x : Config × List Ptr). IsConfig x.0 → DidAll pools devices x.0 x.1 ls a b → IsThere x.0 at a.party a.kept a.outside.pool (lend a.outside.device) → Gone pools given trace x.0 ls at b.party b.kept b.outside.pool (lend b.outside.device))
       (λ k. (sym config k, sym is k)) (λ valid d there. goes lends valid ls a b d his all number openings at there) valid d there
@@ -229,13 +231,13 @@ module _ {P D E : Type 0} (pools : Ghosts P) (devices : Devices D) (given : Devi
 -- over the device that was given
 pub lines-over : {P D : Type 0} (pools : Ghosts P) (devices : Devices D) (trace : Trace) (g : Config) (blocks : List Ptr) → IsConfig g → g ≡ trace.config → blocks ≡ trace.blocks → (lines : List Line) (old new : AtWork P D)
     → DidAll pools devices g blocks lines old new → AllByRecursion (λ (l : Line). is_of_caller 0 l.op ≡ true) lines → HasAll old.party → old.party.number ≡ 0 → old.party.own.about.openings ≡ openings_of trace
-    → (at : Sequence P D) → IsThere g at old.party old.kept old.outside.pool (Some old.outside.device) → Gone pools devices trace g lines at new.party new.kept new.outside.pool (Some new.outside.device)
+    → (at : BetweenLines P D) → IsThere g at old.party old.kept old.outside.pool (Some old.outside.device) → Gone pools devices trace g lines at new.party new.kept new.outside.pool (Some new.outside.device)
 lines-over pools devices trace = goes-as pools devices devices trace (λ d. Some d) record { plain = λ op reply s a b asked asks. asks; object = λ brought reply s a b asked asks. asks }
 
 -- over a device without bytes, as where none was given
 pub lines-without : {P D E : Type 0} (pools : Ghosts P) (devices : Devices D) (given : Devices E) (trace : Trace) (g : Config) (blocks : List Ptr) → ((d : D) → devices.size d ≡ 0) → IsConfig g → g ≡ trace.config → blocks ≡ trace.blocks
     → (lines : List Line) (old new : AtWork P D) → DidAll pools devices g blocks lines old new → AllByRecursion (λ (l : Line). is_of_caller 0 l.op ≡ true) lines → HasAll old.party → old.party.number ≡ 0
-    → old.party.own.about.openings ≡ openings_of trace → (at : Sequence P E) → IsThere g at old.party old.kept old.outside.pool None → Gone pools given trace g lines at new.party new.kept new.outside.pool None
+    → old.party.own.about.openings ≡ openings_of trace → (at : BetweenLines P E) → IsThere g at old.party old.kept old.outside.pool None → Gone pools given trace g lines at new.party new.kept new.outside.pool None
 lines-without pools devices given trace g blocks empty = goes-as pools devices given trace (λ d. None) record {
   plain = λ op reply s a b asked asks. none-asked devices trace.blocks _ (effect_of reply) a b (empty a) asked;
   object = λ brought reply s a b asked asks. none-asked devices trace.blocks _ (effect_with brought reply) a b (empty a) asked;

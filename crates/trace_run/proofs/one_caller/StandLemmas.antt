@@ -1,4 +1,4 @@
--- Where the parties stand level at a sequence, and the feeder makes events while the others have joined it, they stand level behind these.
+-- Where the parties stand level between two lines, and the feeder makes events while the others have joined it, they stand level behind these.
 use Rattle.std.proofs.Common.{◌≡◌, ℕ, List, [], ◌∷◌, ◌++◌, sym, ap, ◌∙◌, subst}
 use Rattle.std.specs.Prelude.{map}
 use Rattle.std.specs.List.{AllByRecursion}
@@ -18,7 +18,7 @@ use Rattle.trace_run.specs.KeptReads.{KeptRead}
 use Rattle.trace_run.specs.Meeting.{MadeJoined, SeesEntries}
 use Rattle.trace_run.specs.Syncing.{lines_of}
 use Rattle.trace_run.specs.one_caller.InTurn.{StandAt}
-use Rattle.trace_run.specs.one_caller.Sequence.{Sequence}
+use Rattle.trace_run.specs.one_caller.Sequence.{BetweenLines}
 use Rattle.trace_run.proofs.callers.MeetLemmas.{parted-level}
 
 -- the same of each cell, where it is told in other words
@@ -26,13 +26,13 @@ see-so : {C : Type 0} (g : Config) (was now : ℕ → List Line) → ((i : ℕ) 
 see-so g was now same [] all = tt
 see-so g was now same (x ∷ xs) all = ((λ i in_range. all.0 i in_range ∙ sym (same i in_range)), see-so g was now same xs all.1)
 
-module _ {P D : Type 0} (cache : Cache) (more : (shard : ℕ) → List Event) (old new : Crew OnHeap) (made : MadeJoined cache more old.feeder old.parties.items new.feeder new.parties.items) (at : Sequence P D) (stands : StandAt cache.config at old) where
-  -- what all had done before is what the sequence has
+module _ {P D : Type 0} (cache : Cache) (more : (shard : ℕ) → List Event) (old new : Crew OnHeap) (made : MadeJoined cache more old.feeder old.parties.items new.feeder new.parties.items) (at : BetweenLines P D) (stands : StandAt cache.config at old) where
+  -- what all had done before is what was done there by then
   pub front-there : (shard : ℕ) → made.front shard ≡ at.shards shard
   front-there shard = made.same stands.lines stands.level.0 stands.level.1 shard ∙ stands.events shard
 
-  -- a sequence with these events more, and with the same cells and kept reads
-  pub stand-behind : (next : Sequence P D) → ((shard : ℕ) → next.shards shard ≡ at.shards shard ++ more shard) → ((i : ℕ) → IsCell cache.config i → next.cells i ≡ at.cells i) → next.kept ≡ at.kept → new.kept.items ≡ old.kept.items → StandAt cache.config next new
+  -- with these events more, and with the same cells and kept reads
+  pub stand-behind : (next : BetweenLines P D) → ((shard : ℕ) → next.shards shard ≡ at.shards shard ++ more shard) → ((i : ℕ) → IsCell cache.config i → next.cells i ≡ at.cells i) → next.kept ≡ at.kept → new.kept.items ≡ old.kept.items → StandAt cache.config next new
   stand-behind next shards cells reads kept = record {
     lines = made.lines;
     events = λ shard. sym (ap events_in (made.level shard)) ∙ (made.seen shard ∙ (ap (λ (es : List Event). es ++ more shard) (front-there shard) ∙ sym (shards shard)));

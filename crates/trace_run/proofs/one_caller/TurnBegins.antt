@@ -24,8 +24,8 @@ use Rattle.trace_run.specs.Restores.{restores_in}
 use Rattle.trace_run.specs.RunWork.{plain_work}
 use Rattle.trace_run.specs.callers.Groups.{AreBetween, KeepNothing, MaySync}
 use Rattle.trace_run.specs.callers.Together.{BetweenGroups, IsFirstPlace}
-use Rattle.trace_run.specs.one_caller.InTurn.{AreInTurn, StandAt}
-use Rattle.trace_run.specs.one_caller.Sequence.{Sequence, begins_so}
+use Rattle.trace_run.specs.one_caller.InTurn.{HaveComeInTurn, StandAt}
+use Rattle.trace_run.specs.one_caller.Sequence.{BetweenLines, begins_so}
 use Rattle.trace_run.proofs.callers.GroupsLemmas.{all-opened}
 use Rattle.trace_run.proofs.callers.MeetLemmas.{all-before}
 use Rattle.trace_run.proofs.callers.StepLemmas.{between-begun}
@@ -47,8 +47,8 @@ module _ {P D : Type 0} (cache : Cache) (restored : List Restored) (pools : Ghos
     (is : whole ≡ old.parties.items ++ old.feeder ∷ []) (none : KeepNothing old.kept.items) (many : length old.kept.items ≡ length old.parties.items)
     (made : MadeJoined cache (restores_in cache.config restored) old.feeder old.parties.items new.feeder new.parties.items) (kept : new.kept.items ≡ old.kept.items) (knows : AllKnow (openings_of trace) whole) where
   -- before the restores
-  abbrev nothing : Sequence P D
-  nothing = record { pool = start; device = lent_in was; shards = λ shard. []; cells = λ i. []; kept = [] }
+  abbrev nothing : BetweenLines P D
+  nothing = record { outside = start; device = lent_in was; shards = λ shard. []; cells = λ i. []; kept = [] }
 
   stands-new : StandAt cache.config nothing old
   stands-new =
@@ -62,7 +62,7 @@ module _ {P D : Type 0} (cache : Cache) (restored : List Restored) (pools : Ghos
   all-knew : AllKnow (openings_of trace) old.parties.items × Knows (openings_of trace) old.feeder
   all-knew = all-before (Knows (openings_of trace)) old.parties.items old.feeder (subst (AllKnow (openings_of trace)) is knows)
 
-  pub turn-begun : IsFirstPlace (pools.size start.pool) trace.blocks start.next → MaySync pools 0 start → cache.config ≡ trace.config → AreInTurn cache restored pools devices trace start start was was [] (plain_work [] []) new
+  pub turn-begun : IsFirstPlace (pools.size start.pool) trace.blocks start.next → MaySync pools 0 start → cache.config ≡ trace.config → HaveComeInTurn cache restored pools devices trace start start was was [] (plain_work [] []) new
   turn-begun place may config =
       let between : AreBetween cache restored pools devices trace start start was was [] (plain_work [] []) new = between-begun cache restored pools devices trace start was whole old new opened is none many made kept all-knew.1 place may in
       record {

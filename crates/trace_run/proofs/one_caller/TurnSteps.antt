@@ -49,8 +49,8 @@ use Rattle.trace_run.specs.callers.Groups.{AreEndLines, DidEndLine, HaveCome, Ha
 use Rattle.trace_run.specs.callers.InOrder.{AreInGroup}
 use Rattle.trace_run.specs.callers.Together.{BetweenGroups, IsCutLast, between_groups, over_callers}
 use Rattle.trace_run.specs.callers.WorkLines.{AreLinesOf, IsWorkOf, calls_of_lines}
-use Rattle.trace_run.specs.one_caller.InTurn.{AreDoneInTurn, AreInTurn, AreOwn, DidFeed, DidOtherLine, DidOwnLines, GoInSequence, IsOfTrace, StandAt, StepsInTurn}
-use Rattle.trace_run.specs.one_caller.Sequence.{AreInSequence, Sequence, begins_so}
+use Rattle.trace_run.specs.one_caller.InTurn.{AreDoneInTurn, AreOwn, DidFeed, DidOtherLine, DidOwnLines, GoInSequence, HaveComeInTurn, IsOfTrace, StandAt, StepsInTurn}
+use Rattle.trace_run.specs.one_caller.Sequence.{AreInSequence, BetweenLines, begins_so}
 use Rattle.trace_run.proofs.RunLemmas.{calls-faults, calls-reads}
 use Rattle.trace_run.proofs.callers.BesideLemmas.{fed-idle}
 use Rattle.trace_run.proofs.callers.EndLineLemmas.{Halted, Turned, end-halted, end-turned}
@@ -180,14 +180,14 @@ leaves-same pools a = record { size = refl; told = refl; faults = omega arith }
 -- ---- one step
 
 module _ {P D : Type 0} (cache : Cache) (restored : List Restored) (pools : Ghosts P) (devices : Devices D) (trace : Trace) (start was : BetweenGroups P) (begun a : Device D) (rs : List Reply) (w : RunWork) (old : Crew OnHeap)
-    (few : length trace.ops ≤ 1000000) (config : cache.config ≡ trace.config) (one : cache.config.callers ≡ 1) (between : AreInTurn cache restored pools devices trace start was begun a rs w old) (more : length rs < length trace.ops) where
+    (few : length trace.ops ≤ 1000000) (config : cache.config ≡ trace.config) (one : cache.config.callers ≡ 1) (between : HaveComeInTurn cache restored pools devices trace start was begun a rs w old) (more : length rs < length trace.ops) where
   abbrev os : List Op
   os = take (length rs) trace.ops
 
   abbrev reached : HaveReached cache restored pools devices trace start was begun a Whole rs w old
   reached = between.reached
 
-  abbrev begins : Sequence P D
+  abbrev begins : BetweenLines P D
   begins = begins_so trace.config restored start (lent_in begun)
 
   long : length w.lines ≡ length rs
@@ -203,7 +203,7 @@ module _ {P D : Type 0} (cache : Cache) (restored : List Restored) (pools : Ghos
   stands-now = subst (λ (g : Config). StandAt g between.at old) config between.stands
 
   goes-further : (ms : List Line) (fs : List FeedDone) (to : BetweenGroups P) (b : Device D) (new : Crew OnHeap) → GoInSequence pools devices trace ms fs was to (lent_in a) (lent_in b) old new
-      → (next : Sequence P D) × (next.pool ≡ to) × (next.device ≡ lent_in b) × StandAt cache.config next new × AreInSequence pools devices trace (w.lines ++ ms) (w.feeds ++ fs) begins next
+      → (next : BetweenLines P D) × (next.outside ≡ to) × (next.device ≡ lent_in b) × StandAt cache.config next new × AreInSequence pools devices trace (w.lines ++ ms) (w.feeds ++ fs) begins next
   goes-further ms fs to b new goes =
       let (next, pool, device, stands, lines) = goes between.at between.pool between.device stands-now in
       (next, pool, device, subst (λ (g : Config). StandAt g next new) (sym config) stands, sequence-append pools devices trace w.lines ms w.feeds fs begins between.at next between.lines lines)
@@ -234,10 +234,10 @@ module _ {P D : Type 0} (cache : Cache) (restored : List Restored) (pools : Ghos
         have-come-by cache restored pools devices (pools.size start.pool) (pools.told start.pool) start.next trace.blocks os qs rs ss w was.pool old new reached.come between.goes_on ms are fits worked feeds fed told_more ends own reached.first
         reached.counted.keeps.size reached.counted.keeps.told
 
-    further : (next : Sequence P D) × (next.pool ≡ between_groups to was.group was.next) × (next.device ≡ lent_in b) × StandAt cache.config next new × AreInSequence pools devices trace (w.lines ++ ms) (w.feeds ++ feeds) begins next
+    further : (next : BetweenLines P D) × (next.outside ≡ between_groups to was.group was.next) × (next.device ≡ lent_in b) × StandAt cache.config next new × AreInSequence pools devices trace (w.lines ++ ms) (w.feeds ++ feeds) begins next
     further = goes-further ms feeds (between_groups to was.group was.next) b new goes
 
-    pub turn-more : AreInTurn cache restored pools devices trace start (between_groups to was.group was.next) begun b (rs ++ ss) done new
+    pub turn-more : HaveComeInTurn cache restored pools devices trace start (between_groups to was.group was.next) begun b (rs ++ ss) done new
     turn-more =
         let (next, pool, device, stands, lines) = further in
         record {
@@ -341,7 +341,7 @@ module _ {P D : Type 0} (cache : Cache) (restored : List Restored) (pools : Ghos
         let is : over_callers cache.config.callers (failed ms) ≡ count_by is_pool_fault (replies_of ms) = ap (λ (n : ℕ). over_callers n (failed ms)) one ∙ (only-one (failed ms) ∙ ap (λ (ls : List Line). count_by is_pool_fault (replies_of ls)) whole) in
         omega (arith, count, is, lines-failed cache.config 0 ms own_lines.worked.fits)
 
-    pub own-more : AreInTurn cache restored pools devices trace start (between_groups to was.group was.next) begun b (rs ++ ss) (with_lines w ms []) new
+    pub own-more : HaveComeInTurn cache restored pools devices trace start (between_groups to was.group was.next) begun b (rs ++ ss) (with_lines w ms []) new
     own-more =
         turn-more qs ss to b new ms own_lines.are (own-fits cache.config ms mine own_lines.worked.fits) own-worked [] (parted-more dbuf_meanings devices cache own_lines.seen old.feeder new.feeder idle own_lines.parted) own-told own-ends
         (parted-so-far dbuf_meanings devices cache own_lines.seen old.feeder new.feeder idle own_lines.parted restored w.feeds begun a b lent reached.fed) (own-group cache.config.callers qs (omega (arith, one)) own) inside
@@ -411,7 +411,7 @@ module _ {P D : Type 0} (cache : Cache) (restored : List Restored) (pools : Ghos
     taken-one : take (suc (length rs)) trace.ops ≡ os ++ ops.Feed ∷ []
     taken-one = take-suc trace.ops (length rs) ops.Feed room ∙ ap (λ (o : Op). os ++ o ∷ []) (get_or_from_slice_get trace.ops (length rs) ops.Feed ops.Feed at)
 
-    pub fed-more-turn : AreInTurn cache restored pools devices trace start was begun b (rs ++ f.reply ∷ []) (with_lines w (fed-line ∷ []) f.fed.feeds) new
+    pub fed-more-turn : HaveComeInTurn cache restored pools devices trace start was begun b (rs ++ f.reply ∷ []) (with_lines w (fed-line ∷ []) f.fed.feeds) new
     fed-more-turn =
         turn-more (ops.Feed ∷ []) (f.reply ∷ []) was.pool b new (fed-line ∷ []) (refl, refl, tt) (refl, tt) feed-worked f.fed.feeds
         (joined-more dbuf_meanings devices cache f.fed.feeds a b old.feeder new.feeder f.joined f.worked old.parties.items new.parties.items idle.number f.fed.made f.made f.met f.parted f.again) feed-told
@@ -456,13 +456,13 @@ module _ {P D : Type 0} (cache : Cache) (restored : List Restored) (pools : Ghos
           (λ full. let none = over-zero cache.config.callers (asked (l ∷ [])) (λ n below. ap (λ (ls : List Line). length (calls_of_lines ls)) (not-read n)) in let same = turn.reads in omega (arith, none, same))
           (λ full. let none = over-zero cache.config.callers (failed (l ∷ [])) (λ n below. ap (λ (ls : List Line). count_by is_pool_fault (replies_of ls)) (not-read n)) in let same = turn.faults in omega (arith, none, same))
 
-      further-end : (next : Sequence P D) × (next.pool ≡ fin) × (next.device ≡ lent_in a) × StandAt cache.config next last × AreInSequence pools devices trace (w.lines ++ l ∷ []) (w.feeds ++ []) begins next
+      further-end : (next : BetweenLines P D) × (next.outside ≡ fin) × (next.device ≡ lent_in a) × StandAt cache.config next last × AreInSequence pools devices trace (w.lines ++ l ∷ []) (w.feeds ++ []) begins next
       further-end = goes-further (l ∷ []) [] fin a last (turned-goes cache pools devices trace (openings_of trace) w.lines op reply was fin old last turn of-trace (lent_in a))
 
       end-knows : AllKnow (openings_of trace) (last.feeder ∷ last.parties.items)
       end-knows = (ap (λ (x : About). x.openings) turn.so.made.about ∙ between.knows.0, parted-know cache (openings_of trace) turn.so.made.lines old.parties.items last.parties.items turn.so.made.parted between.knows.1)
 
-      pub ended-turn : AreInTurn cache restored pools devices trace start fin begun a (rs ++ reply ∷ []) (with_end w l) last
+      pub ended-turn : HaveComeInTurn cache restored pools devices trace start fin begun a (rs ++ reply ∷ []) (with_end w l) last
       ended-turn = let (next, pool, device, stands, lines) = further-end in record {
         reached = record {
           few = omega (arith, all-long, room-here);
@@ -534,7 +534,7 @@ module _ {P D : Type 0} (cache : Cache) (restored : List Restored) (pools : Ghos
   step-own qs ss all to b new own did keeps lent inside here any is =
       let same = (lines-long qs ss did.lines did.are).0 in (
         with_lines w did.lines [],
-        subst (λ (x : List Reply). AreInTurn cache restored pools devices trace start (between_groups to was.group was.next) begun b x (with_lines w did.lines []) new) (sym is) (own-more qs ss to b new own did keeps lent inside here),
+        subst (λ (x : List Reply). HaveComeInTurn cache restored pools devices trace start (between_groups to was.group was.next) begun b x (with_lines w did.lines []) new) (sym is) (own-more qs ss to b new own did keeps lent inside here),
         omega (arith, any, same, ap length is, length-append rs ss),
       )
 
@@ -547,14 +547,14 @@ module _ {P D : Type 0} (cache : Cache) (restored : List Restored) (pools : Ghos
         let same : all ≡ rs ++ f.reply ∷ [] = is ∙ ap (λ (r : Reply). rs ++ r ∷ []) (sym (ok-same f.reply reply (sym f.answer ∙ told))) in
         let work : RunWork = with_lines w (record { op = ops.Feed; reply = f.reply; work = no_work } ∷ []) f.fed.feeds in (
           work,
-          subst (λ (x : List Reply × BetweenGroups P). AreInTurn cache restored pools devices trace start x.1 begun b x.0 work last) (λ i. (sym same i, sym f.stays i)) (fed-more-turn (at ∙ ap (λ (o : Op). Some o) feed.0) fin b last came f),
+          subst (λ (x : List Reply × BetweenGroups P). HaveComeInTurn cache restored pools devices trace start x.1 begun b x.0 work last) (λ i. (sym same i, sym f.stays i)) (fed-more-turn (at ∙ ap (λ (o : Op). Some o) feed.0) fin b last came f),
           omega (arith, ap length same, length-append rs (f.reply ∷ [])),
         )
     | inr end ↦
         let ended = subst (DidEndLine cache pools op was fin old last) told end.0 in
         let turn = end-turned cache pools (openings_of trace) w.lines was fin old last told-now reached.knows ended.kept (length rs) between.may_sync op reply ended in (
           with_end w (record { op = op; reply = reply; work = turn.work }),
-          subst (λ (x : List Reply × Device D). AreInTurn cache restored pools devices trace start fin begun x.1 x.0 (with_end w (record { op = op; reply = reply; work = turn.work })) last) (λ i. (sym is i, sym end.1 i)) (ended-turn op at last fin reply turn),
+          subst (λ (x : List Reply × Device D). HaveComeInTurn cache restored pools devices trace start fin begun x.1 x.0 (with_end w (record { op = op; reply = reply; work = turn.work })) last) (λ i. (sym is i, sym end.1 i)) (ended-turn op at last fin reply turn),
           omega (arith, ap length is, length-append rs (reply ∷ [])),
         )
   ]
@@ -573,7 +573,7 @@ module _ {P D : Type 0} (cache : Cache) (restored : List Restored) (pools : Ghos
 -- ---- all steps
 
 pub all-in-turn : {P D : Type 0} (cache : Cache) (restored : List Restored) (pools : Ghosts P) (devices : Devices D) (trace : Trace) (start after : BetweenGroups P) (begun is : Device D) (replies : List Reply) (w : RunWork) (crew : Crew OnHeap)
-    → AreInTurn cache restored pools devices trace start after begun is replies w crew → length trace.ops ≤ length replies → AreDoneInTurn cache restored pools devices trace start after.pool begun is Whole replies w crew
+    → HaveComeInTurn cache restored pools devices trace start after begun is replies w crew → length trace.ops ≤ length replies → AreDoneInTurn cache restored pools devices trace start after.pool begun is Whole replies w crew
 all-in-turn {P} cache restored pools devices trace start after begun is replies w crew between all = record {
   done = record { now = after; reached = between.reached; ended = (between.goes_on, omega (arith, between.reached.few, all), refl); last = λ t never. absurd never };
   at = between.at;
@@ -588,7 +588,7 @@ all-in-turn {P} cache restored pools devices trace start after begun is replies 
 -- what a step says where the lines go on, and where they don't
 module _ {P D : Type 0} (cache : Cache) (restored : List Restored) (pools : Ghosts P) (devices : Devices D) (trace : Trace) (start after : BetweenGroups P) (begun is : Device D) (replied replies : List Reply) (crew : Crew OnHeap) where
   pub turn-stepped : (ending : Ending) → goes_on ending ≡ true → StepsInTurn cache restored pools devices trace start after begun is replied replies ending crew
-      → (work : RunWork) × AreInTurn cache restored pools devices trace start after begun is replies work crew × (length replied < length replies)
+      → (work : RunWork) × HaveComeInTurn cache restored pools devices trace start after begun is replies work crew × (length replied < length replies)
   turn-stepped Whole on step = step
   turn-stepped Fork on step = absurd (false≢true on)
   turn-stepped Sync on step = absurd (false≢true on)

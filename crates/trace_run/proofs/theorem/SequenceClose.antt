@@ -32,7 +32,7 @@ use Rattle.trace_run.specs.callers.Groups.{HaveCome}
 use Rattle.trace_run.specs.one_caller.Alone.{histories_of}
 use Rattle.trace_run.specs.one_caller.InTurn.{StandAt}
 use Rattle.trace_run.specs.one_caller.OneCaller.{events_of_drops}
-use Rattle.trace_run.specs.one_caller.Sequence.{ClosesThere, Sequence}
+use Rattle.trace_run.specs.one_caller.Sequence.{BetweenLines, ClosesThere}
 use Rattle.trace_run.proofs.BeginLemmas.{counted-off}
 use Rattle.trace_run.proofs.CellLemmas.{get-of}
 use Rattle.trace_run.proofs.deeds.ClosedDeeds.{entries-read}
@@ -47,7 +47,7 @@ one-drops g shard kept (k ∷ j ∷ ks) one are = absurd (omega (arith, one))
 
 module _ {P D : Type 0} (cache : Cache) (valid : IsConfig cache.config) (restored : List Restored) (len : ℕ) (image : Option (List ℕ)) (place : ℕ) (blocks : List Ptr) (os more : List Op) (rs : List Reply) (work : RunWork) (crew : Crew OnHeap)
     (come : HaveCome cache restored len image place blocks os rs work crew) (closed : Ended OnHeap) (h : HaveClosed dbuf_meanings cache crew closed)
-    (trace : Trace) (config : cache.config ≡ trace.config) (one : cache.config.callers ≡ 1) (knows : Knows (openings_of trace) crew.feeder) (at : Sequence P D) (stands : StandAt cache.config at crew) where
+    (trace : Trace) (config : cache.config ≡ trace.config) (one : cache.config.callers ≡ 1) (knows : Knows (openings_of trace) crew.feeder) (at : BetweenLines P D) (stands : StandAt cache.config at crew) where
   abbrev g : Config
   g = cache.config
 

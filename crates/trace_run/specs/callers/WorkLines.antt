@@ -35,7 +35,7 @@ use Rattle.trace_run.specs.Effects.{Effect, Answered, calls_of, effect_of}
 use Rattle.trace_run.specs.KeptReads.{KeptRead}
 use Rattle.trace_run.specs.DeviceReads.{AsksFor, LineAsks, size_asked}
 use Rattle.trace_run.specs.Lines.{shard_of_line}
-use Rattle.trace_run.specs.ObjectLines.{CameFrom, DidObjectLine, OnObject, brought_there, cell_lines, events_of_bringing, on_object}
+use Rattle.trace_run.specs.ObjectLines.{CameFrom, DidObjectLine, OnObject, TellsBrought, brought_there, cell_lines, events_of_bringing, on_object}
 use Rattle.trace_run.specs.ObjectReplies.{ActsFor, AnswersFrom, AnswersObject, BringsAt, LooksFrom}
 use Rattle.trace_run.specs.Objects.{Brought, GoesTogether, Line, Loaded, NotesNothing, NotesOwn, Nothing, OwnEvent, Refused, Work, acts_of_bringing, no_work, own_event}
 use Rattle.trace_run.specs.one_caller.Asking.{Asks, AsksLine}
@@ -119,7 +119,7 @@ size_brought Nothing = 0
 size_brought (Loaded ptr from) = ptr.key.size
 size_brought (Refused ptr) = ptr.key.size
 
--- what was brought for a line that was answered so asked the device for, by what the shards were: for nothing, nothing
+-- What the device was asked for to bring this, where the line was answered so and the shards were these. Where nothing was brought it was not asked.
 abbrev pub AsksBrought : {D : Type 0} → DeviceGhosts D → Config → (ℕ → PlainShard) → Brought → Reply → (old new : D) → Type 0
 AsksBrought devices g s Nothing reply old new = new ≡ old
 AsksBrought devices g s (Loaded ptr from) reply old new = Asks devices (s (shard_of g.shards ptr.key)) ptr (Answered from) old new
@@ -146,7 +146,7 @@ pub record DidAlone {P D : Type 0} (pools : PoolGhosts P) (devices : DeviceGhost
   pub asks : AsksBrought devices g (λ shard. now_of g shard p) l.work.brought l.reply before.device now.device
 
 -- The line came to this, by what the contract of its call says; it has its answer, by how its cell was found; its work fits it; its acts and its entries of cells are told; and the pool and the cache device were
--- read for what was brought, and for nothing else.
+-- read for what was brought, and for nothing else. Where the pool gave a block, the bytes that it tells there are of the block's pointer.
 pub record DidWorkLine {P D : Type 0} (pools : PoolGhosts P) (devices : DeviceGhosts D) (g : Config) (blocks : List Ptr) (kept : List KeptRead) (before now : Outside P D) (p q : PartyPlace) (l : Line) : Type 0 where
   pub came : DidObjectLine pools devices g before now p q l.op l.reply
   pub answers : IsConfig g → (did : List Act) (had : List Noted) → HasToldAll g did had p
@@ -158,6 +158,7 @@ pub record DidWorkLine {P D : Type 0} (pools : PoolGhosts P) (devices : DeviceGh
   pub joined : q.joined ≡ p.joined
   pub keeps : KeepsCells g p q
   pub calls : MakesCalls pools (calls_of (effect_with l.work.brought l.reply)) before.pool now.pool
+  pub range : TellsBrought (pools.told before.pool) l.work.brought
   pub asked : AsksFor devices (size_brought l.work.brought) (effect_with l.work.brought l.reply) before.device now.device
   pub pool : KeepsPool pools before.pool now.pool
   pub device : KeepsDevice devices before.device now.device

@@ -35,12 +35,12 @@ use Rattle.trace_run.specs.callers.Group.{HasWorked}
 use Rattle.trace_run.specs.callers.Groups.{AreDone, DidEndLine, HaveReached, MaySync}
 use Rattle.trace_run.specs.callers.Together.{AreCut, BetweenGroups, IsCutLast, StoppedAt, between_groups, reads_of_caller}
 use Rattle.trace_run.specs.callers.WorkLines.{AreLinesOf, AsksGiven, calls_of_lines}
-use Rattle.trace_run.specs.one_caller.Sequence.{AreInSequence, ClosesThere, EndsThere, Sequence, begins_so}
+use Rattle.trace_run.specs.one_caller.Sequence.{AreInSequence, BetweenLines, ClosesThere, EndsThere, begins_so}
 
 -- ---- what the parties have seen
 
--- All parties have seen of each shard and of each cell just what the sequence has, and the caller keeps its reads.
-pub record StandAt {P D : Type 0} (g : Config) (at : Sequence P D) (crew : Crew OnHeap) : Type 0 where
+-- All parties have seen of each shard and of each cell just what was done there by then, and the caller keeps these reads.
+pub record StandAt {P D : Type 0} (g : Config) (at : BetweenLines P D) (crew : Crew OnHeap) : Type 0 where
   pub lines : ℕ → List Seen
   pub events : (shard : ℕ) → events_in (lines shard) ≡ at.shards shard
   pub level : AllByRecursion (IsLevel g lines) (crew.feeder ∷ crew.parties.items)
@@ -50,8 +50,8 @@ pub record StandAt {P D : Type 0} (g : Config) (at : Sequence P D) (crew : Crew 
 -- These lines were done in sequence, with these feeds among them, from where the parties stood on: then they stand behind them.
 abbrev pub GoInSequence : {P D : Type 0} → Ghosts P → Devices D → Trace → List Line → List FeedDone → (from to : BetweenGroups P) → (was now : Option D) → (old new : Crew OnHeap) → Type 0
 GoInSequence {P} {D} pools devices trace lines feeds from to was now old new =
-    (at : Sequence P D) → at.pool ≡ from → at.device ≡ was → StandAt trace.config at old
-    → (next : Sequence P D) × (next.pool ≡ to) × (next.device ≡ now) × StandAt trace.config next new × AreInSequence pools devices trace lines feeds at next
+    (at : BetweenLines P D) → at.outside ≡ from → at.device ≡ was → StandAt trace.config at old
+    → (next : BetweenLines P D) × (next.outside ≡ to) × (next.device ≡ now) × StandAt trace.config next new × AreInSequence pools devices trace lines feeds at next
 
 -- the cache is that of the trace, and these parties know how its cells began
 pub record IsOfTrace (cache : Cache) (trace : Trace) (crew : Crew OnHeap) : Type 0 where
@@ -87,14 +87,14 @@ pub record DidOwnLines {P D : Type 0} (cache : Cache) (pools : Ghosts P) (device
 -- ---- between two lines
 
 -- What the one caller, the pool and the cache device have come to by the lines that were done.
-pub record AreInTurn {P D : Type 0} (cache : Cache) (restored : List Restored) (pools : Ghosts P) (devices : Devices D) (trace : Trace) (before now : BetweenGroups P) (was is : Device D) (replies : List Reply) (work : RunWork) (crew : Crew OnHeap) : Type 0 where
+pub record HaveComeInTurn {P D : Type 0} (cache : Cache) (restored : List Restored) (pools : Ghosts P) (devices : Devices D) (trace : Trace) (before now : BetweenGroups P) (was is : Device D) (replies : List Reply) (work : RunWork) (crew : Crew OnHeap) : Type 0 where
   pub reached : HaveReached cache restored pools devices trace before now was is Whole replies work crew
   pub goes_on : work.stopped ≡ no_work
   pub may_sync : MaySync pools (length replies) now
   -- all parties know how the cells began
   pub knows : AllKnow (openings_of trace) (crew.feeder ∷ crew.parties.items)
-  pub at : Sequence P D
-  pub pool : at.pool ≡ now
+  pub at : BetweenLines P D
+  pub pool : at.outside ≡ now
   pub device : at.device ≡ lent_in is
   pub stands : StandAt cache.config at crew
   pub lines : AreInSequence pools devices trace work.lines work.feeds (begins_so trace.config restored before (lent_in was)) at
@@ -104,9 +104,9 @@ pub record AreInTurn {P D : Type 0} (cache : Cache) (restored : List Restored) (
 -- All lines are done, or a sync stopped at the line behind the last one that was answered.
 pub record AreDoneInTurn {P D : Type 0} (cache : Cache) (restored : List Restored) (pools : Ghosts P) (devices : Devices D) (trace : Trace) (before : BetweenGroups P) (after : P) (was is : Device D) (ending : Ending) (replies : List Reply) (work : RunWork) (crew : Crew OnHeap) : Type 0 where
   pub done : AreDone cache restored pools devices trace before after was is ending replies work crew
-  pub at : Sequence P D
+  pub at : BetweenLines P D
   pub lines : AreInSequence pools devices trace work.lines work.feeds (begins_so trace.config restored before (lent_in was)) at
-  pub last : Sequence P D
+  pub last : BetweenLines P D
   pub ends : EndsThere pools devices trace replies work.stopped ending at after last
   pub device : last.device ≡ lent_in is
   pub stands : StandAt cache.config last crew
@@ -116,7 +116,7 @@ pub record AreDoneInTurn {P D : Type 0} (cache : Cache) (restored : List Restore
 -- The next lines were done, and the lines go on; or they ended so.
 abbrev pub StepsInTurn : {P D : Type 0} → Cache → List Restored → Ghosts P → Devices D → Trace → (start after : BetweenGroups P) → (was is : Device D) → (replied replies : List Reply) → Ending → Crew OnHeap → Type 0
 StepsInTurn cache restored pools devices trace start after was is replied replies Whole new =
-    (work : RunWork) × AreInTurn cache restored pools devices trace start after was is replies work new × (length replied < length replies)
+    (work : RunWork) × HaveComeInTurn cache restored pools devices trace start after was is replies work new × (length replied < length replies)
 StepsInTurn cache restored pools devices trace start after was is replied replies Fork new = (work : RunWork) × AreDoneInTurn cache restored pools devices trace start after.pool was is Fork replies work new
 StepsInTurn cache restored pools devices trace start after was is replied replies Sync new = (work : RunWork) × AreDoneInTurn cache restored pools devices trace start after.pool was is Sync replies work new
 StepsInTurn cache restored pools devices trace start after was is replied replies (Full need left) new =
@@ -149,9 +149,9 @@ DidOtherLine cache pools devices op from to was now old new came = ((op ≡ ops.
 
 -- With one caller the lines are done in sequence, on the pool and the cache device that were handed in. Where a sync stops, none behind it is done. Behind them the histories are closed, and have no other events.
 pub record RunsInTurn {P D : Type 0} (pool : Ghosts P) (device : Devices D) (before after : P) (lent back : Option D) (place : ℕ) (trace : Trace) (ending : Ending) (work : RunWork) (closed : List OnHeap) (report : Report) : Type 0 where
-  pub reached : Sequence P D
+  pub reached : BetweenLines P D
   pub lines : AreInSequence pool device trace work.lines work.feeds (begins_so trace.config (found_keys report.rebuilt) (between_groups before 1 place) lent) reached
-  pub last_line : Sequence P D
+  pub last_line : BetweenLines P D
   pub ended : EndsThere pool device trace report.replies work.stopped ending reached after last_line
   pub handed_back : last_line.device ≡ back
   pub closes : ClosesThere trace last_line work.ended closed report.histories

@@ -19,22 +19,22 @@ use Rattle.trace_run.specs.Openings.{openings_of}
 use Rattle.trace_run.specs.Syncing.{lines_of}
 use Rattle.trace_run.specs.callers.CallerLines.{At}
 use Rattle.trace_run.specs.callers.Callers.{CameTo}
-use Rattle.trace_run.specs.one_caller.Sequence.{AreInSequence, Sequence}
+use Rattle.trace_run.specs.one_caller.Sequence.{AreInSequence, BetweenLines}
 
--- The sequence stands where a party is between its lines: it has seen of each shard and of each cell just what the sequence has.
-pub record IsThere {P D : Type 0} (g : Config) (at : Sequence P D) (p : PartyPlace) (reads : List KeptRead) (now : P) (dev : Option D) : Type 0 where
+-- A party is there between its lines: it has seen of each shard and of each cell just what was done there by then.
+pub record IsThere {P D : Type 0} (g : Config) (at : BetweenLines P D) (p : PartyPlace) (reads : List KeptRead) (now : P) (dev : Option D) : Type 0 where
   pub shards : (shard : ℕ) → seen_of g shard p ≡ at.shards shard
   pub cells : (i : ℕ) → IsCell g i → front_of i p.own.seen ≡ lines_of (at.cells i)
   pub kept : at.kept ≡ reads
-  pub pool : at.pool.pool ≡ now
+  pub pool : at.outside.pool ≡ now
   pub device : at.device ≡ dev
 
 -- These lines lead in sequence from there to where the party is then, which has every number still.
-pub record Gone {P D : Type 0} (pools : Ghosts P) (devices : Devices D) (trace : Trace) (g : Config) (ls : List Line) (at : Sequence P D) (p : PartyPlace) (reads : List KeptRead) (now : P) (dev : Option D) : Type 0 where
-  pub next : Sequence P D
+pub record Gone {P D : Type 0} (pools : Ghosts P) (devices : Devices D) (trace : Trace) (g : Config) (ls : List Line) (at : BetweenLines P D) (p : PartyPlace) (reads : List KeptRead) (now : P) (dev : Option D) : Type 0 where
+  pub next : BetweenLines P D
   pub there : IsThere g next p reads now dev
-  pub group : next.pool.group ≡ at.pool.group
-  pub next_group : next.pool.next ≡ at.pool.next
+  pub group : next.outside.group ≡ at.outside.group
+  pub next_group : next.outside.next ≡ at.outside.next
   pub all : HasAll p
   pub lines : AreInSequence pools devices trace ls [] at next
 
@@ -42,6 +42,6 @@ pub record Gone {P D : Type 0} (pools : Ghosts P) (devices : Devices D) (trace :
 pub record CameAlone {P D : Type 0} (pools : Ghosts P) (devices : Devices D) (g : Config) (blocks : List Ptr) (ops_done : List Op) (replied : List Reply) (old new : At OnHeap P) (was now : Option D) : Type 0 where
   pub came : CameTo pools devices g blocks ops_done replied old new was now
   pub gone : HasAll old.party → old.party.number ≡ 0 → (trace : Trace) → g ≡ trace.config → blocks ≡ trace.blocks → old.party.own.about.openings ≡ openings_of trace
-      → (at : Sequence P D) → IsThere g at old.party old.kept old.pool was → Gone pools devices trace g came.lines at new.party new.kept new.pool now
+      → (at : BetweenLines P D) → IsThere g at old.party old.kept old.pool was → Gone pools devices trace g came.lines at new.party new.kept new.pool now
   pub others : HasAll old.party → (n : ℕ) → n ≢ old.party.number → n < parties_of g
       → (shard : ℕ) → own_moments n (moments (opening_of g) (seen_of g shard new.party)) ≡ own_moments n (moments (opening_of g) (seen_of g shard old.party))

@@ -98,8 +98,7 @@ events_of_dropping n block kept NoEffect = []
 abbrev pub only_feeder : ℕ
 only_feeder = 1
 
--- The events of an operation with this reply, where these reads are kept. Of one on an object, a feed and a sync nothing is said yet, since none is done
--- for one caller.
+-- The events of an operation with this reply, where these reads are kept. Those of a line on an object, of a feed and of a sync stand in `Sequence`.
 abbrev pub events_of : List Ptr → PlainShard → List KeptRead → Op → Reply → List Event
 events_of blocks s kept (ops.Read n t x window) reply = option_map_or (λ ptr. events_of_read n t s ptr (effect_of reply)) (slice_get blocks x) []
 events_of blocks s kept (ops.Hold n t x) reply = option_map_or (λ ptr. events_of_hold n t s ptr (effect_of reply)) (slice_get blocks x) []

@@ -120,8 +120,8 @@ reply_to_drop block kept = if is_some (oldest_kept block kept) then Dropped else
 abbrev pub no_answer : Reply
 no_answer = Refused NoMemory
 
--- The reply to an operation, where the pool answers so if it is read, and the device so. Each block of a trace is declared. An operation that is not done
--- yet has none.
+-- The reply to an operation, where the pool answers so if it is read, and the device so. Each block of a trace is declared. A line on an object, a feed and a sync have none: a trace with
+-- one of them has no plain run.
 abbrev pub reply_to : Images → List Ptr → PlainShard → List KeptRead → Contents → Op → (call device_call : Call) → Reply
 reply_to images blocks s kept contents (ops.Read n t x window) call device_call =
     option_map_or (λ ptr. let from = source_in images s ptr device_call in reply_to_read images.pool ptr window from (bytes_in images contents s ptr from) call) (slice_get blocks x) no_answer

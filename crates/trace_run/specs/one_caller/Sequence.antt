@@ -45,7 +45,7 @@ use Rattle.trace_run.specs.KeptBlocks.{holds_in}
 use Rattle.trace_run.specs.KeptReads.{KeptRead}
 use Rattle.trace_run.specs.Lines.{caller_of, shard_of_line}
 use Rattle.trace_run.specs.Meeting.{resizes_in}
-use Rattle.trace_run.specs.ObjectLines.{OnObject, brought_there, events_of_bringing, on_object}
+use Rattle.trace_run.specs.ObjectLines.{OnObject, TellsBrought, brought_there, events_of_bringing, on_object}
 use Rattle.trace_run.specs.ObjectReplies.{ActsFor, AnswersObject, BringsAt}
 use Rattle.trace_run.specs.Objects.{Brought, Line, Loaded, Nothing, Refused, Work, no_work, own_event}
 use Rattle.trace_run.specs.Openings.{opening_map}
@@ -63,34 +63,34 @@ use Rattle.trace_run.specs.one_caller.OneCaller.{IsFoundAs, events_of_drops, eve
 
 -- The pool, the number of the next group, and the place from which its sync writes; the cache device, where one was started; all that was done so far to each shard and to each cell; and the
 -- reads that the caller keeps.
-pub record Sequence (P D : Type 0) : Type 0 where
-  pub pool : BetweenGroups P
+pub record BetweenLines (P D : Type 0) : Type 0 where
+  pub outside : BetweenGroups P
   pub device : Option D
   pub shards : ℕ → List Event
   pub cells : ℕ → List CellEvent
   pub kept : List KeptRead
 
 -- before the first line: the shards have just their restores, and nothing was done to cells
-abbrev pub begins_so : {P D : Type 0} → Config → List Restored → BetweenGroups P → Option D → Sequence P D
-begins_so g restored pool device = record { pool = pool; device = device; shards = restores_in g restored; cells = λ i. []; kept = [] }
+abbrev pub begins_so : {P D : Type 0} → Config → List Restored → BetweenGroups P → Option D → BetweenLines P D
+begins_so g restored outside device = record { outside = outside; device = device; shards = restores_in g restored; cells = λ i. []; kept = [] }
 
 -- what this history has made of a shard
 abbrev pub shard_behind : Config → (ℕ → List Event) → (shard : ℕ) → PlainShard
 shard_behind g shards shard = replay (opening_of g) (shards shard)
 
 -- of each shard and each cell this was done more
-pub record GoesOn {P D : Type 0} (g : Config) (es : (shard : ℕ) → List Event) (noted : List Noted) (from to : Sequence P D) : Type 0 where
+pub record GoesOn {P D : Type 0} (g : Config) (es : (shard : ℕ) → List Event) (noted : List Noted) (from to : BetweenLines P D) : Type 0 where
   pub shards : (shard : ℕ) → to.shards shard ≡ from.shards shard ++ es shard
   pub cells : (i : ℕ) → IsCell g i → to.cells i ≡ from.cells i ++ events_of_cell i noted
 
 -- ---- the cache device
 
--- this was done with the device that was lent; where none was, that is so
-abbrev pub OfLent : {D : Type 0} → (none : Type 0) → (asks : (old new : D) → Type 0) → (old new : Option D) → Type 0
-OfLent none asks None None = none
-OfLent none asks None (Some new) = ⊥
-OfLent none asks (Some old) None = ⊥
-OfLent none asks (Some old) (Some new) = asks old new
+-- Where a device was lent, `asks` holds of it before and behind. Where none was, `none` holds, and none comes back.
+abbrev pub IfLent : {D : Type 0} → (none : Type 0) → (asks : (old new : D) → Type 0) → (old new : Option D) → Type 0
+IfLent none asks None None = none
+IfLent none asks None (Some new) = ⊥
+IfLent none asks (Some old) None = ⊥
+IfLent none asks (Some old) (Some new) = asks old new
 
 -- no bytes came from a device
 abbrev pub NotFromDevice : Effect → Type 0
@@ -136,7 +136,7 @@ abbrev pub TheseCells : Trace → (ℕ → List CellEvent) → OfCells
 TheseCells trace from before tick work cells xs = TakesCells trace from work cells xs
 
 -- what a sync's work makes of shards and cells, whatever it came to
-pub record LeavesSynced {P D : Type 0} (g : Config) (t : ℕ) (work : Work) (from to : Sequence P D) : Type 0 where
+pub record LeavesSynced {P D : Type 0} (g : Config) (t : ℕ) (work : Work) (from to : BetweenLines P D) : Type 0 where
   pub goes_on : GoesOn g (λ shard. inserts_noted g t work.noted shard (from.shards shard)) work.noted from to
   pub device : to.device ≡ from.device
   pub kept : to.kept ≡ from.kept
@@ -146,67 +146,68 @@ module _ {P D : Type 0} (pools : Ghosts P) (devices : Devices D) (trace : Trace)
 
   -- A read, a hold or a drop: its answer, its events and what it asked the device for go by the shard and by the kept reads as it found them. Bytes that came from the pool are those that it tells
   -- then.
-  pub record DoesRead (l : Line) (from to : Sequence P D) : Type 0 where
-    pub answer : AnswersNow (pools.size from.pool.pool) (pools.told from.pool.pool) trace.blocks from.kept l.op l.reply
+  pub record DoesRead (l : Line) (from to : BetweenLines P D) : Type 0 where
+    pub answer : AnswersNow (pools.size from.outside.pool) (pools.told from.outside.pool) trace.blocks from.kept l.op l.reply
     pub found : IsFoundAs trace.blocks (shard_behind trace.config from.shards (shard_of_line trace.config.shards trace.blocks l.op)) l.op l.reply
-    pub range : CameFromPool (effect_of l.reply) → IfSome (pools.told from.pool.pool) (λ image. IsReadOfImage image trace.blocks l.op l.reply)
+    pub range : CameFromPool (effect_of l.reply) → IfSome (pools.told from.outside.pool) (λ image. IsReadOfImage image trace.blocks l.op l.reply)
     pub work : l.work ≡ no_work
     pub goes_on : GoesOn trace.config (λ shard. line_events trace.config.shards trace.blocks shard (shard_behind trace.config from.shards shard) from.kept l.op l.reply) [] from to
     pub kept : to.kept ≡ kept_after trace.blocks l.op l.reply from.kept
-    pub asks : OfLent (NotFromDevice (effect_of l.reply))
+    pub asks : IfLent (NotFromDevice (effect_of l.reply))
         (λ old new. (calls : List Call) × AsksLine devices trace.blocks (shard_behind trace.config from.shards (shard_of_line trace.config.shards trace.blocks l.op)) l.op l.reply calls old new) from.device to.device
 
   -- A line on an object: what was brought for it, what it did and what it is answered go by its block's cell, by the shards and by what the pool tells, as it found them. It makes the events for what was brought,
-  -- and then these with the cell's number, which are its acts.
-  pub record DoesObject (at : Oid) (tick : ℕ) (l : Line) (from to : Sequence P D) : Type 0 where
-    pub brought : BringsAt (pools.size from.pool.pool) at (outline_behind trace from.cells (cell_of trace.config.cells at)) l.work.brought
+  -- and then these with the cell's number, which are its acts. Where the pool gave a block, the bytes that it tells there are of its pointer.
+  pub record DoesObject (at : Oid) (tick : ℕ) (l : Line) (from to : BetweenLines P D) : Type 0 where
+    pub brought : BringsAt (pools.size from.outside.pool) at (outline_behind trace from.cells (cell_of trace.config.cells at)) l.work.brought
     pub found : IsFoundIn trace.config (shard_behind trace.config from.shards) l.work.brought
+    pub range : TellsBrought (pools.told from.outside.pool) l.work.brought
     pub acts : ActsFor trace.config 0 (own_event l.op) (outline_behind trace from.cells (cell_of trace.config.cells at)) l.work l.reply
-    pub answer : AnswersObject (pools.size from.pool.pool) (pools.told from.pool.pool) trace.config.dbuf_bytes (opening_map trace (cell_of trace.config.cells at)) (from.cells (cell_of trace.config.cells at)) l.work.brought l.op l.reply
+    pub answer : AnswersObject (pools.size from.outside.pool) (pools.told from.outside.pool) trace.config.dbuf_bytes (opening_map trace (cell_of trace.config.cells at)) (from.cells (cell_of trace.config.cells at)) l.work.brought l.op l.reply
     pub made : List Event
     pub kinds : AllByRecursion HasAct made
     pub are : l.work.acts ≡ acts_of_events made
     pub goes_on : GoesOn trace.config (λ shard. bringing_in trace.config (shard_behind trace.config from.shards) 0 tick (cell_number trace.config (cell_of trace.config.cells at)) l.work.brought shard
         ++ events_there trace.config shard made) l.work.noted from to
     pub kept : to.kept ≡ from.kept
-    pub asks : OfLent (NotFromDevice (effect_with l.work.brought l.reply)) (AsksBrought devices trace.config (shard_behind trace.config from.shards) l.work.brought l.reply) from.device to.device
+    pub asks : IfLent (NotFromDevice (effect_with l.work.brought l.reply)) (AsksBrought devices trace.config (shard_behind trace.config from.shards) l.work.brought l.reply) from.device to.device
 
-  abbrev pub DoesOwn : Option OnObject → Line → (from to : Sequence P D) → Type 0
+  abbrev pub DoesOwn : Option OnObject → Line → (from to : BetweenLines P D) → Type 0
   DoesOwn None l from to = DoesRead l from to
   DoesOwn (Some on) l from to = DoesObject on.at on.tick l from to
 
   -- A line of the caller's reads the pool as it says, and does nothing else with it.
-  pub record DoesLine (l : Line) (from to : Sequence P D) : Type 0 where
+  pub record DoesLine (l : Line) (from to : BetweenLines P D) : Type 0 where
     pub did : DoesOwn (on_object l.op) l from to
-    pub calls : MakesCalls pools (calls_of_lines (l ∷ [])) from.pool.pool to.pool.pool
-    pub group : to.pool.group ≡ from.pool.group
-    pub next : to.pool.next ≡ from.pool.next
+    pub calls : MakesCalls pools (calls_of_lines (l ∷ [])) from.outside.pool to.outside.pool
+    pub group : to.outside.group ≡ from.outside.group
+    pub next : to.outside.next ≡ from.outside.next
 
   -- ---- the feeder's lines
 
   -- A line `feed`: the device was fed, where there is one, by the shards as the line found them, and asked for the feed's calls alone.
-  pub record DoesFeed (reply : Reply) (feeds : List FeedDone) (from to : Sequence P D) : Type 0 where
+  pub record DoesFeed (reply : Reply) (feeds : List FeedDone) (from to : BetweenLines P D) : Type 0 where
     pub answered : AreFedReplies from.device (ops.Feed ∷ []) feeds (reply ∷ [])
     pub asked : AsksOfFeeds devices feeds from.device to.device
     pub here : AllByRecursion (IsFeedHere trace.config (shard_behind trace.config from.shards)) feeds
     pub goes_on : GoesOn trace.config (λ shard. events_of_made trace.config shard feeds) [] from to
-    pub pool : to.pool ≡ from.pool
+    pub pool : to.outside ≡ from.outside
     pub kept : to.kept ≡ from.kept
 
   -- A line `txg`: all that was dirty by then was written, inserted and noted.
-  pub record DoesSync (t : ℕ) (reply : Reply) (work : Work) (from to : Sequence P D) : Type 0 where
-    pub synced : SyncsGroup pools trace.config (TheseCells trace from.cells) [] t reply work from.pool to.pool
+  pub record DoesSync (t : ℕ) (reply : Reply) (work : Work) (from to : BetweenLines P D) : Type 0 where
+    pub synced : SyncsGroup pools trace.config (TheseCells trace from.cells) [] t reply work from.outside to.outside
     pub leaves : LeavesSynced trace.config t work from to
 
   -- A line `cap`: each shard has this capacity from now on, and the next group begins.
-  pub record DoesCap (c : ℕ) (reply : Reply) (from to : Sequence P D) : Type 0 where
+  pub record DoesCap (c : ℕ) (reply : Reply) (from to : BetweenLines P D) : Type 0 where
     pub replied : reply ≡ Capped c
     pub goes_on : GoesOn trace.config (resizes_in trace.config.shards trace.config.callers c) [] from to
-    pub pool : to.pool ≡ between_groups from.pool.pool (suc from.pool.group) from.pool.next
+    pub pool : to.outside ≡ between_groups from.outside.pool (suc from.outside.group) from.outside.next
     pub device : to.device ≡ from.device
     pub kept : to.kept ≡ from.kept
 
-  abbrev pub DoesOther : Op → Reply → Work → List FeedDone → (from to : Sequence P D) → Type 0
+  abbrev pub DoesOther : Op → Reply → Work → List FeedDone → (from to : BetweenLines P D) → Type 0
   DoesOther ops.Feed reply work feeds from to = DoesFeed reply feeds from to
   DoesOther (ops.Txg t) reply work feeds from to = (feeds ≡ []) × DoesSync t reply work from to
   DoesOther (ops.Cap c) reply work feeds from to = (feeds ≡ []) × DoesCap c reply from to
@@ -221,25 +222,25 @@ module _ {P D : Type 0} (pools : Ghosts P) (devices : Devices D) (trace : Trace)
 
   -- ---- all lines
 
-  abbrev pub Does : Option ℕ → Line → List FeedDone → (from to : Sequence P D) → Type 0
-  Does (Some n) l feeds from to = (feeds ≡ []) × DoesLine l from to
-  Does None l feeds from to = DoesOther l.op l.reply l.work feeds from to
+  abbrev pub DoesAnyLine : Option ℕ → Line → List FeedDone → (from to : BetweenLines P D) → Type 0
+  DoesAnyLine (Some n) l feeds from to = (feeds ≡ []) × DoesLine l from to
+  DoesAnyLine None l feeds from to = DoesOther l.op l.reply l.work feeds from to
 
   -- these lines were done in their order, with these feeds among them
-  abbrev pub AreInSequence : List Line → List FeedDone → (from to : Sequence P D) → Type 0
+  abbrev pub AreInSequence : List Line → List FeedDone → (from to : BetweenLines P D) → Type 0
   AreInSequence [] feeds from to = (feeds ≡ []) × (to ≡ from)
-  AreInSequence (l ∷ ls) feeds from to = (next : Sequence P D) × (here behind : List FeedDone) × (feeds ≡ here ++ behind) × Does (caller_of l.op) l here from next × AreInSequence ls behind next to
+  AreInSequence (l ∷ ls) feeds from to = (next : BetweenLines P D) × (here behind : List FeedDone) × (feeds ≡ here ++ behind) × DoesAnyLine (caller_of l.op) l here from next × AreInSequence ls behind next to
 
   -- ---- how they end
 
   -- a sync stopped behind all lines, for this reason, once it had done this
-  pub record StopsThere (replies : List Reply) (work : Work) (why : SyncFault) (from : Sequence P D) (after : P) (to : Sequence P D) : Type 0 where
-    pub stops : StopsSync pools trace.config (TheseCells trace from.cells) trace replies [] work why from.pool after
+  pub record StopsThere (replies : List Reply) (work : Work) (why : SyncFault) (from : BetweenLines P D) (after : P) (to : BetweenLines P D) : Type 0 where
+    pub stops : StopsSync pools trace.config (TheseCells trace from.cells) trace replies [] work why from.outside after
     pub leaves : LeavesSynced trace.config stops.behind.tick work from to
 
   -- All lines were done; or a sync stopped, and none behind it was begun. The one caller makes no fork.
-  abbrev pub EndsThere : List Reply → Work → Ending → (from : Sequence P D) → (after : P) → (to : Sequence P D) → Type 0
-  EndsThere replies work Whole from after to = (work ≡ no_work) × (after ≡ from.pool.pool) × (to ≡ from)
+  abbrev pub EndsThere : List Reply → Work → Ending → (from : BetweenLines P D) → (after : P) → (to : BetweenLines P D) → Type 0
+  EndsThere replies work Whole from after to = (work ≡ no_work) × (after ≡ from.outside.pool) × (to ≡ from)
   EndsThere replies work Fork from after to = ⊥
   EndsThere replies work Sync from after to = StopsThere replies work sync_fault.PoolFault from after to
   EndsThere replies work (Full need left) from after to = StopsThere replies work (sync_fault.PoolFull need left) from after to
@@ -247,6 +248,6 @@ module _ {P D : Type 0} (pools : Ghosts P) (devices : Devices D) (trace : Trace)
 -- ---- the close
 
 -- Behind them the caller's kept reads are dropped, the oldest first, and then what cells keep, which are these drops; then each cell is ended. That is all of the histories.
-pub record ClosesThere {P D : Type 0} (trace : Trace) (at : Sequence P D) (ended : List Event) (closed : List OnHeap) (histories : List (List Event)) : Type 0 where
+pub record ClosesThere {P D : Type 0} (trace : Trace) (at : BetweenLines P D) (ended : List Event) (closed : List OnHeap) (histories : List (List Event)) : Type 0 where
   pub shards : histories ≡ map (λ (shard : ℕ). (at.shards shard ++ events_of_drops 0 (holds_in trace.config shard at.kept)) ++ events_there trace.config shard ended) (range_with_len 0 trace.config.shards)
   pub cells : (i : ℕ) (cell : OnHeap) → slice_get closed i ≡ Some cell → cell.value.history ≡ at.cells i ++ End trace.config.callers ∷ []

@@ -1,6 +1,6 @@
 use Rattle.std.proofs.Common.{◌≤◌, List, length, sym, ap, ◌∙◌, subst, arith}
 use Rattle.trace_text.specs.declared.reply.Reply.{Reply}
-use Rattle.trace_run.specs.one_caller.InTurn.{AreInTurn}
+use Rattle.trace_run.specs.one_caller.InTurn.{HaveComeInTurn}
 use Rattle.trace_run.specs.callers.Together.{between_groups}
 use Rattle.trace_run.proofs.callers.FrontLemmas.{front-before, front-same, front-then}
 use Rattle.trace_run.proofs.callers.InUse.{in-use-same, in-use-then}
@@ -12,7 +12,7 @@ pub loop-alloc-init : goal.loop-alloc-init
 loop-alloc-init g c = record {
   between = λ restored work between. (
     work,
-    subst (λ (l : List Reply). AreInTurn c.args.arcs.now restored g.P.Pool g.D.CacheDev c.args.trace.now (between_groups c.args.pool.now c.args.syncs.group c.args.syncs.next) (between_groups c.args.pool.now c.args.syncs.group c.args.syncs.next) c.args.device.now c.args.device.now l work c.args.crew)
+    subst (λ (l : List Reply). HaveComeInTurn c.args.arcs.now restored g.P.Pool g.D.CacheDev c.args.trace.now (between_groups c.args.pool.now c.args.syncs.group c.args.syncs.next) (between_groups c.args.pool.now c.args.syncs.group c.args.syncs.next) c.args.device.now c.args.device.now l work c.args.crew)
         (sym c.new-replies.ensures.items) between,
   );
   later = omega arith;
