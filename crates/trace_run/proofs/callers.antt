@@ -21,5 +21,6 @@ pub mod MoreLemmas
 pub mod PlaceLemmas
 pub mod StepLemmas
 pub mod SyncRun
+pub mod ToldLemmas
 pub mod TurnLemmas
 pub mod TurningLemmas

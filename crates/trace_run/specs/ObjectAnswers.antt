@@ -15,12 +15,11 @@ use Rattle.trace_run.specs.ObjectReplies.{ActsFor, AnswersObject, BringsAt}
 use Rattle.trace_run.specs.Objects.{Line, own_event}
 use Rattle.trace_run.specs.RunWork.{lines_of_caller}
 use Rattle.trace_run.specs.callers.Together.{ends_group}
-use Rattle.trace_run.specs.callers.WorkLines.{HasFront, noted_of_work}
+use Rattle.trace_run.specs.callers.WorkLines.{noted_of_work}
 
 -- The cell of the block of a line of n's, which stands at the place k of these, has a history in the end with this front, at which the line looked: it has of n's what its earlier lines did, and
--- nothing else. What was brought for the line is by this front, what the line did stands right behind it, and by it the line was answered, over what the pool told then. Behind a sync that differs
--- from what it told at first from the place of the first sync on.
-pub record LookedAt (g : Config) (pool_len : ℕ) (image : Option (List ℕ)) (place : ℕ) (cells : List OnHeap) (n : ℕ) (lines : List Line) (k : ℕ) (at : Oid) (l : Line) : Type 0 where
+-- nothing else. What was brought for the line is by this front, what the line did stands right behind it, and by it the line was answered, over what the pool told as the line's group began.
+pub record LookedAt (g : Config) (pool_len : ℕ) (told : (k : ℕ) → Option (List ℕ)) (cells : List OnHeap) (n : ℕ) (lines : List Line) (k : ℕ) (at : Oid) (l : Line) : Type 0 where
   pub cell : OnHeap
   pub there : slice_get cells (cell_of g.cells at) ≡ Some cell
   pub front : List CellEvent
@@ -32,16 +31,14 @@ pub record LookedAt (g : Config) (pool_len : ℕ) (image : Option (List ℕ)) (p
   pub until : (m x : ℕ) (e : Line) → m < g.callers → k < x → slice_get lines x ≡ Some e → ends_group e.op ≡ true → StartsWith (events_of_cell (cell_of g.cells at) (noted_of_work (lines_of_caller m (take x lines)))) (done_by m front)
   pub brought : BringsAt pool_len at (outline_after cell.value.limit cell.value.opening front) l.work.brought
   pub acts : ActsFor g n (own_event l.op) (outline_after cell.value.limit cell.value.opening front) l.work l.reply
-  pub now : Option (List ℕ)
-  pub told : HasFront place image now
-  pub answer : AnswersObject pool_len now cell.value.limit cell.value.opening front l.work.brought l.op l.reply
+  pub answer : AnswersObject pool_len (told k) cell.value.limit cell.value.opening front l.work.brought l.op l.reply
 
 -- so it is of a caller's line on an object; one on no object has its answer elsewhere
-abbrev pub IsAnsweredBy : Config → (pool_len : ℕ) → Option (List ℕ) → (place : ℕ) → List OnHeap → (n : ℕ) → (lines : List Line) → (k : ℕ) → Option OnObject → Line → Type 0
-IsAnsweredBy g pool_len image place cells n lines k None l = Unit {0}
-IsAnsweredBy g pool_len image place cells n lines k (Some on) l = LookedAt g pool_len image place cells n lines k on.at l
+abbrev pub IsAnsweredBy : Config → (pool_len : ℕ) → (told : (k : ℕ) → Option (List ℕ)) → List OnHeap → (n : ℕ) → (lines : List Line) → (k : ℕ) → Option OnObject → Line → Type 0
+IsAnsweredBy g pool_len told cells n lines k None l = Unit {0}
+IsAnsweredBy g pool_len told cells n lines k (Some on) l = LookedAt g pool_len told cells n lines k on.at l
 
--- each of these lines is, behind those before it
-abbrev pub AreAnsweredByCells : Config → (pool_len : ℕ) → Option (List ℕ) → (place : ℕ) → List OnHeap → List Line → Type 0
-AreAnsweredByCells g pool_len image place cells ls =
-    (k n : ℕ) (l : Line) → slice_get ls k ≡ Some l → is_of_caller n l.op ≡ true → IsAnsweredBy g pool_len image place cells n ls k (on_object l.op) l
+-- Each of these lines is, behind those before it. By the lines' places this is what the pool told as the group of each began.
+abbrev pub AreAnsweredByCells : Config → (pool_len : ℕ) → (told : (k : ℕ) → Option (List ℕ)) → List OnHeap → List Line → Type 0
+AreAnsweredByCells g pool_len told cells ls =
+    (k n : ℕ) (l : Line) → slice_get ls k ≡ Some l → is_of_caller n l.op ≡ true → IsAnsweredBy g pool_len told cells n ls k (on_object l.op) l

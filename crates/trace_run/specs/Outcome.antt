@@ -52,6 +52,7 @@ use Rattle.vdev_io.specs.Streams.{NoneFailed, OneFailed, StreamState}
 use Rattle.vdev_io.specs.Streams.{Gives, AppendsFront, TakesAtMost}
 use Rattle.trace_run.specs.callers.DeviceForks.{UsedInGroups}
 use Rattle.trace_run.specs.callers.Group.{LeavesDeclared}
+use Rattle.trace_run.specs.callers.WorkLines.{HasFront}
 use Rattle.trace_run.specs.callers.Together.{IsFirstPlace, RunsTogether, StopsSo, TellsClosed, answered_ops, faults_told, groups_done, report_status}
 use Rattle.trace_run.specs.Words.{IsCommand, IsFirstWrong}
 
@@ -100,11 +101,14 @@ pub record IsRun {P D : Type 0} (pool : Ghosts P) (device : Devices D) (before a
   -- syncs write from this place on
   pub place : ℕ
   pub first : IsFirstPlace (pool.size before) trace.blocks place
-  -- a line on an object is answered by its cell
-  pub objects : AreAnsweredByCells trace.config (pool.size before) (pool.told before) place closed.cells work.lines
+  -- what the pool told as the group of each line began, by the lines' places; up to that place it is what it told at first
+  pub told : (k : ℕ) → Option (List ℕ)
+  pub told_front : (k : ℕ) → HasFront place (pool.told before) (told k)
+  -- a line on an object is answered by its cell, over that
+  pub objects : AreAnsweredByCells trace.config (pool.size before) told closed.cells work.lines
   -- one caller whose lines are on objects too, or whose trace has syncs or feeds, does them one after another
   pub in_turn : trace.config.callers ≡ 1 → has_further trace.ops ≡ true → RunsInTurn pool device before after lent back place trace ending work closed.cells report
-  pub together : 2 ≤ trace.config.callers → RunsTogether pool before after place trace ending work closed.cells report
+  pub together : 2 ≤ trace.config.callers → RunsTogether pool before after place told trace ending work closed.cells report
   -- a trace without an operation has no work: no fork is made for it, and the pool is as it was
   pub idle : trace.ops ≡ [] → (ending ≡ Whole) × (after ≡ before)
   -- a fork failed as a group began, or a sync stopped, which has no reply then

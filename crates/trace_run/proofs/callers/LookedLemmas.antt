@@ -1,6 +1,5 @@
 -- Several callers behind more lines: how those on objects looked at cells, behind the lines of a group, and behind the line that ends it.
-use Rattle.std.proofs.Common.{◌≡◌, ℕ, ◌<◌, List, [], ◌∷◌, ◌++◌, Option, None, length, take, refl, sym, ap, ◌∙◌, subst, arith}
-use Rattle.std.specs.Option.{option_map}
+use Rattle.std.proofs.Common.{◌≡◌, ℕ, ◌<◌, List, [], ◌∷◌, ◌++◌, Option, None, length, refl, sym, ap, ◌∙◌, subst, arith}
 use mathlib.Core.Option.{some, some-injective}
 use lib.ListN.{get_elem?}
 use Rattle.blk_ptr.specs.declared.ptr.Ptr.{Ptr}
@@ -24,14 +23,15 @@ use Rattle.trace_run.specs.RunWork.{RunWork, lines_of_caller}
 use Rattle.trace_run.specs.callers.Group.{AllWorked}
 use Rattle.trace_run.specs.callers.Groups.{ComesAt, HaveCome}
 use Rattle.trace_run.specs.callers.Looking.{HaveLooked}
-use Rattle.trace_run.specs.callers.WorkLines.{HasFront, LooksLines, acts_of_work, noted_of_work}
+use Rattle.trace_run.specs.callers.WorkLines.{LooksLines, acts_of_work, noted_of_work}
 use Rattle.trace_run.proofs.callers.EndedLemmas.{MadeWork, all-at}
 use Rattle.trace_run.proofs.callers.GroupsLemmas.{parted-at}
 use Rattle.trace_run.proofs.callers.LineLists.{AreInside}
 use Rattle.trace_run.proofs.callers.LookingLemmas.{Had, LooksOn, ended-looked, kept-looked, more-looked}
+use Rattle.trace_run.proofs.callers.ToldLemmas.{told_then}
 
 module _ {P : Type 0} (pools : Ghosts P) (cache : Cache) (restored : List Restored) (len : ℕ) (image : Option (List ℕ)) (place : ℕ) (blocks : List Ptr) (os : List Op) (rs : List Reply) (w : RunWork) (old new : Crew OnHeap)
-    (before : HaveCome cache restored len image place blocks os rs w old) (looked : HaveLooked cache.config len image place w.lines old.parties.items) where
+    (before : HaveCome cache restored len image place blocks os rs w old) (told : (k : ℕ) → Option (List ℕ)) (looked : HaveLooked cache.config len told w.lines old.parties.items) where
   abbrev g : Config
   g = cache.config
 
@@ -41,8 +41,8 @@ module _ {P : Type 0} (pools : Ghosts P) (cache : Cache) (restored : List Restor
   -- ---- the lines of a group
 
   module _ (ms : List Line) (own : AreInside ms) (from : P) (worked : AllWorked cache pools blocks g.callers from (λ n. lines_of_caller n ms) old.kept.items old.parties.items new.kept.items new.parties.items) (size : pools.size from ≡ len)
-      (front : HasFront place image (pools.told from)) where
-    on-each : (n : ℕ) (q : PartyPlace) → get_elem? new.parties.items n ≡ some q → LooksOn g valid len image place w.lines ms old.parties.items n q
+      (now : Option (List ℕ)) (told_now : pools.told from ≡ now) where
+    on-each : (n : ℕ) (q : PartyPlace) → get_elem? new.parties.items n ≡ some q → LooksOn g valid len told now w.lines ms old.parties.items n q
     on-each n q party =
         let below : n < g.callers = subst (λ (k : ℕ). n < k) worked.parties (within new.parties.items n q party) in
         let c : ComesAt cache len image place blocks n (lines_of_caller n w.lines) old = before.each n below in
@@ -51,35 +51,34 @@ module _ {P : Type 0} (pools : Ghosts P) (cache : Cache) (restored : List Restor
         let behind : h.to ≡ q = some-injective h.to q (sym h.after.party_at ∙ party) in
         let acts = acts_of_work g blocks [] (lines_of_caller n w.lines) in
         let noted = noted_of_work (lines_of_caller n w.lines) in
-        let told : HasToldAll g acts noted h.from = subst (HasToldAll g acts noted) before_it c.come.waits.told in
-        subst (LooksOn g valid len image place w.lines ms old.parties.items n) behind record {
+        let has_told : HasToldAll g acts noted h.from = subst (HasToldAll g acts noted) before_it c.come.waits.told in
+        subst (LooksOn g valid len told now w.lines ms old.parties.items n) behind record {
           from = h.from;
           at = h.before.party_at;
           keeps = h.worked.cells;
-          now = pools.told (worked.forks n);
-          told = ap (option_map (take place)) (worked.told n below) ∙ front;
-          looks = subst (λ (x : ℕ). LooksLines g x (pools.told (worked.forks n)) h.from.own.about.openings h.from.own.seen h.to.own.seen n noted (lines_of_caller n ms)) (worked.size n below ∙ size) (h.worked.looks acts noted told);
+          looks = subst (λ (x : ℕ × Option (List ℕ)). LooksLines g x.0 x.1 h.from.own.about.openings h.from.own.seen h.to.own.seen n noted (lines_of_caller n ms)) (λ i. ((worked.size n below ∙ size) i, (worked.told n below ∙ told_now) i))
+              (h.worked.looks acts noted has_told);
         }
 
-    pub lines-looked : HaveLooked g len image place (w.lines ++ ms) new.parties.items
-    lines-looked = more-looked g valid len image place w.lines ms old.parties.items new.parties.items own on-each looked
+    pub lines-looked : HaveLooked g len (told_then told (length w.lines) now) (w.lines ++ ms) new.parties.items
+    lines-looked = more-looked g valid len told now w.lines ms old.parties.items new.parties.items own on-each looked
 
   -- ---- what the feeder did behind them
 
   module _ (work : Work) (more : (shard : ℕ) → List Event) (made : MadeWork cache work more old new) (parties : length new.parties.items ≡ g.callers) where
-    had : (n : ℕ) (q : PartyPlace) → get_elem? new.parties.items n ≡ some q → Had g valid len image place old.parties.items n q
+    had : (n : ℕ) (q : PartyPlace) → get_elem? new.parties.items n ≡ some q → Had g valid len told old.parties.items n q
     had n q party =
         let b = before.each n (subst (λ (k : ℕ). n < k) parties (within new.parties.items n q party)) in
         let x = parted-at cache made.lines n old.parties.items new.parties.items b.party made.parted b.at.party_at in
-        subst (Had g valid len image place old.parties.items n) (some-injective x.0 q (sym x.1 ∙ party)) (b.party, b.at.party_at, (x.2.same b.reads b.come.waits.stands).keeps)
+        subst (Had g valid len told old.parties.items n) (some-injective x.0 q (sym x.1 ∙ party)) (b.party, b.at.party_at, (x.2.same b.reads b.come.waits.stands).keeps)
 
-    pub stopped-looked : HaveLooked g len image place w.lines new.parties.items
-    stopped-looked = kept-looked g valid len image place w.lines old.parties.items new.parties.items had looked
+    pub stopped-looked : HaveLooked g len told w.lines new.parties.items
+    stopped-looked = kept-looked g valid len told w.lines old.parties.items new.parties.items had looked
 
     level : (n : ℕ) (q : PartyPlace) → get_elem? new.parties.items n ≡ some q → (i : ℕ) → IsCell g i → front_of i q.own.seen ≡ front_of i new.feeder.own.seen
     level n q party i in_range =
         let all = made.met i in_range in
         all-at (λ x. front_of i x.own.seen ≡ all.0) new.parties.items n q all.2.1 party ∙ sym all.2.0
 
-    pub answered-looked : (l : Line) → caller_of l.op ≡ None → HaveLooked g len image place (w.lines ++ l ∷ []) new.parties.items
-    answered-looked l nobody = ended-looked g valid len image place w.lines l old.parties.items new.parties.items new.feeder nobody had level looked
+    pub answered-looked : (l : Line) → caller_of l.op ≡ None → HaveLooked g len told (w.lines ++ l ∷ []) new.parties.items
+    answered-looked l nobody = ended-looked g valid len told w.lines l old.parties.items new.parties.items new.feeder nobody had level looked

@@ -26,21 +26,22 @@ use Rattle.trace_run.specs.Deeds.{KeepsCells, Noted, events_of_cell, lines_of_ce
 use Rattle.trace_run.specs.Lines.{caller_of, is_of_caller}
 use Rattle.trace_run.specs.Meeting.{HaveMet}
 use Rattle.trace_run.specs.ObjectLines.{OnObject, cell_lines, on_object}
-use Rattle.trace_run.specs.ObjectReplies.{AnswersFrom, LooksFrom}
+use Rattle.trace_run.specs.ObjectReplies.{AnswersFrom, AnswersObject, LooksFrom}
 use Rattle.trace_run.specs.Objects.{Line}
 use Rattle.trace_run.specs.RunWork.{lines_of_caller}
 use Rattle.trace_run.specs.callers.Looking.{HaveLooked, LooksCut}
 use Rattle.trace_run.specs.callers.Together.{ends_group}
-use Rattle.trace_run.specs.callers.WorkLines.{HasFront, LooksLines, noted_of_work}
+use Rattle.trace_run.specs.callers.WorkLines.{LooksLines, noted_of_work}
 use Rattle.trace_run.proofs.callers.GroupLists.{get-left, get-right, some-same}
 use Rattle.trace_run.proofs.callers.LineLists.{AreInside, nobody-callers, noted-append}
 use Rattle.trace_run.proofs.callers.MeetLemmas.{starts-then}
 use Rattle.trace_run.proofs.callers.MoreLemmas.{inside-at}
+use Rattle.trace_run.proofs.callers.ToldLemmas.{told-early, told-late, told_then}
 use Rattle.trace_run.proofs.deeds.OperatesDone.{cell-there}
 
 -- before any line
-pub none-looked : {C : Type 0} (g : Config) (len : ℕ) (image : Option (List ℕ)) (place : ℕ) (ps : List (Place (Known C))) → HaveLooked g len image place [] ps
-none-looked g len image place ps = record {
+pub none-looked : {C : Type 0} (g : Config) (len : ℕ) (told : (k : ℕ) → Option (List ℕ)) (ps : List (Place (Known C))) → HaveLooked g len told [] ps
+none-looked g len told ps = record {
   level = λ k i. [];
   reach = λ k e at ends n p party i in_range. absurd (none k e at);
   looks = λ k n l p at his party. absurd (none k l at);
@@ -79,22 +80,20 @@ looks-at g len image openings begun seen n had (x ∷ ls) (suc k) l at his looks
       subst (λ (y : List Line). IfSome (on_object l.op) (λ on. LooksFrom g len image openings begun seen n (had ++ noted_of_work y) on.at l)) all h
 ]
 
-module _ {C : Type 0} (g : Config) (valid : IsConfig g) (len : ℕ) (image : Option (List ℕ)) (place : ℕ) where
+module _ {C : Type 0} (g : Config) (valid : IsConfig g) (len : ℕ) (told : (k : ℕ) → Option (List ℕ)) where
   -- ---- one line
 
-  -- A line that looked did so behind more lines, where its party has seen more; a group more may end with what the party has seen then.
-  cut-on : (ls ms : List Line) (level next : (k i : ℕ) → List Seen) (p q : Place (Known C)) (k n : ℕ) (at : Oid) (l : Line) → KeepsCells g p q → take k ms ≡ take k ls
+  -- A line that looked did so behind more lines, where its party has seen more and the same is told of its group; a group more may end with what the party has seen then.
+  cut-on : (later_told : (k : ℕ) → Option (List ℕ)) (ls ms : List Line) (level next : (k i : ℕ) → List Seen) (p q : Place (Known C)) (k n : ℕ) (at : Oid) (l : Line) → later_told k ≡ told k → KeepsCells g p q → take k ms ≡ take k ls
       → ((x : ℕ) (e : Line) → x < k → slice_get ms x ≡ Some e → ends_group e.op ≡ true → (slice_get ls x ≡ Some e) × (next x (cell_of g.cells at) ≡ level x (cell_of g.cells at)))
       → ((x : ℕ) (e : Line) → k < x → slice_get ms x ≡ Some e → ends_group e.op ≡ true
       → ((slice_get ls x ≡ Some e) × (next x (cell_of g.cells at) ≡ level x (cell_of g.cells at))) ⊎ (next x (cell_of g.cells at) ≡ front_of (cell_of g.cells at) q.own.seen))
-      → LooksCut g len image place p.own.about.openings p.own.seen ls level k n at l → LooksCut g len image place q.own.about.openings q.own.seen ms next k n at l
-  cut-on ls ms level next p q k n at l keeps earlier before later cut =
+      → LooksCut g len told p.own.about.openings p.own.seen ls level k n at l → LooksCut g len later_told q.own.about.openings q.own.seen ms next k n at l
+  cut-on later_told ls ms level next p q k n at l same keeps earlier before later cut =
       let i : ℕ = cell_of g.cells at in
       let lines : List Seen = cell_lines cut.from.cell in
       let front = starts-then (front_of i q.own.seen) (front_of i p.own.seen) (lines ++ lines_of_cell i l.work.noted) (keeps.fronts i (cell-there g valid at)) cut.from.front in
       record {
-        now = cut.now;
-        told = cut.told;
         from = record {
           cell = cut.from.cell;
           sound = cut.from.sound;
@@ -103,7 +102,7 @@ module _ {C : Type 0} (g : Config) (valid : IsConfig g) (len : ℕ) (image : Opt
           front = front;
           brought = cut.from.brought;
           acts = cut.from.acts;
-          answer = cut.from.answer;
+          answer = subst (λ (now : Option (List ℕ)). AnswersObject len now cut.from.cell.value.limit cut.from.cell.value.opening cut.from.cell.value.history l.work.brought l.op l.reply) (sym same) cut.from.answer;
         };
         since = λ x e lt there ends. let h = before x e lt there ends in subst (StartsWith lines) (sym h.1) (cut.since x e lt h.0 ends);
         until = λ x e lt there ends. elim (later x e lt there ends) [
@@ -113,19 +112,17 @@ module _ {C : Type 0} (g : Config) (valid : IsConfig g) (len : ℕ) (image : Opt
       }
 
   -- a line of a group behind these lines, which looked by a cell that goes on from what its party had seen as the group began
-  cut-new : (ls ms : List Line) (level : (k i : ℕ) → List Seen) (p q : Place (Known C)) (now : Option (List ℕ)) (k j n : ℕ) (at : Oid) (l : Line) → KeepsCells g p q → HasFront place image now → length ls ≤ k → k ≡ length ls + j
+  cut-new : (ls ms : List Line) (level : (k i : ℕ) → List Seen) (p q : Place (Known C)) (now : Option (List ℕ)) (k j n : ℕ) (at : Oid) (l : Line) → KeepsCells g p q → length ls ≤ k → k ≡ length ls + j
       → ((x : ℕ) (e : Line) → slice_get (ls ++ ms) x ≡ Some e → ends_group e.op ≡ true → x < length ls)
       → ((x : ℕ) (e : Line) → slice_get ls x ≡ Some e → ends_group e.op ≡ true → StartsWith (front_of (cell_of g.cells at) p.own.seen) (level x (cell_of g.cells at)))
       → LooksFrom g len now p.own.about.openings p.own.seen q.own.seen n (noted_of_work (lines_of_caller n ls) ++ noted_of_work (lines_of_caller n (take j ms))) at l
-      → LooksCut g len image place q.own.about.openings q.own.seen (ls ++ ms) level k n at l
-  cut-new ls ms level p q now k j n at l keeps told le there inside reach f =
+      → LooksCut g len (told_then told (length ls) now) q.own.about.openings q.own.seen (ls ++ ms) level k n at l
+  cut-new ls ms level p q now k j n at l keeps le there inside reach f =
       let i : ℕ = cell_of g.cells at in
       let had : noted_of_work (lines_of_caller n (take k (ls ++ ms))) ≡ noted_of_work (lines_of_caller n ls) ++ noted_of_work (lines_of_caller n (take j ms)) =
       ap (λ (ys : List Line). noted_of_work (lines_of_caller n ys)) (ap (λ (y : ℕ). take y (ls ++ ms)) there ∙ take-append-add ls ms j)
       ∙ (ap noted_of_work (filter-append _ ls (take j ms)) ∙ noted-append (lines_of_caller n ls) (lines_of_caller n (take j ms))) in
       record {
-        now = now;
-        told = told;
         from = record {
           cell = f.from.cell;
           sound = f.from.sound;
@@ -134,7 +131,7 @@ module _ {C : Type 0} (g : Config) (valid : IsConfig g) (len : ℕ) (image : Opt
           front = f.from.front;
           brought = f.from.brought;
           acts = f.from.acts;
-          answer = f.from.answer;
+          answer = subst (λ (x : Option (List ℕ)). AnswersObject len x f.from.cell.value.limit f.from.cell.value.opening f.from.cell.value.history l.work.brought l.op l.reply) (sym (told-late told (length ls) now k le)) f.from.answer;
         };
         since = λ x e lt is ends.
             let early = inside x e is ends in
@@ -148,28 +145,29 @@ module _ {C : Type 0} (g : Config) (valid : IsConfig g) (len : ℕ) (image : Opt
   abbrev pub Had : List (Place (Known C)) → (n : ℕ) → Place (Known C) → Type 0
   Had ps n q = (p : Place (Known C)) × (get_elem? ps n ≡ some p) × KeepsCells g p q
 
-  pub kept-looked : (ls : List Line) (ps qs : List (Place (Known C))) → ((n : ℕ) (q : Place (Known C)) → get_elem? qs n ≡ some q → Had ps n q) → HaveLooked g len image place ls ps → HaveLooked g len image place ls qs
+  pub kept-looked : (ls : List Line) (ps qs : List (Place (Known C))) → ((n : ℕ) (q : Place (Known C)) → get_elem? qs n ≡ some q → Had ps n q) → HaveLooked g len told ls ps → HaveLooked g len told ls qs
   kept-looked ls ps qs old w = record {
     level = w.level;
     reach = λ k e at ends n q party i in_range. let o = old n q party in starts-then (front_of i q.own.seen) (front_of i o.0.own.seen) (w.level k i) (o.2.fronts i in_range) (w.reach k e at ends n o.0 o.1 i in_range);
     looks = λ k n l q at his party.
         let o = old n q party in
-        by-some (λ (on : OnObject). LooksCut g len image place o.0.own.about.openings o.0.own.seen ls w.level k n on.at l) (λ (on : OnObject). LooksCut g len image place q.own.about.openings q.own.seen ls w.level k n on.at l) (on_object l.op)
-        (λ on cut. cut-on ls ls w.level w.level o.0 q k n on.at l o.2 refl (λ x e lt there ends. (there, refl)) (λ x e lt there ends. inl (there, refl)) cut) (w.looks k n l o.0 at his o.1);
+        by-some (λ (on : OnObject). LooksCut g len told o.0.own.about.openings o.0.own.seen ls w.level k n on.at l) (λ (on : OnObject). LooksCut g len told q.own.about.openings q.own.seen ls w.level k n on.at l) (on_object l.op)
+        (λ on cut. cut-on told ls ls w.level w.level o.0 q k n on.at l refl o.2 refl (λ x e lt there ends. (there, refl)) (λ x e lt there ends. inl (there, refl)) cut) (w.looks k n l o.0 at his o.1);
   }
 
   -- ---- the lines of a group
 
-  -- a caller's party behind more lines, each of which looked over what the pool told then
-  pub record LooksOn (ls ms : List Line) (ps : List (Place (Known C))) (n : ℕ) (q : Place (Known C)) : Type 0 where
+  -- a caller's party behind more lines, each of which looked over what the pool told as their group began
+  pub record LooksOn (now : Option (List ℕ)) (ls ms : List Line) (ps : List (Place (Known C))) (n : ℕ) (q : Place (Known C)) : Type 0 where
     pub from : Place (Known C)
     pub at : get_elem? ps n ≡ some from
     pub keeps : KeepsCells g from q
-    pub now : Option (List ℕ)
-    pub told : HasFront place image now
     pub looks : LooksLines g len now from.own.about.openings from.own.seen q.own.seen n (noted_of_work (lines_of_caller n ls)) (lines_of_caller n ms)
 
-  module _ (ls ms : List Line) (ps qs : List (Place (Known C))) (own : AreInside ms) (on_each : (n : ℕ) (q : Place (Known C)) → get_elem? qs n ≡ some q → LooksOn ls ms ps n q) (w : HaveLooked g len image place ls ps) where
+  module _ (now : Option (List ℕ)) (ls ms : List Line) (ps qs : List (Place (Known C))) (own : AreInside ms) (on_each : (n : ℕ) (q : Place (Known C)) → get_elem? qs n ≡ some q → LooksOn now ls ms ps n q) (w : HaveLooked g len told ls ps) where
+    abbrev told_now : (k : ℕ) → Option (List ℕ)
+    told_now = told_then told (length ls) now
+
     -- no line more ends a group
     early-ends : (x : ℕ) (e : Line) → slice_get (ls ++ ms) x ≡ Some e → ends_group e.op ≡ true → x < length ls
     early-ends x e at ends = elim (cases_lt x (length ls)) [
@@ -182,22 +180,22 @@ module _ {C : Type 0} (g : Config) (valid : IsConfig g) (len : ℕ) (image : Opt
     left-at : (x : ℕ) (e : Line) → slice_get (ls ++ ms) x ≡ Some e → x < length ls → slice_get ls x ≡ Some e
     left-at x e at early = sym (get-left ls ms x early) ∙ at
 
-    module _ (k n : ℕ) (l : Line) (q : Place (Known C)) (at : slice_get (ls ++ ms) k ≡ Some l) (his : is_of_caller n l.op ≡ true) (o : LooksOn ls ms ps n q) where
+    module _ (k n : ℕ) (l : Line) (q : Place (Known C)) (at : slice_get (ls ++ ms) k ≡ Some l) (his : is_of_caller n l.op ≡ true) (o : LooksOn now ls ms ps n q) where
       abbrev Then : OnObject → Type 0
-      Then on = LooksCut g len image place q.own.about.openings q.own.seen (ls ++ ms) w.level k n on.at l
+      Then on = LooksCut g len told_now q.own.about.openings q.own.seen (ls ++ ms) w.level k n on.at l
 
       old-line : k < length ls → IfSome (on_object l.op) Then
       old-line early =
-          by-some (λ (on : OnObject). LooksCut g len image place o.from.own.about.openings o.from.own.seen ls w.level k n on.at l) Then (on_object l.op)
-          (λ on cut. cut-on ls (ls ++ ms) w.level w.level o.from q k n on.at l o.keeps (take-append-le k ls ms (omega (arith, early)))
+          by-some (λ (on : OnObject). LooksCut g len told o.from.own.about.openings o.from.own.seen ls w.level k n on.at l) Then (on_object l.op)
+          (λ on cut. cut-on told_now ls (ls ++ ms) w.level w.level o.from q k n on.at l (told-early told (length ls) now k early) o.keeps (take-append-le k ls ms (omega (arith, early)))
           (λ x e lt there ends. (left-at x e there (early-ends x e there ends), refl)) (λ x e lt there ends. inl (left-at x e there (early-ends x e there ends), refl)) cut)
           (w.looks k n l o.from (left-at k l at early) his o.at)
 
       new-line : (j : ℕ) → length ls ≤ k → k ≡ length ls + j → IfSome (on_object l.op) Then
       new-line j le there =
-          by-some (λ (on : OnObject). LooksFrom g len o.now o.from.own.about.openings o.from.own.seen q.own.seen n (noted_of_work (lines_of_caller n ls) ++ noted_of_work (lines_of_caller n (take j ms))) on.at l) Then (on_object l.op)
-          (λ on from. cut-new ls ms w.level o.from q o.now k j n on.at l o.keeps o.told le there early-ends (λ x e is ends. w.reach x e is ends n o.from o.at (cell_of g.cells on.at) (cell-there g valid on.at)) from)
-          (looks-at g len o.now o.from.own.about.openings o.from.own.seen q.own.seen n (noted_of_work (lines_of_caller n ls)) ms j l (sym (get-right ls ms j) ∙ (ap (slice_get (ls ++ ms)) (sym there) ∙ at)) his o.looks)
+          by-some (λ (on : OnObject). LooksFrom g len now o.from.own.about.openings o.from.own.seen q.own.seen n (noted_of_work (lines_of_caller n ls) ++ noted_of_work (lines_of_caller n (take j ms))) on.at l) Then (on_object l.op)
+          (λ on from. cut-new ls ms w.level o.from q now k j n on.at l o.keeps le there early-ends (λ x e is ends. w.reach x e is ends n o.from o.at (cell_of g.cells on.at) (cell-there g valid on.at)) from)
+          (looks-at g len now o.from.own.about.openings o.from.own.seen q.own.seen n (noted_of_work (lines_of_caller n ls)) ms j l (sym (get-right ls ms j) ∙ (ap (slice_get (ls ++ ms)) (sym there) ∙ at)) his o.looks)
 
       line-looked : IfSome (on_object l.op) Then
       line-looked = elim (cases_lt k (length ls)) [
@@ -205,7 +203,7 @@ module _ {C : Type 0} (g : Config) (valid : IsConfig g) (len : ℕ) (image : Opt
         | inr late ↦ new-line (k - length ls) late (omega (arith, late))
       ]
 
-    pub more-looked : HaveLooked g len image place (ls ++ ms) qs
+    pub more-looked : HaveLooked g len told_now (ls ++ ms) qs
     more-looked = record {
       level = w.level;
       reach = λ k e at ends n q party i in_range.
@@ -218,7 +216,7 @@ module _ {C : Type 0} (g : Config) (valid : IsConfig g) (len : ℕ) (image : Opt
 
   -- Behind it all have seen the same of each cell, which is what this party has seen.
   module _ (ls : List Line) (last : Line) (ps qs : List (Place (Known C))) (f : Place (Known C)) (nobody : caller_of last.op ≡ None) (old : (n : ℕ) (q : Place (Known C)) → get_elem? qs n ≡ some q → Had ps n q)
-      (same : (n : ℕ) (q : Place (Known C)) → get_elem? qs n ≡ some q → (i : ℕ) → IsCell g i → front_of i q.own.seen ≡ front_of i f.own.seen) (w : HaveLooked g len image place ls ps) where
+      (same : (n : ℕ) (q : Place (Known C)) → get_elem? qs n ≡ some q → (i : ℕ) → IsCell g i → front_of i q.own.seen ≡ front_of i f.own.seen) (w : HaveLooked g len told ls ps) where
     abbrev level : (k i : ℕ) → List Seen
     level k i = if nat_lt k (length ls) then w.level k i else front_of i f.own.seen
 
@@ -247,13 +245,13 @@ module _ {C : Type 0} (g : Config) (valid : IsConfig g) (len : ℕ) (image : Opt
     ]
 
     ended-line : (k n : ℕ) (l : Line) (q : Place (Known C)) → slice_get (ls ++ last ∷ []) k ≡ Some l → is_of_caller n l.op ≡ true → get_elem? qs n ≡ some q
-        → IfSome (on_object l.op) (λ (on : OnObject). LooksCut g len image place q.own.about.openings q.own.seen (ls ++ last ∷ []) level k n on.at l)
+        → IfSome (on_object l.op) (λ (on : OnObject). LooksCut g len told q.own.about.openings q.own.seen (ls ++ last ∷ []) level k n on.at l)
     ended-line k n l q at his party =
         let o = old n q party in
         let early = early-his k n l at his in
-        by-some (λ (on : OnObject). LooksCut g len image place o.0.own.about.openings o.0.own.seen ls w.level k n on.at l) (λ (on : OnObject). LooksCut g len image place q.own.about.openings q.own.seen (ls ++ last ∷ []) level k n on.at l)
+        by-some (λ (on : OnObject). LooksCut g len told o.0.own.about.openings o.0.own.seen ls w.level k n on.at l) (λ (on : OnObject). LooksCut g len told q.own.about.openings q.own.seen (ls ++ last ∷ []) level k n on.at l)
         (on_object l.op)
-        (λ on cut. cut-on ls (ls ++ last ∷ []) w.level level o.0 q k n on.at l o.2 (take-append-le k ls (last ∷ []) (omega (arith, early)))
+        (λ on cut. cut-on told ls (ls ++ last ∷ []) w.level level o.0 q k n on.at l refl o.2 (take-append-le k ls (last ∷ []) (omega (arith, early)))
         (λ x e lt there ends. let before : x < length ls = omega (arith, lt, early) in (left-of x e there before, level-old x (cell_of g.cells on.at) before))
         (λ x e lt there ends. elim (cases_lt x (length ls)) [
           | inl before ↦ inl (left-of x e there before, level-old x (cell_of g.cells on.at) before)
@@ -262,7 +260,7 @@ module _ {C : Type 0} (g : Config) (valid : IsConfig g) (len : ℕ) (image : Opt
         cut)
         (w.looks k n l o.0 (left-of k l at early) his o.1)
 
-    pub ended-looked : HaveLooked g len image place (ls ++ last ∷ []) qs
+    pub ended-looked : HaveLooked g len told (ls ++ last ∷ []) qs
     ended-looked = record {
       level = level;
       reach = λ k e at ends n q party i in_range.

@@ -48,7 +48,7 @@ use Rattle.trace_run.specs.callers.Group.{AllWorked, HaveWorked, LeavesFront, Le
 use Rattle.trace_run.specs.callers.Groups.{AreBetween, AreDone, DidEndLine, DidLines, DidLinesAtOnce, ForkFailed, HaveCome, HaveCounted, HaveReached, KeepNothing, MaySync, StepsOn, StoodSo, goes_on}
 use Rattle.trace_run.specs.callers.InOrder.{AreInGroup}
 use Rattle.trace_run.specs.callers.Looking.{HaveLooked}
-use Rattle.trace_run.specs.callers.Together.{BeginsGroup, EndsGroup, GroupLines, IsFirstPlace, OfCells, BetweenGroups, WorkAtOnce, WorkInGroups, between_groups, ends_group, groups_done, groups_of, over_callers, IsCutLast, lines_with_end, with_first}
+use Rattle.trace_run.specs.callers.Together.{BeginsGroup, EndsGroup, GroupLines, IsFirstPlace, OfCells, BetweenGroups, ToldAsBegun, WorkAtOnce, WorkInGroups, between_groups, ends_group, groups_done, groups_of, over_callers, IsCutLast, lines_with_end, with_first}
 use Rattle.trace_run.specs.callers.WorkLines.{HasFront, calls_of_lines, noted_of_work}
 use Rattle.trace_run.proofs.callers.AbsorbLemmas.{over-few}
 use Rattle.trace_run.proofs.callers.BesideLemmas.{fed-idle}
@@ -64,6 +64,7 @@ use Rattle.trace_run.proofs.callers.LineLists.{AreInside, all-inside, calls-appe
 use Rattle.trace_run.proofs.callers.LookedLemmas.{answered-looked, lines-looked, stopped-looked}
 use Rattle.trace_run.proofs.callers.LookingLemmas.{none-looked}
 use Rattle.trace_run.proofs.callers.MoreLemmas.{fed-about, have-come-more, lines-of, with_lines}
+use Rattle.trace_run.proofs.callers.ToldLemmas.{told-early, told-front, told-late, told_then}
 use Rattle.trace_run.proofs.feeds.FedLemmas.{ops-are, used-more, used-once, fed-beside}
 use Rattle.trace_run.proofs.feeds.SeriesLemmas.{group-so-far, moved-so-far, none-so-far}
 use Rattle.trace_run.proofs.RunLemmas.{calls-faults, calls-reads}
@@ -211,12 +212,37 @@ after-groups before (l ∷ ls) = elim (cases_true (ends_group l.op)) [
       ∙ (first-more before l (groups_of ls) ∙ (after-groups (before ++ l ∷ []) ls ∙ append_assoc before (l ∷ []) ls))
 ]
 
-in-groups-more : {P : Type 0} (pools : Ghosts P) (config : Config) (Cells : OfCells) (before : List Line) (gs : List GroupLines) (last : GroupLines) (a b c : BetweenGroups P) (worked : P) → WorkInGroups pools config Cells before gs a b
-    → WorkAtOnce pools config.callers last b.pool worked → EndsGroup pools config Cells (after_groups before gs ++ last.lines) last.end (between_groups worked b.group b.next) c → WorkInGroups pools config Cells before (gs ++ last ∷ []) a c
-in-groups-more pools config Cells before [] last a b c worked done once ends =
-    (worked, c, subst (λ x. WorkAtOnce pools config.callers last x.pool worked) done once, subst (λ x. EndsGroup pools config Cells (before ++ last.lines) last.end (between_groups worked x.group x.next) c) done ends, refl)
-in-groups-more pools config Cells before (g ∷ gs) last a b c worked done once ends =
-    (done.0, done.1, done.2, done.3, in-groups-more pools config Cells (lines_with_end (before ++ g.lines) g.end) gs last done.1 b c worked done.4 once ends)
+in-groups-more : {P : Type 0} (pools : Ghosts P) (config : Config) (Cells : OfCells) (told : (k : ℕ) → Option (List ℕ)) (before : List Line) (gs : List GroupLines) (last : GroupLines) (a b c : BetweenGroups P) (worked : P) → WorkInGroups pools config Cells told before gs a b
+    → WorkAtOnce pools config.callers last b.pool worked → EndsGroup pools config Cells (after_groups before gs ++ last.lines) last.end (between_groups worked b.group b.next) c → ToldAsBegun told (after_groups before gs) last.lines (pools.told b.pool)
+    → WorkInGroups pools config Cells told before (gs ++ last ∷ []) a c
+in-groups-more pools config Cells told before [] last a b c worked done once ends begun =
+    (worked, c, subst (λ x. WorkAtOnce pools config.callers last x.pool worked) done once, subst (λ x. EndsGroup pools config Cells (before ++ last.lines) last.end (between_groups worked x.group x.next) c) done ends,
+        subst (λ x. ToldAsBegun told before last.lines (pools.told x.pool)) done begun, refl)
+in-groups-more pools config Cells told before (g ∷ gs) last a b c worked done once ends begun =
+    (done.0, done.1, done.2, done.3, done.4, in-groups-more pools config Cells told (lines_with_end (before ++ g.lines) g.end) gs last done.1 b c worked done.5 once ends begun)
+
+-- behind groups stand at least the lines before them
+end-long : (ls : List Line) (end : Option Line) → length ls ≤ length (lines_with_end ls end)
+end-long ls None = omega arith
+end-long ls (Some l) = omega (arith, length-append ls (l ∷ []))
+
+after-long : (before : List Line) (gs : List GroupLines) → length before ≤ length (after_groups before gs)
+after-long before [] = omega arith
+after-long before (g ∷ gs) =
+    let rest = after-long (lines_with_end (before ++ g.lines) g.end) gs in
+    let end = end-long (before ++ g.lines) g.end in
+    omega (arith, rest, end, length-append before g.lines)
+
+-- groups did so by what is told of their own lines
+in-groups-told : {P : Type 0} (pools : Ghosts P) (config : Config) (Cells : OfCells) (told now : (k : ℕ) → Option (List ℕ)) (before : List Line) (gs : List GroupLines) (a b : BetweenGroups P) → ((k : ℕ) → k < length (after_groups before gs) → now k ≡ told k)
+    → WorkInGroups pools config Cells told before gs a b → WorkInGroups pools config Cells now before gs a b
+in-groups-told pools config Cells told now before [] a b same done = done
+in-groups-told pools config Cells told now before (g ∷ gs) a b same done =
+    let rest = after-long (lines_with_end (before ++ g.lines) g.end) gs in
+    let end = end-long (before ++ g.lines) g.end in
+    (done.0, done.1, done.2, done.3,
+        λ j below. same (length before + j) (omega (arith, below, rest, end, length-append before g.lines)) ∙ done.4 j below,
+        in-groups-told pools config Cells told now (lines_with_end (before ++ g.lines) g.end) gs done.1 b same done.5)
 
 -- what callers and feeder are told to have done to cells
 pub told-of : (cache : Cache) (restored : List Restored) (len : ℕ) (image : Option (List ℕ)) (place : ℕ) (blocks : List Ptr) (os : List Op) (rs : List Reply) (w : RunWork) (crew : Crew OnHeap) → HaveCome cache restored len image place blocks os rs w crew → w.stopped ≡ no_work
@@ -245,10 +271,12 @@ between-none cache restored pools devices trace start was crew come knows place 
       reads = λ room. let none = over-zero cache.config.callers (asked []) (λ n below. refl) in omega (arith, none);
       faults = λ room. let none = over-zero cache.config.callers (failed []) (λ n below. refl) in omega (arith, none);
     };
+    told = λ k. pools.told start.pool;
+    told_front = λ k. refl;
     groups = λ several. refl;
     used = λ several. (refl, refl);
     fed = none-so-far dbuf_meanings devices cache restored was crew.feeder seen;
-    looked = none-looked cache.config (pools.size start.pool) (pools.told start.pool) start.next crew.parties.items;
+    looked = none-looked cache.config (pools.size start.pool) (λ k. pools.told start.pool) crew.parties.items;
   };
   begins = λ more. tt;
   goes_on = refl;
@@ -366,10 +394,22 @@ module _ {P D : Type 0} (cache : Cache) (restored : List Restored) (pools : Ghos
   all-worked : AllWorked cache pools trace.blocks callers from (λ n. lines_of_caller n ms) old.kept.items old.parties.items new.kept.items new.parties.items
   all-worked = subst (λ (k : ℕ). AllWorked cache pools trace.blocks k from (λ n. lines_of_caller n ms) old.kept.items old.parties.items new.kept.items new.parties.items) reached.come.parties did-lines.worked
 
+  -- what the pool told as each line's group began
+  abbrev told_begun : (k : ℕ) → Option (List ℕ)
+  told_begun = told_then reached.told (length w.lines) (pools.told was.pool)
+
+  begun-front : (k : ℕ) → HasFront start.next (pools.told start.pool) (told_begun k)
+  begun-front = told-front reached.told (length w.lines) (pools.told was.pool) start.next (pools.told start.pool) reached.told_front reached.counted.keeps.told
+
+  begun-these : ToldAsBegun told_begun (after_groups [] (groups_of w.lines)) ms (pools.told was.pool)
+  begun-these = subst (λ (ls : List Line). ToldAsBegun told_begun ls ms (pools.told was.pool)) (sym (after-groups [] w.lines))
+      (λ j below. told-late reached.told (length w.lines) (pools.told was.pool) (length w.lines + j) (omega arith))
+
   -- how its lines on objects looked at cells
-  looked-lines : HaveLooked cache.config (pools.size start.pool) (pools.told start.pool) start.next done.lines new.parties.items
+  looked-lines : HaveLooked cache.config (pools.size start.pool) told_begun done.lines new.parties.items
   looked-lines =
-      lines-looked pools cache restored (pools.size start.pool) (pools.told start.pool) start.next trace.blocks os rs w old new reached.come reached.looked ms inside-these from all-worked (unused.size ∙ reached.counted.keeps.size) from-front
+      lines-looked pools cache restored (pools.size start.pool) (pools.told start.pool) start.next trace.blocks os rs w old new reached.come reached.told reached.looked ms inside-these from all-worked (unused.size ∙ reached.counted.keeps.size)
+      (pools.told was.pool) unused.told
 
   pub knows-new : Knows (openings_of trace) new.feeder
   knows-new = same ∙ reached.knows
@@ -381,11 +421,14 @@ module _ {P D : Type 0} (cache : Cache) (restored : List Restored) (pools : Ghos
   seen-grown : (i : ℕ) → IsCell cache.config i → StartsWith (front_of i new.feeder.own.seen) (front_of i old.feeder.own.seen)
   seen-grown = (fed-beside dbuf_meanings devices cache qs (length old.parties.items) ss a b old.feeder new.feeder did-lines.beside (fed-idle cache old.feeder.own.about.openings _ _ _ _ old.feeder reached.come.feeder) again).same.keeps.fronts
 
-  groups-so-far : 2 ≤ callers → WorkInGroups pools cache.config (Cells new.feeder) [] (groups_of w.lines) start was
-  groups-so-far several = in-groups-as pools cache.config (Cells old.feeder) (Cells new.feeder) (stood-more (openings_of trace) cache.config old.feeder new.feeder seen-grown) [] (groups_of w.lines) start was (reached.groups several)
+  groups-so-far : 2 ≤ callers → WorkInGroups pools cache.config (Cells new.feeder) told_begun [] (groups_of w.lines) start was
+  groups-so-far several =
+      in-groups-told pools cache.config (Cells new.feeder) reached.told told_begun [] (groups_of w.lines) start was
+      (λ k below. told-early reached.told (length w.lines) (pools.told was.pool) k (subst (λ (ls : List Line). k < length ls) (after-groups [] w.lines) below))
+      (in-groups-as pools cache.config (Cells old.feeder) (Cells new.feeder) (stood-more (openings_of trace) cache.config old.feeder new.feeder seen-grown) reached.told [] (groups_of w.lines) start was (reached.groups several))
 
-  groups-behind : (last : Crew OnHeap) → ((i : ℕ) → IsCell cache.config i → StartsWith (front_of i last.feeder.own.seen) (front_of i new.feeder.own.seen)) → 2 ≤ callers → WorkInGroups pools cache.config (Cells last.feeder) [] (groups_of w.lines) start was
-  groups-behind last grown several = in-groups-as pools cache.config (Cells new.feeder) (Cells last.feeder) (stood-more (openings_of trace) cache.config new.feeder last.feeder grown) [] (groups_of w.lines) start was (groups-so-far several)
+  groups-behind : (last : Crew OnHeap) → ((i : ℕ) → IsCell cache.config i → StartsWith (front_of i last.feeder.own.seen) (front_of i new.feeder.own.seen)) → 2 ≤ callers → WorkInGroups pools cache.config (Cells last.feeder) told_begun [] (groups_of w.lines) start was
+  groups-behind last grown several = in-groups-as pools cache.config (Cells new.feeder) (Cells last.feeder) (stood-more (openings_of trace) cache.config new.feeder last.feeder grown) told_begun [] (groups_of w.lines) start was (groups-so-far several)
 
   -- ---- the trace ends with these lines
 
@@ -401,8 +444,10 @@ module _ {P D : Type 0} (cache : Cache) (restored : List Restored) (pools : Ghos
       first = reached.first;
       behind = reached.behind;
       counted = counted-lines;
-      groups = λ several. subst (λ (gs : List GroupLines). WorkInGroups pools cache.config (Cells new.feeder) [] gs start (between_groups to was.group was.next)) (sym groups-are)
-          (in-groups-more pools cache.config (Cells new.feeder) [] (groups_of w.lines) alone-group start was (between_groups to was.group was.next) to (groups-so-far several) (once None) refl);
+      told = told_begun;
+      told_front = begun-front;
+      groups = λ several. subst (λ (gs : List GroupLines). WorkInGroups pools cache.config (Cells new.feeder) told_begun [] gs start (between_groups to was.group was.next)) (sym groups-are)
+          (in-groups-more pools cache.config (Cells new.feeder) told_begun [] (groups_of w.lines) alone-group start was (between_groups to was.group was.next) to (groups-so-far several) (once None) refl begun-these);
       used = λ several. subst (λ (gs : List GroupLines). UsedInGroups devices trace.blocks callers gs done.feeds (lent_in begun) (lent_in b)) (sym groups-are) (used-lines several alone-group refl);
       fed = fed-lines;
       looked = looked-lines;
@@ -434,12 +479,14 @@ module _ {P D : Type 0} (cache : Cache) (restored : List Restored) (pools : Ghos
       first = reached.first;
       behind = reached.behind;
       counted = counted-lines;
-      groups = λ several. subst (λ (gs : List GroupLines). WorkInGroups pools cache.config (Cells last.feeder) [] gs start (between_groups to was.group was.next)) (sym groups-are)
-          (in-groups-more pools cache.config (Cells last.feeder) [] (groups_of w.lines) alone-group start was (between_groups to was.group was.next) to (groups-behind last h.so.made.cells several) (once None) refl);
+      told = told_begun;
+      told_front = begun-front;
+      groups = λ several. subst (λ (gs : List GroupLines). WorkInGroups pools cache.config (Cells last.feeder) told_begun [] gs start (between_groups to was.group was.next)) (sym groups-are)
+          (in-groups-more pools cache.config (Cells last.feeder) told_begun [] (groups_of w.lines) alone-group start was (between_groups to was.group was.next) to (groups-behind last h.so.made.cells several) (once None) refl begun-these);
       used = λ several. subst (λ (gs : List GroupLines). UsedInGroups devices trace.blocks callers gs done.feeds (lent_in begun) (lent_in b)) (sym groups-are) (used-lines several alone-group refl);
       fed = moved-so-far dbuf_meanings devices cache restored done.feeds begun b new.feeder last.feeder fed-lines
           (λ shard below. made-sees cache h.work h.more new last come-lines.feeder.number h.so.made shard [] (h.so.none shard below) tt);
-      looked = stopped-looked pools cache restored (pools.size start.pool) (pools.told start.pool) start.next trace.blocks (os ++ qs) (rs ++ ss) done new last come-lines looked-lines h.work h.more h.so.made
+      looked = stopped-looked pools cache restored (pools.size start.pool) (pools.told start.pool) start.next trace.blocks (os ++ qs) (rs ++ ss) done new last come-lines told_begun looked-lines h.work h.more h.so.made
           (parted-length cache h.so.made.lines new.parties.items last.parties.items h.so.made.parted ∙ come-lines.parties);
     };
     ended = h.ended;
@@ -502,13 +549,15 @@ module _ {P D : Type 0} (cache : Cache) (restored : List Restored) (pools : Ghos
         first = reached.first;
         behind = omega (arith, reached.behind, turn.later);
         counted = counted-end;
-        groups = λ several. subst (λ (gs : List GroupLines). WorkInGroups pools cache.config (Cells last.feeder) [] gs start fin) (sym groups-ended)
-            (in-groups-more pools cache.config (Cells last.feeder) [] (groups_of w.lines) ended-group start was fin to (groups-behind last turn.so.made.cells several) (once (Some l))
-            (subst (λ (ls : List Line). EndsGroup pools cache.config (Cells last.feeder) (ls ++ ms) (Some l) (between_groups to was.group was.next) fin) (sym (after-groups [] w.lines)) turn.ends));
+        told = told_begun;
+        told_front = begun-front;
+        groups = λ several. subst (λ (gs : List GroupLines). WorkInGroups pools cache.config (Cells last.feeder) told_begun [] gs start fin) (sym groups-ended)
+            (in-groups-more pools cache.config (Cells last.feeder) told_begun [] (groups_of w.lines) ended-group start was fin to (groups-behind last turn.so.made.cells several) (once (Some l))
+            (subst (λ (ls : List Line). EndsGroup pools cache.config (Cells last.feeder) (ls ++ ms) (Some l) (between_groups to was.group was.next) fin) (sym (after-groups [] w.lines)) turn.ends) begun-these);
         used = λ several. subst (λ (gs : List GroupLines). UsedInGroups devices trace.blocks callers gs done.feeds (lent_in begun) (lent_in b)) (sym groups-ended) (used-lines several ended-group refl);
         fed = moved-so-far dbuf_meanings devices cache restored done.feeds begun b new.feeder last.feeder fed-lines
             (λ shard below. made-sees cache turn.work turn.more new last come-lines.feeder.number turn.so.made shard (events_of_feeder callers op) (turn.so.feeds shard below) (asked-gives callers op));
-        looked = answered-looked pools cache restored (pools.size start.pool) (pools.told start.pool) start.next trace.blocks (os ++ qs) (rs ++ ss) done new last come-lines looked-lines turn.work turn.more turn.so.made
+        looked = answered-looked pools cache restored (pools.size start.pool) (pools.told start.pool) start.next trace.blocks (os ++ qs) (rs ++ ss) done new last come-lines told_begun looked-lines turn.work turn.more turn.so.made
             (parted-length cache turn.so.made.lines new.parties.items last.parties.items turn.so.made.parted ∙ come-lines.parties) l (ends-nobody op turn.so.ends).0;
       };
       begins = λ less. subst (BeginsGroup trace.ops) (sym all-long) (op, at, turn.so.ends);
@@ -534,7 +583,7 @@ stops-on cache restored pools devices trace start after begun is replied replies
 -- where a fork failed, the groups are those before it
 as-forked : {P D : Type 0} (cache : Cache) (restored : List Restored) (pools : Ghosts P) (devices : Devices D) (trace : Trace) (start was : BetweenGroups P) (begun is : Device D) (rs : List Reply) (w : RunWork) (crew : Crew OnHeap)
     → HaveReached cache restored pools devices trace start was begun is Whole rs w crew → HaveReached cache restored pools devices trace start was begun is Fork rs w crew
-as-forked cache restored pools devices trace start was begun is rs w crew h = record { few = h.few; come = h.come; knows = h.knows; first = h.first; behind = h.behind; counted = h.counted; groups = h.groups; used = h.used; fed = h.fed; looked = h.looked }
+as-forked cache restored pools devices trace start was begun is rs w crew h = record { few = h.few; come = h.come; knows = h.knows; first = h.first; behind = h.behind; counted = h.counted; told = h.told; told_front = h.told_front; groups = h.groups; used = h.used; fed = h.fed; looked = h.looked }
 
 feed-left : (op : Op) → caller_of op ≡ None → ends_group op ≡ false → is_feed op ≡ true
 feed-left (ops.Read n t x window) none inside = cc

@@ -71,9 +71,9 @@ module _ {P : Type 0} (pools : Ghosts P) (config : Config) (Said So : OfCells) (
   ends-group-as before None from to is = is
   ends-group-as before (Some l) from to s = ends-by-as before l.op l.reply l.work from to s
 
-  pub in-groups-as : (before : List Line) (gs : List GroupLines) (from to : BetweenGroups P) → WorkInGroups pools config Said before gs from to → WorkInGroups pools config So before gs from to
-  in-groups-as before [] from to is = is
-  in-groups-as before (g ∷ gs) from to w = (w.0, w.1, w.2, ends-group-as (before ++ g.lines) g.end _ w.1 w.3, in-groups-as (lines_with_end (before ++ g.lines) g.end) gs w.1 to w.4)
+  pub in-groups-as : (told : (k : ℕ) → Option (List ℕ)) (before : List Line) (gs : List GroupLines) (from to : BetweenGroups P) → WorkInGroups pools config Said told before gs from to → WorkInGroups pools config So told before gs from to
+  in-groups-as told before [] from to is = is
+  in-groups-as told before (g ∷ gs) from to w = (w.0, w.1, w.2, ends-group-as (before ++ g.lines) g.end _ w.1 w.3, w.4, in-groups-as told (lines_with_end (before ++ g.lines) g.end) gs w.1 to w.5)
 
   -- and at one that stopped
   stopped-as : (before : List Line) (t : ℕ) (work : Work) (group next : ℕ) (from after : P) (why : SyncFault) → AnswersWith pools group next from after config (λ cells xs Besides. Said before t work cells xs) (Err why)

@@ -64,6 +64,7 @@ use Rattle.trace_run.proofs.callers.LookedLemmas.{answered-looked, lines-looked,
 use Rattle.trace_run.proofs.callers.MeetLemmas.{parted-waits}
 use Rattle.trace_run.proofs.callers.MoreLemmas.{have-come-by, with_lines}
 use Rattle.trace_run.proofs.callers.StepLemmas.{asked, counted-more, failed, range-at, told-of}
+use Rattle.trace_run.proofs.callers.ToldLemmas.{told-front, told_then}
 use Rattle.trace_run.proofs.feeds.FedLemmas.{HasFedMore, group-ends, made-shaped, ops-are, replies-told}
 use Rattle.trace_run.proofs.feeds.SeriesLemmas.{moved-so-far}
 use Rattle.trace_run.proofs.feeds.TurnFeeds.{joined-more, joined-so-far, parted-more, parted-so-far}
@@ -248,11 +249,14 @@ module _ {P D : Type 0} (cache : Cache) (restored : List Restored) (pools : Ghos
             first = reached.first;
             behind = reached.behind;
             counted = counted-more pools start.next cache.config.callers w.lines ms start.pool was.pool to (omega (arith, more, few, long)) (omega (arith, one)) reached.counted (pool-front pools start.next was.pool to leaves) reads faults;
+            told = told_then reached.told (length w.lines) (pools.told was.pool);
+            told_front = told-front reached.told (length w.lines) (pools.told was.pool) start.next (pools.told start.pool) reached.told_front reached.counted.keeps.told;
             groups = λ several. absurd (omega (arith, one, several));
             used = λ several. absurd (omega (arith, one, several));
             fed = so_far;
-            looked = lines-looked pools cache restored (pools.size start.pool) (pools.told start.pool) start.next trace.blocks os rs w old new reached.come reached.looked ms (all-inside cache.config.callers qs ss ms own are) was.pool
-                (subst (λ (k : ℕ). AllWorked cache pools trace.blocks k was.pool (λ n. lines_of_caller n ms) old.kept.items old.parties.items new.kept.items new.parties.items) reached.come.parties worked) reached.counted.keeps.size reached.counted.keeps.told;
+            looked = lines-looked pools cache restored (pools.size start.pool) (pools.told start.pool) start.next trace.blocks os rs w old new reached.come reached.told reached.looked ms (all-inside cache.config.callers qs ss ms own are) was.pool
+                (subst (λ (k : ℕ). AllWorked cache pools trace.blocks k was.pool (λ n. lines_of_caller n ms) old.kept.items old.parties.items new.kept.items new.parties.items) reached.come.parties worked) reached.counted.keeps.size
+                (pools.told was.pool) refl;
           };
           goes_on = refl;
           may_sync = record {
@@ -472,11 +476,13 @@ module _ {P D : Type 0} (cache : Cache) (restored : List Restored) (pools : Ghos
           first = reached.first;
           behind = omega (arith, reached.behind, turn.later);
           counted = counted-end;
+          told = reached.told;
+          told_front = reached.told_front;
           groups = λ several. absurd (omega (arith, one, several));
           used = λ several. absurd (omega (arith, one, several));
           fed = moved-so-far dbuf_meanings devices cache restored w.feeds begun a old.feeder last.feeder reached.fed
               (λ shard below. made-sees cache turn.work turn.more old last reached.come.feeder.number turn.so.made shard (events_of_feeder cache.config.callers op) (turn.so.feeds shard below) (asked-gives cache.config.callers op));
-          looked = answered-looked pools cache restored (pools.size start.pool) (pools.told start.pool) start.next trace.blocks os rs w old last reached.come reached.looked turn.work turn.more turn.so.made
+          looked = answered-looked pools cache restored (pools.size start.pool) (pools.told start.pool) start.next trace.blocks os rs w old last reached.come reached.told reached.looked turn.work turn.more turn.so.made
               (parted-length cache turn.so.made.lines old.parties.items last.parties.items turn.so.made.parted ∙ reached.come.parties) l nobody;
         };
         goes_on = refl;
@@ -506,11 +512,13 @@ module _ {P D : Type 0} (cache : Cache) (restored : List Restored) (pools : Ghos
           first = reached.first;
           behind = reached.behind;
           counted = reached.counted;
+          told = reached.told;
+          told_front = reached.told_front;
           groups = λ several. absurd (omega (arith, one, several));
           used = λ several. absurd (omega (arith, one, several));
           fed = moved-so-far dbuf_meanings devices cache restored w.feeds begun a old.feeder last.feeder reached.fed
               (λ shard below. made-sees cache h.work h.more old last reached.come.feeder.number h.so.made shard [] (h.so.none shard below) tt);
-          looked = stopped-looked pools cache restored (pools.size start.pool) (pools.told start.pool) start.next trace.blocks os rs w old last reached.come reached.looked h.work h.more h.so.made
+          looked = stopped-looked pools cache restored (pools.size start.pool) (pools.told start.pool) start.next trace.blocks os rs w old last reached.come reached.told reached.looked h.work h.more h.so.made
               (parted-length cache h.so.made.lines old.parties.items last.parties.items h.so.made.parted ∙ reached.come.parties);
         };
         ended = h.ended;

@@ -133,12 +133,12 @@ module _ (cache : Cache) (valid : IsConfig cache.config) (ps : List PartyPlace) 
   there-closed : (i : ℕ) → IsCell g i → (c : OnHeap) × (get_elem? e.cells i ≡ some c)
   there-closed i range = there e.cells i (subst (λ (k : ℕ). i < k) (sym ends.cells) range)
 
-  module _ (len : ℕ) (image : Option (List ℕ)) (place : ℕ) (ls : List Line) (crew : List PartyPlace) (h : HaveLooked g len image place ls crew) (fits : AllFit g ls)
+  module _ (len : ℕ) (told : (k : ℕ) → Option (List ℕ)) (ls : List Line) (crew : List PartyPlace) (h : HaveLooked g len told ls crew) (fits : AllFit g ls)
       (did : (i : ℕ) (c : OnHeap) → get_elem? e.cells i ≡ some c → (m : ℕ) → m < g.callers → done_by m c.value.history ≡ events_of_cell i (noted_of_work (lines_of_caller m ls)))
       (from : (n : ℕ) → n < g.callers → (p : PartyPlace) × (get_elem? crew n ≡ some p) × (w : Known OnHeap) × (get_elem? ends.views n ≡ some w) × EndsFrom g p.own.about.openings p.own.seen w) where
     -- how a line of n's looked
     abbrev Cut : (k n : ℕ) → n < g.callers → Oid → Line → Type 0
-    Cut k n below at l = LooksCut g len image place (from n below).0.own.about.openings (from n below).0.own.seen ls h.level k n at l
+    Cut k n below at l = LooksCut g len told (from n below).0.own.about.openings (from n below).0.own.seen ls h.level k n at l
 
     cut-of : (k n : ℕ) (below : n < g.callers) (l : Line) → slice_get ls k ≡ Some l → is_of_caller n l.op ≡ true → IfSome (on_object l.op) (λ on. Cut k n below on.at l)
     cut-of k n below l at his = h.looks k n l (from n below).0 at his (from n below).1
@@ -208,7 +208,7 @@ module _ (cache : Cache) (valid : IsConfig cache.config) (ps : List PartyPlace) 
 
     -- ---- a line
 
-    looked : (k n : ℕ) (below : n < g.callers) (l : Line) (at : Oid) → Cut k n below at l → LookedAt g len image place e.cells n ls k at l
+    looked : (k n : ℕ) (below : n < g.callers) (l : Line) (at : Oid) → Cut k n below at l → LookedAt g len told e.cells n ls k at l
     looked k n below l at cut =
         let a = cut.from in
         let f = from n below in
@@ -232,15 +232,13 @@ module _ (cache : Cache) (valid : IsConfig cache.config) (ps : List PartyPlace) 
           until = λ m x v less lt at_x stops. all-until i range n below k l at refl cut m x v less at_x stops lt;
           brought = subst (λ (x : ℕ × List Mapping). BringsAt len at (outline_after x.0 x.1 a.cell.value.history) l.work.brought) (λ z. (began.0 z, began.1 z)) a.brought;
           acts = subst (λ (x : ℕ × List Mapping). ActsFor g n (own_event l.op) (outline_after x.0 x.1 a.cell.value.history) l.work l.reply) (λ z. (began.0 z, began.1 z)) a.acts;
-          now = cut.now;
-          told = cut.told;
-          answer = subst (λ (x : ℕ × List Mapping). AnswersObject len cut.now x.0 x.1 a.cell.value.history l.work.brought l.op l.reply) (λ z. (began.0 z, began.1 z)) a.answer;
+          answer = subst (λ (x : ℕ × List Mapping). AnswersObject len (told k) x.0 x.1 a.cell.value.history l.work.brought l.op l.reply) (λ z. (began.0 z, began.1 z)) a.answer;
         }
 
-    by-cell : (k n : ℕ) (below : n < g.callers) (l : Line) (o : Option OnObject) → IfSome o (λ on. Cut k n below on.at l) → IsAnsweredBy g len image place e.cells n ls k o l
+    by-cell : (k n : ℕ) (below : n < g.callers) (l : Line) (o : Option OnObject) → IfSome o (λ on. Cut k n below on.at l) → IsAnsweredBy g len told e.cells n ls k o l
     by-cell k n below l None cut = tt
     by-cell k n below l (Some on) cut = looked k n below l on.at cut
 
     -- All lines of callers are answered by cells, by how they looked at them.
-    pub all-by-cells : ((n : ℕ) (l : Line) (k : ℕ) → slice_get ls k ≡ Some l → is_of_caller n l.op ≡ true → n < g.callers) → AreAnsweredByCells g len image place e.cells ls
+    pub all-by-cells : ((n : ℕ) (l : Line) (k : ℕ) → slice_get ls k ≡ Some l → is_of_caller n l.op ≡ true → n < g.callers) → AreAnsweredByCells g len told e.cells ls
     all-by-cells below k n l at his = by-cell k n (below n l k at his) l (on_object l.op) (cut-of k n (below n l k at his) l at his)

@@ -92,7 +92,9 @@ module _ {P D : Type 0} (pools : Ghosts P) (devices : DeviceGhosts D) (before af
         );
         place = place.0;
         first = place.1;
-        objects = λ k n l at his. subst (λ (o : Option OnObject). IsAnsweredBy trace.config (pools.size before) (pools.told before) place.0 closed.cells n (plain_lines trace.ops replies) k o l)
+        told = λ k. pools.told before;
+        told_front = λ k. refl;
+        objects = λ k n l at his. subst (λ (o : Option OnObject). IsAnsweredBy trace.config (pools.size before) (λ j. pools.told before) closed.cells n (plain_lines trace.ops replies) k o l)
             (sym (plain-off trace.config trace.ops replies done k l at)) tt;
         in_turn = λ _ further. absurd (false≢true (sym done ∙ further));
         together = λ two. absurd (omega (arith, two, one));
@@ -136,6 +138,8 @@ module _ {P D : Type 0} (pools : Ghosts P) (devices : DeviceGhosts D) (before af
         in_turn = λ _ _. runs;
         place = ran.place;
         first = ran.first;
+        told = ran.told;
+        told_front = ran.told_front;
         objects = ran.objects;
         together = λ two. absurd (omega (arith, two, one));
         idle = λ none. absurd (false≢true (sym (ap has_further none) ∙ further));
@@ -171,6 +175,8 @@ module _ {P D : Type 0} (pools : Ghosts P) (devices : DeviceGhosts D) (before af
         in_turn = λ one _. absurd (omega (arith, two, one));
         place = ran.place;
         first = ran.first;
+        told = ran.told;
+        told_front = ran.told_front;
         objects = ran.objects;
         together = λ _. told;
         idle = λ none. let whole = all-done none ending refl ran.stopped in (whole, unworked none whole);
@@ -187,7 +193,7 @@ module _ {P D : Type 0} (pools : Ghosts P) (devices : DeviceGhosts D) (before af
     refl,
   )
     where
-      told : RunsTogether pools before after ran.place trace ending work closed.cells (report_of_closed ending rebuilt replies closed)
+      told : RunsTogether pools before after ran.place ran.told trace ending work closed.cells (report_of_closed ending rebuilt replies closed)
       told = ran.together two rebuilt refl
 
       -- without a line nothing stops
@@ -211,8 +217,8 @@ module _ {P D : Type 0} (pools : Ghosts P) (devices : DeviceGhosts D) (before af
       unworked none whole =
           let no_ops : answered_ops trace ending replies ≡ [] = ap (λ (e : Ending). answered_ops trace e replies) whole ∙ none in
           let empty : work.lines ≡ [] = no-lines (answered_ops trace ending replies) replies work.lines no_ops ran.did.lines in
-          let groups : WorkInGroups pools trace.config (StoodThen trace closed.cells) [] [] (between_groups before 1 ran.place) told.reached =
-          subst (λ (x : Ending × List Line). WorkInGroups pools trace.config (StoodThen trace closed.cells) [] (groups_done x.0 x.1) (between_groups before 1 ran.place) told.reached) (λ i. (whole i, empty i)) told.groups in
+          let groups : WorkInGroups pools trace.config (StoodThen trace closed.cells) ran.told [] [] (between_groups before 1 ran.place) told.reached =
+          subst (λ (x : Ending × List Line). WorkInGroups pools trace.config (StoodThen trace closed.cells) ran.told [] (groups_done x.0 x.1) (between_groups before 1 ran.place) told.reached) (λ i. (whole i, empty i)) told.groups in
           let ended : EndsRun pools trace.config (StoodThen trace closed.cells) trace replies work.lines work.stopped Whole told.reached after =
           subst (λ (e : Ending). EndsRun pools trace.config (StoodThen trace closed.cells) trace replies work.lines work.stopped e told.reached after) whole told.ended in
           ended.1 ∙ ap (λ (s : BetweenGroups P). s.pool) groups

@@ -442,8 +442,8 @@ module _ (cache : Cache) (valid : IsConfig cache.config) (restored : List Restor
 
   -- All lines of callers on objects are answered by the closed cells.
   module _ (trace : Trace) (config : g ≡ trace.config) (knows : Knows (openings_of trace) crew.feeder) where
-    pub run-objects : HaveLooked g len image place work.lines crew.parties.items → ((k : ℕ) (op : Op) → slice_get os k ≡ Some op → (n : ℕ) → caller_of op ≡ Some n → n < g.callers) → AreAnsweredByCells g len image place closed.cells work.lines
-    run-objects looked below = all-by-cells cache valid h.closing closed h.ends len image place work.lines crew.parties.items looked come.did.fits
+    pub run-objects : (told : (k : ℕ) → Option (List ℕ)) → HaveLooked g len told work.lines crew.parties.items → ((k : ℕ) (op : Op) → slice_get os k ≡ Some op → (n : ℕ) → caller_of op ≡ Some n → n < g.callers) → AreAnsweredByCells g len told closed.cells work.lines
+    run-objects told looked below = all-by-cells cache valid h.closing closed h.ends len told work.lines crew.parties.items looked come.did.fits
         (λ i c at m less. ((run-cells trace config knows).each i c (slice-of closed.cells i c at)).did m (subst (λ (x : Config). m < parties_of x) config (omega (arith, less))) ∙ ap (events_of_cell i) (caller-noted m less))
         (λ n few. let p = caller-ends n few in (party-at n, subst (λ (x : PartyPlace). get_elem? crew.parties.items n ≡ some x) (party-is n few) (come.each n few).at.party_at, p.0, p.1, p.2))
         (λ n l k at his. own-at work.lines (own-lines-of (λ n. n < g.callers) os rs work.lines come.did.lines below) k l at n (caller-is n l.op his))

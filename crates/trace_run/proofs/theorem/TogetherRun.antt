@@ -255,8 +255,8 @@ module _ {P D : Type 0} (cache : Cache) (pools : Ghosts P) (devices : Devices D)
       go Sync ends = omega (arith, ends.answer.outside.faults.more (omega (arith, room, reached-faults room, faults-few)), reached-faults room)
       go (Full need left) ends = ends.answer.outside.faults ∙ reached-faults room
 
-  objects : AreAnsweredByCells cache.config (pools.size before) (pools.told before) place closed.cells work.lines
-  objects = run-objects cache valid restored (pools.size before) (pools.told before) place trace.blocks os more rs work crew come closed h trace config d.reached.knows d.reached.looked below-all
+  objects : AreAnsweredByCells cache.config (pools.size before) d.reached.told closed.cells work.lines
+  objects = run-objects cache valid restored (pools.size before) (pools.told before) place trace.blocks os more rs work crew come closed h trace config d.reached.knows d.reached.told d.reached.looked below-all
 
   -- what its feeds leave of the cache device
   pub group-fed : LeavesFed devices trace.config restored done-work.feeds was is (histories_of closed)
@@ -282,7 +282,9 @@ module _ {P D : Type 0} (cache : Cache) (pools : Ghosts P) (devices : Devices D)
         (run-answers cache valid restored (pools.size before) (pools.told before) place trace.blocks os more rs work crew come closed h below-all);
     place = place;
     first = d.reached.first;
-    objects = subst (λ (g : Config). AreAnsweredByCells g (pools.size before) (pools.told before) place closed.cells work.lines) config objects;
+    told = d.reached.told;
+    told_front = d.reached.told_front;
+    objects = subst (λ (g : Config). AreAnsweredByCells g (pools.size before) d.reached.told closed.cells work.lines) config objects;
     config = h.ends.config ∙ config;
     explained = explained;
     cells = cells-are;
@@ -291,8 +293,8 @@ module _ {P D : Type 0} (cache : Cache) (pools : Ghosts P) (devices : Devices D)
     faults = after-faults;
     together = λ several rebuilt found. record {
       reached = d.now;
-      groups = in-groups-as pools trace.config (StoodSo (openings_of trace) trace.config crew.feeder) (StoodThen trace closed.cells) stood [] (groups_done ending work.lines) (between_groups before 1 place) d.now
-          (subst (λ (g : Config). WorkInGroups pools g (StoodSo (openings_of trace) g crew.feeder) [] (groups_done ending work.lines) (between_groups before 1 place) d.now) config (d.reached.groups (subst (λ (g : Config). 2 ≤ g.callers) (sym config) several)));
+      groups = in-groups-as pools trace.config (StoodSo (openings_of trace) trace.config crew.feeder) (StoodThen trace closed.cells) stood d.reached.told [] (groups_done ending work.lines) (between_groups before 1 place) d.now
+          (subst (λ (g : Config). WorkInGroups pools g (StoodSo (openings_of trace) g crew.feeder) d.reached.told [] (groups_done ending work.lines) (between_groups before 1 place) d.now) config (d.reached.groups (subst (λ (g : Config). 2 ≤ g.callers) (sym config) several)));
       ended = ends ending d.ended;
       counted = λ n below. counted-at n (subst (λ (g : Config). n < g.callers) (sym config) below);
       cut = λ shard below.

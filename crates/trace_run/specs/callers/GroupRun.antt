@@ -30,6 +30,7 @@ use Rattle.trace_run.specs.Deeds.{Noted}
 use Rattle.trace_run.specs.KeptBlocks.{Stands}
 use Rattle.trace_run.specs.Meeting.{AreWaiting, HaveGivenBack, IsFed}
 use Rattle.trace_run.specs.Restores.{found_keys}
+use Rattle.trace_run.specs.callers.WorkLines.{HasFront}
 use Rattle.trace_run.specs.callers.Together.{IsFirstPlace, RunsTogether, StopsSo, answered_ops, faults_told, groups_done, report_of_closed}
 
 -- all parties of a cache, by their numbers, none of which keeps anything
@@ -54,13 +55,16 @@ pub record RanTogether {P D : Type 0} (pools : Ghosts P) (devices : Devices D) (
   -- syncs write from this place on
   pub place : ℕ
   pub first : IsFirstPlace (pools.size before) trace.blocks place
-  pub objects : AreAnsweredByCells trace.config (pools.size before) (pools.told before) place closed.cells work.lines
+  -- what the pool told as the group of each line began, by the lines' places; up to that place it is what it told at first
+  pub told : (k : ℕ) → Option (List ℕ)
+  pub told_front : (k : ℕ) → HasFront place (pools.told before) (told k)
+  pub objects : AreAnsweredByCells trace.config (pools.size before) told closed.cells work.lines
   pub config : closed.config ≡ trace.config
   pub explained : Explain trace restored work replies (ends_in closed) (histories_of closed)
   pub cells : AreCellsOf trace (noted_by trace.config work) closed
   pub kept : AreEndedSo trace.config 0 closed.cells work.ended
   pub reads : pools.reads before < 2 ^ 63 → pools.reads after ≡ pools.reads before + sum_by pool_reads (histories_of closed)
   pub faults : pools.faults before < 2 ^ 63 → pools.faults after ≡ pools.faults before + faults_told ending replies
-  pub together : 2 ≤ trace.config.callers → (rebuilt : Option Rebuilt) → found_keys rebuilt ≡ restored → RunsTogether pools before after place trace ending work closed.cells (report_of_closed ending rebuilt replies closed)
+  pub together : 2 ≤ trace.config.callers → (rebuilt : Option Rebuilt) → found_keys rebuilt ≡ restored → RunsTogether pools before after place told trace ending work closed.cells (report_of_closed ending rebuilt replies closed)
   pub used : 2 ≤ trace.config.callers → UsedInGroups devices trace.blocks trace.config.callers (groups_done ending work.lines) work.feeds was is
   pub stopped : StopsSo pools before after trace replies ending

@@ -51,7 +51,7 @@ use Rattle.trace_run.specs.RunWork.{AllFit, IsRunWork, RunWork, acts_of_syncs, k
 use Rattle.trace_run.specs.callers.Beside.{FeedsBeside, WorksBeside}
 use Rattle.trace_run.specs.callers.DeviceForks.{UsedInGroups}
 use Rattle.trace_run.specs.callers.Looking.{HaveLooked}
-use Rattle.trace_run.specs.callers.WorkLines.{AnswersLines, AreLinesOf, acts_of_work, calls_of_lines, noted_of_work}
+use Rattle.trace_run.specs.callers.WorkLines.{AnswersLines, AreLinesOf, HasFront, acts_of_work, calls_of_lines, noted_of_work}
 use Rattle.trace_run.specs.callers.Together.{AreCut, BeginsGroup, BetweenGroups, IsCutLast, IsFirstPlace, StoppedAt, StopsSync, WorkInGroups, between_groups, groups_done, over_callers}
 
 -- the line gave a capacity, and is answered so; or it is a sync that is answered; or it asked for a feed, and is answered by its report, or by none
@@ -134,13 +134,16 @@ pub record HaveReached {P D : Type 0} (cache : Cache) (restored : List Restored)
   pub first : IsFirstPlace (pools.size before.pool) trace.blocks before.next
   pub behind : before.next ≤ now.next
   pub counted : HaveCounted pools before.next cache.config.callers work.lines before.pool now.pool
+  -- what the pool told as the group of each line began, by the lines' places
+  pub told : (k : ℕ) → Option (List ℕ)
+  pub told_front : (k : ℕ) → HasFront before.next (pools.told before.pool) (told k)
   -- several callers did so group by group; what one caller did stands elsewhere
-  pub groups : 2 ≤ cache.config.callers → WorkInGroups pools cache.config (StoodSo (openings_of trace) cache.config crew.feeder) [] (groups_done ending work.lines) before now
+  pub groups : 2 ≤ cache.config.callers → WorkInGroups pools cache.config (StoodSo (openings_of trace) cache.config crew.feeder) told [] (groups_done ending work.lines) before now
   pub used : 2 ≤ cache.config.callers → UsedInGroups devices trace.blocks cache.config.callers (groups_done ending work.lines) work.feeds (lent_in was) (lent_in is)
   -- each feed went on where the one before it left the ring
   pub fed : AreMadeSoFar dbuf_meanings devices cache restored work.feeds was is crew.feeder
   -- each line on an object looked behind all groups before its own, and before all behind it
-  pub looked : HaveLooked cache.config (pools.size before.pool) (pools.told before.pool) before.next work.lines crew.parties.items
+  pub looked : HaveLooked cache.config (pools.size before.pool) told work.lines crew.parties.items
 
 -- The callers stand between two groups of a trace.
 pub record AreBetween {P D : Type 0} (cache : Cache) (restored : List Restored) (pools : Ghosts P) (devices : Devices D) (trace : Trace) (before now : BetweenGroups P) (was is : Device D) (replies : List Reply) (work : RunWork) (crew : Crew OnHeap) : Type 0 where

@@ -215,6 +215,10 @@ abbrev pub lines_with_end : List Line → Option Line → List Line
 lines_with_end ls None = ls
 lines_with_end ls (Some l) = ls ++ l ∷ []
 
+-- As the group of these lines began the pool told this, by the lines' places behind those before them.
+abbrev pub ToldAsBegun : (told : (k : ℕ) → Option (List ℕ)) → (before lines : List Line) → Option (List ℕ) → Type 0
+ToldAsBegun told before lines now = (j : ℕ) → j < length lines → told (length before + j) ≡ now
+
 module _ {P : Type 0} (pool : Ghosts P) (config : Config) (Cells : OfCells) where
   -- All dirty blocks were written, from the place at which the sync before stopped, and the group's number is their birth; the reply tells how many.
   pub record SyncsGroup (before : List Line) (tick : ℕ) (reply : Reply) (work : Work) (from to : BetweenGroups P) : Type 0 where
@@ -254,12 +258,13 @@ module _ {P : Type 0} (pool : Ghosts P) (config : Config) (Cells : OfCells) wher
   EndsRun trace replies before work Sync from after = StopsSync trace replies before work sync_fault.PoolFault from after
   EndsRun trace replies before work (Full need left) from after = StopsSync trace replies before work (sync_fault.PoolFull need left) from after
 
-  -- The callers did these groups, one after another, behind these lines: each at once, on forks of the pool as it was then, and then the line that ends it.
-  abbrev pub WorkInGroups : (before : List Line) → List GroupLines → (from to : BetweenGroups P) → Type 0
-  WorkInGroups before [] from to = to ≡ from
-  WorkInGroups before (group ∷ groups) from to =
+  -- The callers did these groups, one after another, behind these lines: each at once, on forks of the pool as it was then, and then the line that ends it. By the lines' places this is what the pool
+  -- told as the group of each began.
+  abbrev pub WorkInGroups : (told : (k : ℕ) → Option (List ℕ)) → (before : List Line) → List GroupLines → (from to : BetweenGroups P) → Type 0
+  WorkInGroups told before [] from to = to ≡ from
+  WorkInGroups told before (group ∷ groups) from to =
       (worked : P) × (next : BetweenGroups P) × WorkAtOnce pool config.callers group from.pool worked × EndsGroup (before ++ group.lines) group.end (between_groups worked from.group from.next) next
-      × WorkInGroups (lines_with_end (before ++ group.lines) group.end) groups next to
+      × ToldAsBegun told before group.lines (pool.told from.pool) × WorkInGroups told (lines_with_end (before ++ group.lines) group.end) groups next to
 
 -- ---- what a line that ends a group puts into histories
 
@@ -319,10 +324,10 @@ pub record StoodThen (trace : Trace) (closed : List OnHeap) (before : List Line)
   pub noted : work.noted ≡ noted_of trace.config.callers xs
 
 -- With two callers or more, each has a fork of the pool in each group, made as the group begins; the first sync writes from this place on. Where one fails, that group isn't begun, and the
--- pool has only counted that. Where a sync stops, the lines of its group are done, and none behind it is begun.
-pub record RunsTogether {P : Type 0} (pool : Ghosts P) (before after : P) (place : ℕ) (trace : Trace) (ending : Ending) (work : RunWork) (closed : List OnHeap) (report : Report) : Type 0 where
+-- pool has only counted that. Where a sync stops, the lines of its group are done, and none behind it is begun. By the lines' places this is what the pool told as the group of each began.
+pub record RunsTogether {P : Type 0} (pool : Ghosts P) (before after : P) (place : ℕ) (told : (k : ℕ) → Option (List ℕ)) (trace : Trace) (ending : Ending) (work : RunWork) (closed : List OnHeap) (report : Report) : Type 0 where
   pub reached : BetweenGroups P
-  pub groups : WorkInGroups pool trace.config (StoodThen trace closed) [] (groups_done ending work.lines) (between_groups before 1 place) reached
+  pub groups : WorkInGroups pool trace.config (StoodThen trace closed) told [] (groups_done ending work.lines) (between_groups before 1 place) reached
   pub ended : EndsRun pool trace.config (StoodThen trace closed) trace report.replies work.lines work.stopped ending reached after
   -- each caller's reads of its forks are those that its events stand for
   pub counted : (n : ℕ) → n < trace.config.callers → length (calls_of_lines (lines_of_caller n work.lines)) ≡ reads_of_caller n report.histories
