@@ -215,9 +215,14 @@ after-groups before (l ∷ ls) = elim (cases_true (ends_group l.op)) [
 in-groups-more : {P : Type 0} (pools : Ghosts P) (config : Config) (Cells : OfCells) (told : (k : ℕ) → Option (List ℕ)) (before : List Line) (gs : List GroupLines) (last : GroupLines) (a b c : BetweenGroups P) (worked : P) → WorkInGroups pools config Cells told before gs a b
     → WorkAtOnce pools config.callers last b.pool worked → EndsGroup pools config Cells (after_groups before gs ++ last.lines) last.end (between_groups worked b.group b.next) c → ToldAsBegun told (after_groups before gs) last.lines (pools.told b.pool)
     → WorkInGroups pools config Cells told before (gs ++ last ∷ []) a c
-in-groups-more pools config Cells told before [] last a b c worked done once ends begun =
-    (worked, c, subst (λ x. WorkAtOnce pools config.callers last x.pool worked) done once, subst (λ x. EndsGroup pools config Cells (before ++ last.lines) last.end (between_groups worked x.group x.next) c) done ends,
-        subst (λ x. ToldAsBegun told before last.lines (pools.told x.pool)) done begun, refl)
+in-groups-more pools config Cells told before [] last a b c worked done once ends begun = (
+  worked,
+  c,
+  subst (λ x. WorkAtOnce pools config.callers last x.pool worked) done once,
+  subst (λ x. EndsGroup pools config Cells (before ++ last.lines) last.end (between_groups worked x.group x.next) c) done ends,
+  subst (λ x. ToldAsBegun told before last.lines (pools.told x.pool)) done begun,
+  refl,
+)
 in-groups-more pools config Cells told before (g ∷ gs) last a b c worked done once ends begun =
     (done.0, done.1, done.2, done.3, done.4, in-groups-more pools config Cells told (lines_with_end (before ++ g.lines) g.end) gs last done.1 b c worked done.5 once ends begun)
 
@@ -239,10 +244,14 @@ in-groups-told : {P : Type 0} (pools : Ghosts P) (config : Config) (Cells : OfCe
 in-groups-told pools config Cells told now before [] a b same done = done
 in-groups-told pools config Cells told now before (g ∷ gs) a b same done =
     let rest = after-long (lines_with_end (before ++ g.lines) g.end) gs in
-    let end = end-long (before ++ g.lines) g.end in
-    (done.0, done.1, done.2, done.3,
-        λ j below. same (length before + j) (omega (arith, below, rest, end, length-append before g.lines)) ∙ done.4 j below,
-        in-groups-told pools config Cells told now (lines_with_end (before ++ g.lines) g.end) gs done.1 b same done.5)
+    let end = end-long (before ++ g.lines) g.end in (
+      done.0,
+      done.1,
+      done.2,
+      done.3,
+      λ j below. same (length before + j) (omega (arith, below, rest, end, length-append before g.lines)) ∙ done.4 j below,
+      in-groups-told pools config Cells told now (lines_with_end (before ++ g.lines) g.end) gs done.1 b same done.5,
+    )
 
 -- what callers and feeder are told to have done to cells
 pub told-of : (cache : Cache) (restored : List Restored) (len : ℕ) (image : Option (List ℕ)) (place : ℕ) (blocks : List Ptr) (os : List Op) (rs : List Reply) (w : RunWork) (crew : Crew OnHeap) → HaveCome cache restored len image place blocks os rs w crew → w.stopped ≡ no_work
