@@ -1,4 +1,4 @@
--- The run of a trace with one caller over the shared cache.
+-- The run of a trace with one caller over the shared cache, whose lines are reads, holds, drops and capacities.
 use Rattle.std.specs.Prelude.{◌≡◌, ℕ, List, [], filter, length, map, sum_by}
 use Rattle.std.specs.List.{AllByRecursion, range_with_len}
 use Rattle.arc_core.specs.declared.event.Event.{Event}
