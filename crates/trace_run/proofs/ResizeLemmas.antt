@@ -320,7 +320,7 @@ module _ {C : Type 0} (m : Meanings C) (cache : Cache) (p : Place (Known C)) (ot
         made =
             let first : SameMade g p q = grown-same g p q have.number have.about have.mine have.self.starts have.self.cells stands.seen stands.cells in
             let both : SameMade g p r = same-then g p q r first given.made in
-            record { number = both.number; cells = both.cells; entries = both.entries; keeps = record { about = both.keeps.about; fronts = both.keeps.fronts; shards = both.keeps.shards } };
+            record { number = both.number; cells = both.cells; entries = both.entries; keeps = record { about = both.keeps.about; fronts = both.keeps.fronts; shards = both.keeps.shards; older = both.keeps.older } };
         settled = λ feeder settled i. given.picks (have.number ∙ feeder) i ∙ (ap (λ (l : Ledger). list_at i l.picked) have.ledger ∙ settled i);
         entries = λ none j a at range. none j a (subst (λ (l : List Mine). get_elem? l j ≡ some a) have.mine (given.left.mine j a range at)) range;
         one = one-front;

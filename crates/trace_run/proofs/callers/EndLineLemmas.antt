@@ -113,7 +113,7 @@ module _ (cache : Cache) (old new : Crew OnHeap) (number : old.feeder.number ≡
     since = j.since;
     told = λ acts noted told. subst (λ (n : ℕ). HasToldOthers cache.config (acts ++ acts_of_events j.inserts) (noted ++ noted_of n xs) new.feeder) number (j.told acts noted told);
     met = j.met;
-    cells = j.grown;
+    cells = j.keeps.fronts;
     inserted = more-acts cache t old.feeder old.parties.items new.feeder new.parties.items cells xs j;
   }
 

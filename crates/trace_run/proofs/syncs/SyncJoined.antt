@@ -46,7 +46,7 @@ use Rattle.trace_run.specs.Syncing.{SyncedJoined, SyncsJoined, inserts_in, lines
 use Rattle.trace_run.proofs.CellEnds.{HasEndedSome, nothing-from}
 use Rattle.trace_run.proofs.deeds.DeedLemmas.{all-both, others-still}
 use Rattle.trace_run.proofs.deeds.MakesLemmas.{grown-same}
-use Rattle.trace_run.proofs.EndSteps.{all-parted-then, have, last-from, last-stands, lines, one-front, parted, q-all, q-stands, untouched as untouched-by}
+use Rattle.trace_run.proofs.EndSteps.{all-parted-then, have, last-from, last-stands, lines, one-front, parted, q-all, q-stands, untouched as untouched-by, keeps-left}
 use Rattle.trace_run.proofs.syncs.SyncInserts.{HasInserted}
 use Rattle.trace_run.proofs.syncs.SyncSteps.{AreFound, HasTaken, IsFound, all-taken}
 use Rattle.trace_run.proofs.syncs.SyncWrites.{all-synced, cell-front, inserts, synced-cells, synced-front, synced-made, synced-mine, synced-picks, synced-shards, taken}
@@ -251,7 +251,7 @@ module _ (cache : Cache) (p : PartyPlace) (others : List PartyPlace) (stands : S
             ∙ ((λ k. cell-front g stands.valid tick cells xs q r stood.of.config low stood.seen has-all stood.cells s inside i c within k ++ lines_of (synced_in (met.number k) i xs))
             ∙ ap (λ (x : OnHeap). lines_of x.value.history ++ lines_of (synced_in p.number i xs)) (index-at i cells c at));
         met = have-met cache q r then.cells p others met.self.cells met.all;
-        grown = λ i range. starts-then (front_of i r.own.seen) (front_of i q.own.seen) (front_of i p.own.seen) (then.cells i range) (met.self.cells i range);
+        keeps = keeps-left cache p others stands alone apart everyone count differ q joins wrote.events r then of free claims;
         did = all-did;
         fresh = λ own rest i c at. none-at i cells c (t.fresh (untouched-by cache p others stands alone apart everyone count differ q joins own rest)) at;
         inserts = wrote.events;

@@ -73,6 +73,7 @@ use Rattle.trace_run.proofs.theorem.AnsweredCells.{EndsFrom, all-by-cells, goes-
 use Rattle.trace_run.proofs.theorem.EndLemmas.{shown-at}
 use Rattle.trace_run.proofs.theorem.LineAnswers.{IsOfOne, lines-answered, own-lines-of}
 use Rattle.trace_run.proofs.theorem.WorkEnds.{HasEndedWork, IsCallersAct, acts-same, own-told, reads-counted, work-explains, work-level}
+use Rattle.trace_run.proofs.deeds.MakesLemmas.{later-then}
 
 -- ---- lines that are not answered add nothing
 
@@ -408,6 +409,7 @@ module _ (cache : Cache) (valid : IsConfig cache.config) (restored : List Restor
     about = second.about ∙ first.about;
     fronts = λ i range. starts-then (front_of i r.own.seen) (front_of i q.own.seen) (front_of i p.own.seen) (second.fronts i range) (first.fronts i range);
     shards = λ shard. starts-then (front_of (turn_of g shard) r.own.seen) (front_of (turn_of g shard) q.own.seen) (front_of (turn_of g shard) p.own.seen) (second.shards shard) (first.shards shard);
+    older = later-then g p q r first.shards first.older second.older;
   }
 
   kept-cells : (olds news : List PartyPlace) (n : ℕ) (p : PartyPlace) → AllKeepCells g olds news → get_elem? olds n ≡ some p → (q : PartyPlace) × (get_elem? news n ≡ some q) × KeepsCells g p q
@@ -461,7 +463,7 @@ module _ (cache : Cache) (valid : IsConfig cache.config) (restored : List Restor
       let shown : get_elem? h.ends.views g.callers ≡ some c.last.own = subst (λ (k : ℕ). get_elem? h.ends.views k ≡ some c.last.own) (ended g.callers c.last last_at).number (shown-at h.ends.views h.closing g.callers c.last last_at h.ends.shown) in
       let feeder_front : StartsWith (front_of i c.feeder.own.seen) (front_of i crew.feeder.own.seen) = subst (λ (p : PartyPlace). StartsWith (front_of i p.own.seen) (front_of i crew.feeder.own.seen)) (sym same-parties.1) (gave.fed_cells.fronts i range) in
       starts-then (map line.Entry (map event_numbers x.value.history)) (front_of i c.last.own.seen) (front_of i crew.feeder.own.seen) (goes-on cache valid h.closing closed h.ends i x (get-of closed.cells i x at) g.callers c.last.own shown)
-      (starts-then (front_of i c.last.own.seen) (front_of i c.feeder.own.seen) (front_of i crew.feeder.own.seen) (c.ended.grows i range) feeder_front)
+      (starts-then (front_of i c.last.own.seen) (front_of i c.feeder.own.seen) (front_of i crew.feeder.own.seen) (c.ended.keeps.fronts i range) feeder_front)
     where
       many-parted : length c.parted ≡ g.callers
       many-parted = same-long cache c.ended.lines c.callers c.parted c.ended.parted ∙ many
