@@ -90,6 +90,10 @@ module _ {C : Type 0} where
   abbrev pub MakesLater : Config → (p q : Place (Known C)) → Type 0
   MakesLater g p q = (shard place : ℕ) → place < length (front_of (turn_of g shard) p.own.seen) → is_listed (turn_of g shard) place q.own.mine ≡ is_listed (turn_of g shard) place p.own.mine
 
+  -- nor in these fronts of shards
+  abbrev pub MakesBehind : Config → (front : ℕ → List Event) → (p q : Place (Known C)) → Type 0
+  MakesBehind g front p q = (shard place : ℕ) → place < length (front shard) → is_listed (turn_of g shard) place q.own.mine ≡ is_listed (turn_of g shard) place p.own.mine
+
   -- it knows what it knew of the cells' beginnings, and has seen of each cell and of each shard at least what it had
   pub record KeepsCells (g : Config) (p q : Place (Known C)) : Type 0 where
     pub about : q.own.about ≡ p.own.about

@@ -18,7 +18,7 @@ use Rattle.arc_table.specs.Items.{Meanings}
 use Rattle.arc_table.specs.pact.Rule.{Pact}
 use Rattle.arc_table.specs.Seen.{events_in, seen_of, turn_of}
 use Rattle.arc_table.specs.Telling.{opening_of}
-use Rattle.trace_run.specs.Deeds.{HasToldAll, HasToldOthers, KeepsCells, Noted, SameMade}
+use Rattle.trace_run.specs.Deeds.{HasToldAll, HasToldOthers, KeepsCells, Noted, SameMade, MakesBehind}
 use Rattle.trace_run.specs.Making.{AreEventsSeen, AreNoEntries, HasSeenItsEvents, MadeItsOwn}
 use Rattle.arc_table.specs.Views.{after_learned}
 use Rattle.trace_run.specs.declared.kept_blocks.KeptBlock.{KeptBlock}
@@ -254,6 +254,8 @@ module _ {C : Type 0} where
     pub others : (shard : ℕ)
         → AllByRecursion (λ o. own_moments o.number (moments (opening_of cache.config) (front shard)) ≡ own_moments o.number (moments (opening_of cache.config) (seen_of cache.config shard o))) olds
     pub since : (shard : ℕ) → StartsWith (front shard) (seen_of cache.config shard p)
+    pub others_since : (shard : ℕ) → AllByRecursion (λ o. StartsWith (front shard) (seen_of cache.config shard o)) olds
+    pub behind : MakesBehind cache.config front p q
     -- with other numbers than its own it made nothing more, and nothing of a cell
     pub made : SameMade cache.config p q
     pub entries : AreNoEntries cache.config p.own.mine → AreNoEntries cache.config q.own.mine

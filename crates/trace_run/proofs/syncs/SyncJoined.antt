@@ -11,7 +11,7 @@ use Rattle.arc_core.specs.Operations.{Act, moments, own_moments}
 use Rattle.turn_table.specs.Places.{SomeHas}
 use Rattle.arc_table.specs.declared.view.Ledger.{Ledger}
 use Rattle.arc_table.specs.Cache.{Cache, IsPartyOf}
-use Rattle.arc_table.specs.Fronts.{list_at, front_of}
+use Rattle.arc_table.specs.Fronts.{list_at, front_of, StartsWith}
 use Rattle.arc_table.specs.Geometry.{IsCell, parties_of}
 use Rattle.arc_table.specs.Seen.{HasAll, events_in, seen_of, turn_of, AreEntriesSeen}
 use Rattle.arc_table.specs.Telling.{opening_of}
@@ -55,6 +55,7 @@ use Rattle.trace_run.proofs.callers.MeetLemmas.{HaveJoined, have-met, left_alone
 use Rattle.trace_run.proofs.syncs.SyncOwned.{AreDoneFrom, DidSo, IsDone}
 use Rattle.trace_run.specs.MadeLines.{made_from}
 use Rattle.trace_run.specs.CellEnds.{done_by}
+use Rattle.trace_run.proofs.callers.MakerLemmas.{later-behind}
 
 -- ---- cells to which nothing was done have no dirty block
 
@@ -180,6 +181,10 @@ module _ (cache : Cache) (p : PartyPlace) (others : List PartyPlace) (stands : S
     all-own shard [] learned = tt
     all-own shard (o ∷ os) learned = (learned.0.own shard, all-own shard os learned.1)
 
+    all-since : (shard : ℕ) (os : List PartyPlace) → AllByRecursion (λ o. HasLearned g o q) os → AllByRecursion (λ o. StartsWith (seen_of g shard q) (seen_of g shard o)) os
+    all-since shard [] learned = tt
+    all-since shard (o ∷ os) learned = (starts-events (front_of (turn_of g shard) q.own.seen) (front_of (turn_of g shard) o.own.seen) (learned.0.starts shard), all-since shard os learned.1)
+
     -- to have joined is nothing that is told
     met-told : (did : List Act) (had : List Noted) → HasToldOthers g did had p → HasToldOthers g did had q
     met-told did had before = others-still g did had p q (grown-same g p q met.number met.about met.mine met.self.starts met.self.cells stands.seen stands.cells) before
@@ -230,6 +235,8 @@ module _ (cache : Cache) (p : PartyPlace) (others : List PartyPlace) (stands : S
         own = met.self.own;
         others = λ shard. all-own shard others met.all;
         since = λ shard. starts-events (front_of (turn_of g shard) q.own.seen) (front_of (turn_of g shard) p.own.seen) (met.self.starts shard);
+        others_since = λ shard. all-since shard others met.all;
+        behind = later-behind g p q r met.mine then.older;
         settled = λ last settled i. synced-picks g stands.valid tick cells xs q r stood.of.config low stood.seen has-all stood.cells s inside (met.number ∙ last) i ∙ (ap (λ (l : Ledger). list_at i l.picked) met.ledger ∙ settled i);
         one = one-front cache p others stands alone apart everyone count differ q joins;
         same = λ before own rest shard. ap events_in (met.level before own rest shard);
