@@ -14,7 +14,7 @@ use Rattle.trace_run.specs.Deeds.{KeepsCells, MakesBehind, MakesLater}
 use Rattle.trace_run.specs.MadeLines.{IsMaker, is_listed, made_in, owned_from}
 use Rattle.trace_run.proofs.deeds.MadeCells.{listed-owned, owned-map}
 use Rattle.trace_run.proofs.deeds.MadeLemmas.{AreBelow, made-grown}
-use Rattle.trace_run.proofs.deeds.MakesLemmas.{later-same, starts-long}
+use Rattle.trace_run.proofs.deeds.MakesLemmas.{starts-long}
 
 -- what goes on as events is events
 pub events-front : (front rest : List Line) (h : List Event) → map line.Event h ≡ front ++ rest → front ≡ map line.Event (events_in front)
@@ -33,7 +33,7 @@ module _ {C : Type 0} (g : Config) where
   pub later-behind : (p q r : Place (Known C)) → q.own.mine ≡ p.own.mine → MakesLater g q r → MakesBehind g (λ shard. seen_of g shard q) p r
   later-behind p q r same later shard place below =
       let few = events-few (front_of (turn_of g shard) q.own.seen) in
-      later shard place (omega (arith, below, few)) ∙ later-same g p q same shard place (omega (arith, below, few))
+      later shard place (omega (arith, below, few)) ∙ ap (is_listed (turn_of g shard) place) same
 
   module _ (shard : ℕ) (owner : ℕ → ℕ) where
     pub maker-before : (n : ℕ) (p q : Place (Known C)) → KeepsCells g p q → IsMaker g shard owner n q → IsMaker g shard owner n p

@@ -510,6 +510,7 @@ module _ {C : Type 0} (m : Meanings C) (cache : Cache) (restored : List Restored
 
   -- each party made what it is the owner of
   maker-of : (i : ℕ) (l : ShardLog) → get_elem? e.shards i ≡ some l → (n : ℕ) (p : Place (Known C)) → get_elem? ps n ≡ some p → IsMaker settled i (owner i) n p
+  unfolding made party
   maker-of i l at n p is =
       let below : n < parties_of settled = subst (λ (x : ℕ). n < x) long (within ps n p is) in
       subst (IsMaker settled i (owner i) n) (some-injective (party n below).0 p (sym (party n below).1 ∙ is)) (maker-there m cache ps e ends config did (noted_by settled work) made i l at n below)
