@@ -86,15 +86,15 @@ module _ {C : Type 0} where
     pub kinds : (shard c : ℕ) → c ≢ p.number → AllByRecursion HasAct (with_number c (made_in g shard p))
     pub entries : (i : ℕ) → IsCell g i → made_of i p ≡ lines_of_cell i noted
 
-  -- none of the lines of shards that it made later stands in what it had seen
+  -- what it made of each shard later stands from this place on
+  abbrev pub MakesFrom : Config → (from : ℕ → ℕ) → (p q : Place (Known C)) → Type 0
+  MakesFrom g from p q = (shard place : ℕ) → place < from shard → is_listed (turn_of g shard) place q.own.mine ≡ is_listed (turn_of g shard) place p.own.mine
+
+  -- behind all that it had seen
   abbrev pub MakesLater : Config → (p q : Place (Known C)) → Type 0
-  MakesLater g p q = (shard place : ℕ) → place < length (front_of (turn_of g shard) p.own.seen) → is_listed (turn_of g shard) place q.own.mine ≡ is_listed (turn_of g shard) place p.own.mine
+  MakesLater g p q = MakesFrom g (λ shard. length (front_of (turn_of g shard) p.own.seen)) p q
 
-  -- nor in these fronts of shards
-  abbrev pub MakesBehind : Config → (front : ℕ → List Event) → (p q : Place (Known C)) → Type 0
-  MakesBehind g front p q = (shard place : ℕ) → place < length (front shard) → is_listed (turn_of g shard) place q.own.mine ≡ is_listed (turn_of g shard) place p.own.mine
-
-  -- it knows what it knew of the cells' beginnings, and has seen of each cell and of each shard at least what it had
+  -- It knows what it knew of the cells' beginnings, and has seen of each cell and of each shard at least what it had. What it made of shards later stands behind that.
   pub record KeepsCells (g : Config) (p q : Place (Known C)) : Type 0 where
     pub about : q.own.about ≡ p.own.about
     pub fronts : (i : ℕ) → IsCell g i → StartsWith (front_of i q.own.seen) (front_of i p.own.seen)

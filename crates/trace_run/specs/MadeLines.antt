@@ -9,7 +9,7 @@ use Rattle.arc_table.specs.declared.view.Line.{Line}
 use Rattle.arc_table.specs.declared.view.Line.TheVariants as line
 use Rattle.arc_table.specs.declared.view.Mine.{Mine}
 use Rattle.arc_table.specs.Fronts.{front_of}
-use Rattle.arc_table.specs.Seen.{events_in, turn_of}
+use Rattle.arc_table.specs.Seen.{events_in, seen_of, turn_of}
 
 -- a line stands at this place of the history of this turn
 abbrev pub is_at : (turn place : ℕ) → Mine → Bool
@@ -36,7 +36,7 @@ module _ {C : Type 0} where
 module _ {C : Type 0} where
   -- What the party has seen of a shard are events, and it made those that stand at n's places.
   pub record IsMaker (g : Config) (shard : ℕ) (owner : ℕ → ℕ) (n : ℕ) (p : Place (Known C)) : Type 0 where
-    pub events : front_of (turn_of g shard) p.own.seen ≡ map line.Event (events_in (front_of (turn_of g shard) p.own.seen))
+    pub events : front_of (turn_of g shard) p.own.seen ≡ map line.Event (seen_of g shard p)
     pub made : (place : ℕ) → place < length (front_of (turn_of g shard) p.own.seen) → is_listed (turn_of g shard) place p.own.mine ≡ (owner place == n)
 
 -- those of these, which stand from this place on, that are n's, where each place has an owner

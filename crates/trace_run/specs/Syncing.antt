@@ -30,7 +30,7 @@ use Rattle.txg_sync.specs.declared.syncing.SyncFault.TheVariants as fault
 use Rattle.txg_sync.specs.declared.syncing.Synced.{Synced}
 use Rattle.vdev_io.specs.declared.pool.Pool.{Ghosts}
 use Rattle.trace_run.specs.CellEnds.{done_by}
-use Rattle.trace_run.specs.Deeds.{HasToldOthers, Noted, acts_of_events, events_of_cell, events_there, lines_of_cell, KeepsCells, MakesBehind}
+use Rattle.trace_run.specs.Deeds.{HasToldOthers, Noted, acts_of_events, events_of_cell, events_there, lines_of_cell, KeepsCells, MakesFrom}
 use Rattle.trace_run.specs.KeptBlocks.{Stands}
 use Rattle.trace_run.specs.MadeLines.{made_of}
 use Rattle.trace_run.specs.Making.{AreEventsSeen, AreNoEntries}
@@ -103,7 +103,7 @@ pub record SyncsJoined (cache : Cache) (tick : ℕ) (p : PartyPlace) (olds : Lis
       → AllByRecursion (λ o. own_moments o.number (moments (opening_of cache.config) (front shard)) ≡ own_moments o.number (moments (opening_of cache.config) (seen_of cache.config shard o))) olds
   pub since : (shard : ℕ) → StartsWith (front shard) (seen_of cache.config shard p)
   pub others_since : (shard : ℕ) → AllByRecursion (λ o. StartsWith (front shard) (seen_of cache.config shard o)) olds
-  pub behind : MakesBehind cache.config front p q
+  pub behind : MakesFrom cache.config (λ shard. length (front shard)) p q
   -- the feeder has settled all that it picked, where it had before
   pub settled : p.number ≡ cache.config.callers → HasSettled p → HasSettled q
   -- where one other party has seen all that both made, the front is what that one had seen

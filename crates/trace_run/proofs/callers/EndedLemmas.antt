@@ -35,7 +35,7 @@ use Rattle.trace_text.specs.declared.reply.Reply.TheVariants.{Capped}
 use Rattle.trace_run.specs.declared.groups.Crew.{Crew}
 use Rattle.trace_run.specs.declared.kept_blocks.KeptBlock.{KeptBlock}
 use Rattle.trace_run.specs.Acts.{events_of_feeder}
-use Rattle.trace_run.specs.Deeds.{HasToldOthers, Noted, acts_of_events, with_number, KeepsCells, MakesBehind}
+use Rattle.trace_run.specs.Deeds.{HasToldOthers, Noted, acts_of_events, with_number, KeepsCells, MakesFrom}
 use Rattle.trace_run.specs.FeedEvents.{events_of_lines, feeds_told}
 use Rattle.trace_run.specs.FeedSeries.{SeesMore}
 use Rattle.trace_run.specs.Feeds.{FeedDone, is_feed}
@@ -94,7 +94,7 @@ pub record MadeWork (cache : Cache) (work : Work) (more : (shard : ℕ) → List
       → AllByRecursion (λ o. own_moments o.number (moments (opening_of cache.config) (front shard)) ≡ own_moments o.number (moments (opening_of cache.config) (seen_of cache.config shard o))) old.parties.items
   pub since : (shard : ℕ) → StartsWith (front shard) (seen_of cache.config shard old.feeder)
   pub others_since : (shard : ℕ) → AllByRecursion (λ o. StartsWith (front shard) (seen_of cache.config shard o)) old.parties.items
-  pub behind : MakesBehind cache.config front old.feeder new.feeder
+  pub behind : MakesFrom cache.config (λ shard. length (front shard)) old.feeder new.feeder
   pub told : (acts : List Act) (noted : List Noted) → HasToldOthers cache.config acts noted old.feeder → HasToldOthers cache.config (acts ++ work.acts) (noted ++ work.noted) new.feeder
   -- of each cell all have seen the same
   pub met : HaveMet cache.config (old.feeder ∷ old.parties.items) (new.feeder ∷ new.parties.items)

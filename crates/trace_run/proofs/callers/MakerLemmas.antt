@@ -1,5 +1,5 @@
 -- Who made the lines of a shard: what holds of a party that has seen more held of it before, and what it made by a cut.
-use Rattle.std.proofs.Common.{◌≡◌, ℕ, suc, ◌+◌, ◌<◌, ◌≤◌, ◌==◌, List, [], ◌∷◌, ◌++◌, length, map, refl, sym, ap, ◌∙◌, subst, arith}
+use Rattle.std.proofs.Common.{◌≡◌, ℕ, ◌+◌, ◌<◌, ◌≤◌, ◌==◌, List, [], ◌∷◌, ◌++◌, length, map, refl, sym, ap, ◌∙◌, subst, arith}
 use Rattle.std.proofs.lemmas.List.{length-map, map-append}
 use Rattle.arc_core.specs.declared.config.Config.{Config}
 use Rattle.arc_core.specs.declared.event.Event.{Event}
@@ -10,7 +10,7 @@ use Rattle.arc_table.specs.declared.view.Line.TheVariants as line
 use Rattle.arc_table.specs.Fronts.{StartsWith, front_of}
 use Rattle.arc_table.specs.Seen.{events_in, seen_of, turn_of}
 use Rattle.arc_table.proofs.SeenLemmas.{events-map}
-use Rattle.trace_run.specs.Deeds.{KeepsCells, MakesBehind, MakesLater}
+use Rattle.trace_run.specs.Deeds.{KeepsCells, MakesFrom, MakesLater}
 use Rattle.trace_run.specs.MadeLines.{IsMaker, is_listed, made_in, owned_from}
 use Rattle.trace_run.proofs.deeds.MadeCells.{listed-owned, owned-map}
 use Rattle.trace_run.proofs.deeds.MadeLemmas.{AreBelow, made-grown}
@@ -30,7 +30,7 @@ events-few (line.Entry ns ∷ ls) = let h = events-few ls in omega (arith, h)
 
 module _ {C : Type 0} (g : Config) where
   -- what a party makes later than what it had seen is behind the events of that
-  pub later-behind : (p q r : Place (Known C)) → q.own.mine ≡ p.own.mine → MakesLater g q r → MakesBehind g (λ shard. seen_of g shard q) p r
+  pub later-behind : (p q r : Place (Known C)) → q.own.mine ≡ p.own.mine → MakesLater g q r → MakesFrom g (λ shard. length (seen_of g shard q)) p r
   later-behind p q r same later shard place below =
       let few = events-few (front_of (turn_of g shard) q.own.seen) in
       later shard place (omega (arith, below, few)) ∙ ap (is_listed (turn_of g shard) place) same

@@ -452,7 +452,7 @@ module _ (cache : Cache) (valid : IsConfig cache.config) (restored : List Restor
   run-cut owner made i l at =
       let inside : i < g.shards = subst (λ (k : ℕ). i < k) h.ends.shards (within closed.shards i l at) in
       λ k x there_is ends. one-cut-more g restored blocks i (owner i) (take k work.lines) work.feeds x.work.acts (events_at_end g i x.op x.work.noted) (seen_of g i crew.feeder) l.history (since i l at)
-          (come.cut i inside (owner i) (makers-then owner made i l at) k x there_is ends)
+      (come.cut i inside (owner i) (makers-then owner made i l at) k x there_is ends)
 
   pub run-cut-last : (owner : (shard place : ℕ) → ℕ) → HaveMade owner → (i t : ℕ) (l : ShardLog) → get_elem? closed.shards i ≡ some l → (AreMakers g i (owner i) crew → IsCutLast g restored blocks i (owner i) t work (seen_of g i crew.feeder))
       → IsCutLast g restored blocks i (owner i) t ended-work l.history

@@ -521,16 +521,19 @@ module _ {C : Type 0} (m : Meanings C) (cache : Cache) (restored : List Restored
       → ((i : ℕ) (l : ShardLog) → get_elem? e.shards i ≡ some l → EndsWith l.history (drops_at_end settled blocks i settled.callers ops replies ++ events_there settled i work.ended))
       → (x : Explain (record { config = settled; blocks = blocks; objects = []; ops = ops }) restored work replies (map (λ log. end_of log.now) e.shards) histories)
       × ((i : ℕ) (l : ShardLog) → get_elem? e.shards i ≡ some l → (n : ℕ) (p : Place (Known C)) → get_elem? ps n ≡ some p → IsMaker settled i (x.owner i) n p)
-  work-explains emptied begun_so ends_so = (record {
-    shards = length-map e.shards (λ (log : ShardLog). log.history) ∙ ends.shards;
-    legal = all-logs (λ h. IsTrue (is_legal_history (opening_of settled) h)) e.shards (λ i l at. legal i l at);
-    ends = ends-of-logs settled e.shards (λ i l at. now i l at);
-    at_rest = all-logs (λ h. IsAtRest (replay (opening_of settled) h)) e.shards (λ i l at. subst IsAtRest (sym (now i l at)) (rests i l at emptied));
-    begins = λ i inside. let h = log-at e.shards i inside in subst (λ (es : List Event). BeginsWith es (restores_in settled restored i)) (sym h.2) (begun_so i h.0 h.1);
-    every_call = every-call;
-    owner = owner;
-    made = λ i inside. let h = log-at e.shards i inside in subst (AreMadeBy settled i (owner i) did) (sym h.2) (made-by m cache ps e ends config did (noted_by settled work) made i h.0 h.1);
-    ending = λ i inside.
-        let h = log-at e.shards i inside in
-        subst (λ (es : List Event). EndsWith es (drops_at_end settled blocks i settled.callers ops replies ++ events_there settled i work.ended)) (sym h.2) (ends_so i h.0 h.1);
-  }, maker-of)
+  work-explains emptied begun_so ends_so = (
+    record {
+      shards = length-map e.shards (λ (log : ShardLog). log.history) ∙ ends.shards;
+      legal = all-logs (λ h. IsTrue (is_legal_history (opening_of settled) h)) e.shards (λ i l at. legal i l at);
+      ends = ends-of-logs settled e.shards (λ i l at. now i l at);
+      at_rest = all-logs (λ h. IsAtRest (replay (opening_of settled) h)) e.shards (λ i l at. subst IsAtRest (sym (now i l at)) (rests i l at emptied));
+      begins = λ i inside. let h = log-at e.shards i inside in subst (λ (es : List Event). BeginsWith es (restores_in settled restored i)) (sym h.2) (begun_so i h.0 h.1);
+      every_call = every-call;
+      owner = owner;
+      made = λ i inside. let h = log-at e.shards i inside in subst (AreMadeBy settled i (owner i) did) (sym h.2) (made-by m cache ps e ends config did (noted_by settled work) made i h.0 h.1);
+      ending = λ i inside.
+          let h = log-at e.shards i inside in
+          subst (λ (es : List Event). EndsWith es (drops_at_end settled blocks i settled.callers ops replies ++ events_there settled i work.ended)) (sym h.2) (ends_so i h.0 h.1);
+    },
+    maker-of,
+  )
