@@ -522,8 +522,8 @@ module _ {P D : Type 0} (cache : Cache) (restored : List Restored) (pools : Ghos
               (parted-length cache h.so.made.lines old.parties.items last.parties.items h.so.made.parted ∙ reached.come.parties);
         };
         ended = h.ended;
-        last = λ t stopped shard below. subst (λ (tick : ℕ). IsCutLast cache.config restored trace.blocks shard tick (with_stop w h.work) (seen_of cache.config shard last.feeder)) (sym (h.ticks t stopped))
-            (stopped-cut pools devices cache restored (pools.size start.pool) (pools.told start.pool) start.next trace.blocks os rs w h.more old last reached.come between.goes_on h.tick h.work h.so shard below);
+        last = λ t stopped shard below owner makers. subst (λ (tick : ℕ). IsCutLast cache.config restored trace.blocks shard owner tick (with_stop w h.work) (seen_of cache.config shard last.feeder)) (sym (h.ticks t stopped))
+            (stopped-cut pools devices cache restored (pools.size start.pool) (pools.told start.pool) start.next trace.blocks os rs w h.more old last reached.come between.goes_on h.tick h.work h.so shard below owner makers);
       };
       at = between.at;
       lines = between.lines;

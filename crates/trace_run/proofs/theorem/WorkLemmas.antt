@@ -192,9 +192,8 @@ module _ (g : Config) where
   party-at (e ∷ h) zero all inside = all.0
   party-at (e ∷ h) (suc x) all inside = party-at h x all.1 (omega (arith, inside))
 
-  plain-made : (blocks : List Ptr) (os : List Op) (rs : List Reply) (shard : ℕ) (h : List Event) → AreOfParties h → AreMadeBy g shard (acts_by g blocks (plain_work os rs)) h
+  plain-made : (blocks : List Ptr) (os : List Op) (rs : List Reply) (shard : ℕ) (h : List Event) → AreOfParties h → AreMadeBy g shard (number-at h) (acts_by g blocks (plain_work os rs)) h
   plain-made blocks os rs shard h all = record {
-    owner = number-at h;
     party = λ x inside. party-at h x all inside;
     own = λ x e at below. ap (λ (o : Option Event). option_map_or number_of o 0) at;
     acts = λ n i below range. ap acts_of_events (none-owned (number-at h) n (cell_number g i) 0 h all (omega arith)) ∙ sym (no-acts n i (lower n below));
@@ -262,6 +261,7 @@ module _ (trace : Trace) (restored : List Restored) (replies : List Reply) (ends
     at_rest = e.at_rest;
     begins = e.begins;
     every_call = subst (λ (acts : List Act). HoldEveryCallOnce g (shard_of g.shards) (opening_of g) acts (events_by_feeder g restored trace.ops replies []) histories) acts-same e.every_call;
+    owner = λ shard. number-at g (slice_index_or histories shard []);
     made = λ shard inside. plain-made g trace.blocks trace.ops replies shard (slice_index_or histories shard []) (of-parties shard inside);
     ending = λ shard inside. subst (EndsWith (slice_index_or histories shard [])) (sym (append-nil (drops_at_end g trace.blocks shard g.callers trace.ops replies))) (e.ending shard inside);
   }
