@@ -24,7 +24,7 @@ use Rattle.trace_run.specs.CellEnds.{EndedCells, EndedIdle, SeesEnds, end_entry,
 use Rattle.trace_run.specs.Deeds.{HasToldOthers, Noted, acts_of_events, events_there, KeepsCells}
 use Rattle.trace_run.specs.KeptBlocks.{Stands, times}
 use Rattle.trace_run.specs.Making.{AreEventsSeen, AreNoEntries}
-use Rattle.trace_run.specs.Meeting.{AreLast, HasLearned, HaveParted, IsApart, JoinAll, Joins, MayPart, PartAll}
+use Rattle.trace_run.specs.Meeting.{AreLast, HasLearned, HaveParted, IsApart, JoinAll, Joins, PartAll}
 use Rattle.trace_run.proofs.CellsLeft.{entries-more}
 use Rattle.trace_run.proofs.CellEnds.{HasEndedFrom, HasEndedSome, IsUntouched, NoneFrom, all-ended, cell-drops-there, drops-unmade}
 use Rattle.trace_run.proofs.callers.MeetLemmas.{HaveJoined, all-parted, are-last, joined-front, joined_of, left_alone, own-seen-more, parted-then, parted_from, starts-then}
@@ -150,9 +150,6 @@ module _ (cache : Cache) (p : PartyPlace) (others : List PartyPlace) (stands : S
           events = λ seen. idle.events (subst (λ (x : ℕ × List Mine). AreSeen g x.0 x.1 q.own.seen) (λ z. (sym have.number z, sym have.mine z))
               (own-seen-more g p.number p.own.mine p.own.seen q.own.seen have.self.starts seen));
         }
-
-    pub may-part : MayPart cache r
-    may-part = (of, free)
 
     pub last-of : (numbers : List ℕ) → numbers ≡ map (λ o. o.number) others → AreLast numbers r.joined
     last-of = last-from ended.drops r then of free claims

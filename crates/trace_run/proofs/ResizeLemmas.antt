@@ -41,7 +41,7 @@ use Rattle.trace_run.specs.Making.{AreEventsSeen}
 use Rattle.trace_run.proofs.deeds.MakesLemmas.{grown-same, same-none, same-then}
 use Rattle.trace_run.proofs.feeds.PickedLemmas.{resize-picked, roomy-picks}
 use Rattle.trace_run.proofs.callers.MeetLemmas.{HaveJoined, all-level, have-met, all-parted, are-last, joined-front, joined_of, left_alone, parted-then, parted_from, starts-events, starts-then}
-use Rattle.trace_run.proofs.callers.TurnLemmas.{joined, joined-all, joined-stands}
+use Rattle.trace_run.proofs.callers.TurnLemmas.{joined, joined-all, joined-stands, left-stands}
 use Rattle.trace_run.proofs.callers.MakerLemmas.{later-behind}
 
 module _ {C : Type 0} (m : Meanings C) (cache : Cache) (c : ℕ) where
@@ -285,21 +285,6 @@ module _ {C : Type 0} (m : Meanings C) (cache : Cache) (p : Place (Known C)) (ot
     all-since shard [] learned = tt
     all-since shard (o ∷ os) learned = (starts-events (front_of (turn_of g shard) q.own.seen) (front_of (turn_of g shard) o.own.seen) (learned.0.starts shard), all-since shard os learned.1)
 
-    last-stands : Stands cache (left_alone r) []
-    last-stands = record {
-      valid = given.stands.valid;
-      of = record { row = given.stands.of.row; config = given.stands.of.config };
-      free = given.stands.free;
-      cells = record { own = given.stands.cells.own; joined = tt };
-      idle = given.stands.idle;
-      unclaimed = given.stands.unclaimed;
-      seen = record { own = given.stands.seen.own; joined = tt };
-      apart = tt;
-      joined = tt;
-      owned = tt;
-      listed = given.stands.listed;
-    }
-
     pub last-of : (numbers : List ℕ) → numbers ≡ map (λ o. o.number) others → AreLast numbers r.joined
     last-of numbers is = subst (λ (x : List ℕ × List (Kept (Known C))). AreLast x.0 x.1) (λ i. (sym is i, sym kept-joined i)) (are-last others)
 
@@ -315,7 +300,7 @@ module _ {C : Type 0} (m : Meanings C) (cache : Cache) (p : Place (Known C)) (ot
         number = number;
         about = given.stays.about ∙ have.about;
         alone = refl;
-        stands = last-stands;
+        stands = left-stands cache [] r given.stands;
         met = have-met cache q r (leaves-grow g q r given.left) p others have.self.cells have.all;
         front = λ shard. seen_of g shard q;
         seen = given.seen;

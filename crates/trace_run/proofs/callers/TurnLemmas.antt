@@ -97,9 +97,6 @@ other-drops n k s front reads differs =
 module _ {C : Type 0} (m : Meanings C) (cache : Cache) (p : Place (Known C)) (kept : List KeptBlock) (others : List (Place (Known C))) (stands : Stands cache p kept) (alone : p.joined ≡ [])
     (apart : AllByRecursion (IsApart cache) others) (everyone : (n : ℕ) → n < parties_of cache.config → SomeHas n (p ∷ others)) (count : p.parties ≡ parties_of cache.config)
     (differ : AllByRecursion (λ o. o.number ≢ p.number) others) (q : Place (Known C)) (joins : JoinAll m others p q) where
-  abbrev g : Config
-  g = cache.config
-
   pub joined : HaveJoined m cache p others q
   joined = have-joined m cache p (may-join cache kept p stands alone) others q (all-may cache others apart) joins
 

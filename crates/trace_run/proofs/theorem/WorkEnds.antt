@@ -31,7 +31,6 @@ use Rattle.arc_table.specs.declared.about.About.{About}
 use Rattle.arc_table.specs.declared.view.Known.{Known}
 use Rattle.arc_table.specs.Cache.{Cache}
 use Rattle.arc_table.specs.Ended.{Ended, Ends}
-use Rattle.arc_table.specs.Fronts.{StartsWith}
 use Rattle.arc_table.specs.Geometry.{numbers_of, parties_of}
 use Rattle.arc_table.specs.Items.{Meanings}
 use Rattle.arc_table.specs.pact.Logged.{IsSoundLog}
@@ -484,10 +483,6 @@ module _ {C : Type 0} (m : Meanings C) (cache : Cache) (restored : List Restored
   own-told n below i h at =
       let log = history-of e.shards i h at in
       subst (λ (es : List Event). Tell (acts_in shard_is i n (did n)) (own_moments n (moments (opening_of settled) es))) log.2 (caller-told i log.0 log.1 n below)
-
-  -- A history begins with what a party has seen of it.
-  pub begins-seen : (i : ℕ) (l : ShardLog) → get_elem? e.shards i ≡ some l → (n : ℕ) (p : Place (Known C)) → get_elem? ps n ≡ some p → StartsWith l.history (seen_of settled i p)
-  begins-seen i l at n p is = let f = finds i l at n p is in (f.rest, f.whole)
 
   -- The callers' events stand for all reads of the pool.
   pub reads-counted : over_callers settled.callers (λ n. reads_of_caller n histories) ≡ sum_by pool_reads histories

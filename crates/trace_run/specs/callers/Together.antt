@@ -37,7 +37,6 @@ use Rattle.trace_run.specs.Answers.{is_pool_fault}
 use Rattle.trace_run.specs.CellEnds.{done_by}
 use Rattle.trace_run.specs.Deeds.{Noted, acts_of_events, events_of_cell, with_number}
 use Rattle.trace_run.specs.Feeds.{FeedDone}
-use Rattle.trace_run.specs.Lines.{is_of_caller, replies_where}
 use Rattle.trace_run.specs.Objects.{Line, Work, no_work, ops_of, replies_of}
 use Rattle.trace_run.specs.one_caller.PlainRun.{status_of}
 use Rattle.trace_run.specs.Restores.{events_by_feeder, found_keys}
@@ -84,10 +83,6 @@ report_of_closed ending rebuilt replies closed = record {
   status = report_status ending replies;
   short = false;
 }
-
--- the replies to a caller's own operations
-abbrev pub replies_of_caller : (n : ℕ) → List Op → List Reply → List Reply
-replies_of_caller n ops replies = replies_where (is_of_caller n) ops replies
 
 -- f of each of the first so many callers, added up
 abbrev pub over_callers : (callers : ℕ) → (ℕ → ℕ) → ℕ
