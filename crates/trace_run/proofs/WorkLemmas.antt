@@ -235,6 +235,7 @@ module _ {P D : Type 0} (pools : PoolGhosts P) (devices : DeviceGhosts D) (g : C
         brought = f.brought;
         acts = f.acts;
         answer = f.answer;
+        range = f.range;
       }
 
   module _ (valid : IsConfig g) (place : ℕ) where

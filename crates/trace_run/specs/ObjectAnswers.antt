@@ -10,7 +10,7 @@ use Rattle.dbuf_state.specs.declared.oid.Oid.{Oid}
 use Rattle.trace_run.specs.CellEnds.{done_by}
 use Rattle.trace_run.specs.Deeds.{events_of_cell}
 use Rattle.trace_run.specs.Lines.{is_of_caller}
-use Rattle.trace_run.specs.ObjectLines.{OnObject, on_object}
+use Rattle.trace_run.specs.ObjectLines.{OnObject, TellsBrought, on_object}
 use Rattle.trace_run.specs.ObjectReplies.{ActsFor, AnswersObject, BringsAt}
 use Rattle.trace_run.specs.Objects.{Line, own_event}
 use Rattle.trace_run.specs.RunWork.{lines_of_caller}
@@ -18,7 +18,8 @@ use Rattle.trace_run.specs.callers.Together.{ends_group}
 use Rattle.trace_run.specs.callers.WorkLines.{noted_of_work}
 
 -- The cell of the block of a line of n's, which stands at the place k of these, has a history in the end with this front, at which the line looked: it has of n's what its earlier lines did, and
--- nothing else. What was brought for the line is by this front, what the line did stands right behind it, and by it the line was answered, over what the pool told as the line's group began.
+-- nothing else. What was brought for the line is by this front, what the line did stands right behind it, and by it the line was answered, over what the pool told as the line's group began. Where the pool gave
+-- the block, the bytes that it told there then are of the block's pointer.
 pub record LookedAt (g : Config) (pool_len : ℕ) (told : (k : ℕ) → Option (List ℕ)) (cells : List OnHeap) (n : ℕ) (lines : List Line) (k : ℕ) (at : Oid) (l : Line) : Type 0 where
   pub cell : OnHeap
   pub there : slice_get cells (cell_of g.cells at) ≡ Some cell
@@ -32,6 +33,7 @@ pub record LookedAt (g : Config) (pool_len : ℕ) (told : (k : ℕ) → Option (
   pub brought : BringsAt pool_len at (outline_after cell.value.limit cell.value.opening front) l.work.brought
   pub acts : ActsFor g n (own_event l.op) (outline_after cell.value.limit cell.value.opening front) l.work l.reply
   pub answer : AnswersObject pool_len (told k) cell.value.limit cell.value.opening front l.work.brought l.op l.reply
+  pub range : TellsBrought (told k) l.work.brought
 
 -- so it is of a caller's line on an object; one on no object has its answer elsewhere
 abbrev pub IsAnsweredBy : Config → (pool_len : ℕ) → (told : (k : ℕ) → Option (List ℕ)) → List OnHeap → (n : ℕ) → (lines : List Line) → (k : ℕ) → Option OnObject → Line → Type 0

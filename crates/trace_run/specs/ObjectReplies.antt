@@ -27,7 +27,7 @@ use Rattle.trace_text.specs.declared.reply.Reply.TheVariants as replies
 use Rattle.trace_run.specs.Answers.{IsReadRefusal}
 use Rattle.trace_run.specs.CellEnds.{done_by}
 use Rattle.trace_run.specs.Deeds.{Noted, acts_of_events, events_of_cell, lines_of_cell, noted_in}
-use Rattle.trace_run.specs.ObjectLines.{EndsInside, ReleasesFor, WasToBring, cell_lines}
+use Rattle.trace_run.specs.ObjectLines.{EndsInside, ReleasesFor, TellsBrought, WasToBring, cell_lines}
 use Rattle.trace_run.specs.Objects.{AnswersKey, AnswersNoBlock, AnswersRange, Brought, Line, Loaded, NotesNothing, Nothing, OwnEvent, Refused, Work, loads_of, no_work, own_event}
 
 -- over a pool of this length that may tell its bytes, by a cell with this limit and opening to which this had been done, and where this was brought for the line
@@ -151,7 +151,8 @@ ActsFor g n None o work reply = work ≡ no_work
 ActsFor g n (Some own) o work reply = ActsBy g n own o work reply
 
 -- The line of the caller n looked at the cell of its block, which was so, with the opening with which it began: the caller had done just this to it. By that front of the cell's
--- history go what was brought for the line, what the line did and what it was answered. What is seen of the history goes on from there, with what the line did first.
+-- history go what was brought for the line, what the line did and what it was answered. What is seen of the history goes on from there, with what the line did first. Where the pool gave
+-- the block, the bytes that it told there are of the block's pointer.
 pub record AnswersFrom (g : Config) (pool_len : ℕ) (image : Option (List ℕ)) (openings : List (List ℕ)) (seen : List (List Seen)) (n : ℕ) (had : List Noted) (at : Oid) (l : Line) : Type 0 where
   pub cell : OnHeap
   pub sound : IsSound cell.value
@@ -161,6 +162,7 @@ pub record AnswersFrom (g : Config) (pool_len : ℕ) (image : Option (List ℕ))
   pub brought : BringsAt pool_len at (outline_after cell.value.limit cell.value.opening cell.value.history) l.work.brought
   pub acts : ActsFor g n (own_event l.op) (outline_after cell.value.limit cell.value.opening cell.value.history) l.work l.reply
   pub answer : AnswersObject pool_len image cell.value.limit cell.value.opening cell.value.history l.work.brought l.op l.reply
+  pub range : TellsBrought image l.work.brought
 
 -- The same, by a cell that goes on from what was seen of it at first.
 pub record LooksFrom (g : Config) (pool_len : ℕ) (image : Option (List ℕ)) (openings : List (List ℕ)) (begun seen : List (List Seen)) (n : ℕ) (had : List Noted) (at : Oid) (l : Line) : Type 0 where

@@ -25,7 +25,7 @@ use Rattle.dbuf_state.specs.declared.oid.Oid.{Oid}
 use Rattle.trace_run.specs.Deeds.{KeepsCells, Noted, events_of_cell, lines_of_cell}
 use Rattle.trace_run.specs.Lines.{caller_of, is_of_caller}
 use Rattle.trace_run.specs.Meeting.{HaveMet}
-use Rattle.trace_run.specs.ObjectLines.{OnObject, cell_lines, on_object}
+use Rattle.trace_run.specs.ObjectLines.{OnObject, TellsBrought, cell_lines, on_object}
 use Rattle.trace_run.specs.ObjectReplies.{AnswersFrom, AnswersObject, LooksFrom}
 use Rattle.trace_run.specs.Objects.{Line}
 use Rattle.trace_run.specs.RunWork.{lines_of_caller}
@@ -103,6 +103,7 @@ module _ {C : Type 0} (g : Config) (valid : IsConfig g) (len : ℕ) (told : (k :
           brought = cut.from.brought;
           acts = cut.from.acts;
           answer = subst (λ (now : Option (List ℕ)). AnswersObject len now cut.from.cell.value.limit cut.from.cell.value.opening cut.from.cell.value.history l.work.brought l.op l.reply) (sym same) cut.from.answer;
+          range = subst (λ (now : Option (List ℕ)). TellsBrought now l.work.brought) (sym same) cut.from.range;
         };
         since = λ x e lt there ends. let h = before x e lt there ends in subst (StartsWith lines) (sym h.1) (cut.since x e lt h.0 ends);
         until = λ x e lt there ends. elim (later x e lt there ends) [
@@ -132,6 +133,7 @@ module _ {C : Type 0} (g : Config) (valid : IsConfig g) (len : ℕ) (told : (k :
           brought = f.from.brought;
           acts = f.from.acts;
           answer = subst (λ (x : Option (List ℕ)). AnswersObject len x f.from.cell.value.limit f.from.cell.value.opening f.from.cell.value.history l.work.brought l.op l.reply) (sym (told-late told (length ls) now k le)) f.from.answer;
+          range = subst (λ (x : Option (List ℕ)). TellsBrought x l.work.brought) (sym (told-late told (length ls) now k le)) f.from.range;
         };
         since = λ x e lt is ends.
             let early = inside x e is ends in

@@ -30,7 +30,7 @@ use Rattle.trace_text.specs.declared.reply.Reply.{Reply}
 use Rattle.trace_run.specs.callers.WorkLines.{AsksBrought, DidAlone}
 use Rattle.trace_run.specs.CellEnds.{done_by}
 use Rattle.trace_run.specs.Deeds.{HasAct, HasToldAll, Noted, acts_of_events, events_of_cell, noted_in}
-use Rattle.trace_run.specs.ObjectLines.{Did, DidNot, EndsInside, FindsCell, IsBrought, ReleasesFor, SpentOn, WasToBring, cell_lines}
+use Rattle.trace_run.specs.ObjectLines.{Did, DidNot, EndsInside, FindsCell, IsBrought, ReleasesFor, SpentOn, TellsBrought, WasToBring, cell_lines}
 use Rattle.trace_run.specs.ObjectReplies.{ActsAt, ActsFor, AnswersObject, BringsAt, LooksFrom}
 use Rattle.trace_run.specs.Objects.{AnswersKey, AnswersNoBlock, AnswersRange, Brought, Line, Loaded, NotesNothing, Nothing, Refused, Work, loads_of, own_event}
 use Rattle.trace_run.specs.Reads.{now_of}
@@ -176,6 +176,12 @@ module _ {P D : Type 0} (pools : PoolGhosts P) (devices : DeviceGhosts D) (g : C
   asks-so (Loaded ptr from) reply spent all = spent.asks all
   asks-so (Refused ptr) reply spent all = spent.asks all
 
+  -- what the pool tells there of what it gave
+  range-so : (brought : Brought) (reply : Reply) → SpentOn pools devices g p before now brought reply → TellsBrought image brought
+  range-so Nothing reply spent = tt
+  range-so (Loaded ptr from) reply spent = spent.range
+  range-so (Refused ptr) reply spent = tt
+
   -- a line that was done, and one that was refused
   pub from-done : (at : Oid) (t : ℕ) (own : CellEvent) (brought : Brought) (Fits : OnHeap → Type 0) (op : Op) (reply : Reply) (d : Did g at t p q own brought Fits)
       → (ActsAt g p.number (record { at = at; event = own }) (found_outline d.cell) (did-work g at t p q own brought Fits d) → ActsFor g p.number (own_event op) (found_outline d.cell) (did-work g at t p q own brought Fits d) reply)
@@ -192,6 +198,7 @@ module _ {P D : Type 0} (pools : PoolGhosts P) (devices : DeviceGhosts D) (g : C
         brought = brings;
         acts = so (acts-at g at t p q own brought Fits d);
         answer = answer;
+        range = range-so brought reply spent;
       };
       since = d.found.had;
     },
@@ -228,6 +235,7 @@ module _ {P D : Type 0} (pools : PoolGhosts P) (devices : DeviceGhosts D) (g : C
         brought = brings;
         acts = so (refl, refl);
         answer = answer;
+        range = range-so brought reply spent;
       };
       since = d.found.had;
     },

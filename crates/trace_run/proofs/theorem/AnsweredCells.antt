@@ -233,6 +233,7 @@ module _ (cache : Cache) (valid : IsConfig cache.config) (ps : List PartyPlace) 
           brought = subst (λ (x : ℕ × List Mapping). BringsAt len at (outline_after x.0 x.1 a.cell.value.history) l.work.brought) (λ z. (began.0 z, began.1 z)) a.brought;
           acts = subst (λ (x : ℕ × List Mapping). ActsFor g n (own_event l.op) (outline_after x.0 x.1 a.cell.value.history) l.work l.reply) (λ z. (began.0 z, began.1 z)) a.acts;
           answer = subst (λ (x : ℕ × List Mapping). AnswersObject len (told k) x.0 x.1 a.cell.value.history l.work.brought l.op l.reply) (λ z. (began.0 z, began.1 z)) a.answer;
+          range = a.range;
         }
 
     by-cell : (k n : ℕ) (below : n < g.callers) (l : Line) (o : Option OnObject) → IfSome o (λ on. Cut k n below on.at l) → IsAnsweredBy g len told e.cells n ls k o l
