@@ -1,7 +1,5 @@
 -- A cache device that was only read, lent and forked stays so, step by step.
-use Rattle.trace_text.specs.declared.rebuilt.Rebuilt.{Rebuilt}
-use Rattle.l2_dev.specs.Cursor.{CursorState}
-use Rattle.std.proofs.Common.{◌≡◌, ◌++◌, ◌∷◌, [], List, Option, None, Some, refl, sym, ◌∙◌, subst, arith, ap}
+use Rattle.std.proofs.Common.{◌≡◌, ◌++◌, ◌∷◌, [], List, Option, None, Some, refl, sym, ◌∙◌, subst, arith}
 use Rattle.vdev_io.specs.declared.device.CacheDev.{Ghosts}
 use Rattle.std.specs.Prelude.{nat_lt, true, false}
 use Rattle.std.proofs.lemmas.Bool.Decides.{nat_tests}
@@ -9,7 +7,7 @@ use Rattle.l2_log.specs.Rules.{least_ring_end}
 use Rattle.l2_dev.specs.Reading.{OnlyRead}
 use Rattle.trace_run.specs.declared.device.Device.{Device}
 use Rattle.trace_run.specs.declared.device.Device.TheVariants as device
-use Rattle.trace_run.specs.Devices.{IsHandedBack, IsRightKind, MayLose, WasLent, WasOnlyRead, device_of, lent_in, usable, Finds}
+use Rattle.trace_run.specs.Devices.{IsHandedBack, IsRightKind, MayLose, WasLent, WasOnlyRead, device_of, lent_in, usable}
 use Rattle.trace_run.specs.callers.DeviceForks.{GivesFork, GivesForks}
 
 module _ {D : Type 0} (devices : Ghosts D) where

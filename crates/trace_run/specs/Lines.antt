@@ -7,7 +7,6 @@ use Rattle.blk_ptr.specs.Hash.{shard_of}
 use Rattle.trace_text.specs.declared.op.Op.{Op}
 use Rattle.trace_text.specs.declared.op.Op.TheVariants as ops
 use Rattle.trace_text.specs.declared.reply.Reply.{Reply}
-use Rattle.trace_text.specs.declared.trace.Trace.{Trace}
 use Rattle.trace_text.specs.Grammar.{block_of}
 
 -- the caller of an operation, where it is a caller's

@@ -1,7 +1,7 @@
 -- What a run answers, status by status.
 use Rattle.std.specs.Prelude.{◌≡◌, ◌⊎◌, ℕ, ◌+◌, ◌*◌, ◌^◌, ◌<◌, ◌≤◌, List, [], Option, Some, None, filter, is_some, map, replicate, sum_by, Bool, true, false}
 use Rattle.std.specs.Bool.{OnFalse}
-use Rattle.std.specs.List.{list_any, range_with_len, AllByRecursion}
+use Rattle.std.specs.List.{list_any, range_with_len}
 use Rattle.std.specs.Io.KnownBytes.{Appends}
 use Rattle.trace_text.specs.Grammar.{IsTraceText, IsFirstFault, longest_text}
 use Rattle.trace_text.specs.Pages.{IsFirstPageFault, IsPageText}
@@ -14,7 +14,6 @@ use Rattle.arc_check.specs.declared.log.Log.{Log}
 use Rattle.arc_check.specs.declared.verdict.Verdict.{Verdict}
 use Rattle.arc_check.specs.declared.verdict.Verdict.TheVariants as verdicts
 use Rattle.trace_text.specs.declared.fault.Kind.{Kind}
-use Rattle.trace_text.specs.declared.fault.Kind.TheVariants as kinds
 use Rattle.trace_text.specs.declared.ends.ShardEnd.{ShardEnd}
 use Rattle.trace_text.specs.declared.report.Report.{Report}
 use Rattle.trace_text.specs.declared.trace.Trace.{Trace}

@@ -1,6 +1,6 @@
 -- Several callers behind what the feeder did for the line that ends their group, while all had joined it: the line is answered, or a sync stopped there.
-use Rattle.std.proofs.Common.{◌≡◌, ℕ, zero, suc, ◌==◌, ◌<◌, ◌≤◌, nat_lt, Bool, true, false, if◌then◌else◌, List, [], ◌∷◌, ◌++◌, Option, None, length, take, refl, sym, ap, ◌∙◌, subst, inl, inr, arith, append-nil, append_assoc, length-append, eq-eqb, ◌+◌, ◌-◌, Some, map, ne_eqb}
-use Rattle.std.specs.Prelude.{slice_get, filter}
+use Rattle.std.proofs.Common.{◌≡◌, ℕ, zero, suc, ◌==◌, ◌<◌, ◌≤◌, nat_lt, Bool, true, false, if◌then◌else◌, List, [], ◌∷◌, ◌++◌, Option, None, length, take, refl, sym, ap, ◌∙◌, subst, inl, inr, arith, append-nil, append_assoc, length-append, eq-eqb, ◌+◌, ne_eqb}
+use Rattle.std.specs.Prelude.{slice_get}
 use Rattle.std.specs.List.{AllByRecursion}
 use Rattle.std.proofs.lemmas.Bool.{cases_lt, false≢true}
 use Rattle.std.proofs.lemmas.Bool.Decides.{nat_tests}
@@ -26,7 +26,7 @@ use Rattle.arc_table.specs.Geometry.{IsCell, cell_number, parties_of}
 use Rattle.arc_table.specs.Seen.{seen_of, turn_of}
 use Rattle.arc_table.specs.TableLaws.{starts_whole, within}
 use Rattle.arc_table.specs.Telling.{opening_of}
-use Rattle.dbuf_cells.specs.Turns.{OnHeap, PartyPlace}
+use Rattle.dbuf_cells.specs.Turns.{OnHeap}
 use Rattle.l2_feed.specs.Series.{GivesNone}
 use Rattle.trace_text.specs.declared.op.Op.{Op}
 use Rattle.trace_text.specs.declared.op.Op.TheVariants as ops
@@ -42,15 +42,15 @@ use Rattle.trace_run.specs.Feeds.{FeedDone, is_feed}
 use Rattle.trace_run.specs.KeptBlocks.{Stands}
 use Rattle.trace_run.specs.KeptReads.{KeptRead}
 use Rattle.trace_run.specs.Lines.{caller_of, is_of_caller}
-use Rattle.trace_run.specs.Meeting.{HasSettled, HaveMet, HaveParted, IsFed, Resized, Waits, resizes_in, IsLevel}
+use Rattle.trace_run.specs.Meeting.{HasSettled, HaveMet, HaveParted, IsFed, Resized, resizes_in, IsLevel}
 use Rattle.trace_run.specs.dbufs.Objects.{Line, Work, no_work, ops_of, replies_of}
 use Rattle.trace_run.specs.Restores.{events_by_feeder, restores_in}
-use Rattle.trace_run.specs.RunWork.{FitsBy, FitsFeeder, IsSyncWork, RunWork, acts_of_syncs, lines_of_caller, lines_of_feeder, noted_of_syncs, AllFit, IsRunWork, lines_of_party}
+use Rattle.trace_run.specs.RunWork.{FitsBy, FitsFeeder, IsSyncWork, RunWork, acts_of_syncs, lines_of_caller, lines_of_feeder, noted_of_syncs, lines_of_party}
 use Rattle.trace_run.specs.Syncing.{inserts_noted}
 use Rattle.trace_run.specs.callers.Groups.{AreEndLines, ComesAt, HaveCome, IsEndLine, AreMakers}
 use Rattle.trace_run.specs.callers.Together.{AreCut, IsCut, IsCutLast, ends_group, events_at_end}
-use Rattle.trace_run.specs.callers.WorkLines.{acts_of_work, acts_with, acts_with_op, noted_of_work, AreLinesOf}
-use Rattle.trace_run.proofs.callers.GroupLists.{cut-before, cuts-more, get-right, some-same, Cuts}
+use Rattle.trace_run.specs.callers.WorkLines.{acts_of_work, acts_with, acts_with_op, noted_of_work}
+use Rattle.trace_run.proofs.callers.GroupLists.{cut-before, cuts-more, get-right, some-same}
 use Rattle.trace_run.proofs.callers.GroupsLemmas.{parted-at, parted-length}
 use Rattle.trace_run.proofs.callers.LineLists.{acts-lines, are-append, ends-nobody, is_of_feeder, lines-long, nobody-callers, nobody-feeders, noted-append}
 use Rattle.trace_run.proofs.callers.MeetLemmas.{parted-waits, same-own-events, starts-then}

@@ -51,7 +51,7 @@ use Rattle.trace_run.proofs.syncs.SyncInserts.{HasInserted}
 use Rattle.trace_run.proofs.syncs.SyncSteps.{AreFound, HasTaken, IsFound, all-taken}
 use Rattle.trace_run.proofs.syncs.SyncWrites.{all-synced, cell-front, inserts, synced-cells, synced-front, synced-made, synced-mine, synced-picks, synced-shards, taken}
 use Rattle.trace_run.proofs.syncs.SyncTold.{others-synced}
-use Rattle.trace_run.proofs.callers.MeetLemmas.{HaveJoined, have-met, left_alone, own-seen-more, parted_from, starts-events, joined_of}
+use Rattle.trace_run.proofs.callers.MeetLemmas.{HaveJoined, have-met, left_alone, parted_from, starts-events, joined_of}
 use Rattle.trace_run.proofs.syncs.SyncOwned.{AreDoneFrom, DidSo, IsDone}
 use Rattle.trace_run.specs.MadeLines.{made_from}
 use Rattle.trace_run.specs.dbufs.CellEnds.{done_by}

@@ -1,9 +1,8 @@
 -- One caller's lines in sequence: what each finds of the shards, of the cells, of the pool and of the cache device, and what it leaves of them (arc_read, dmu_read, dmu_write, spa_sync and
 -- l2arc_feed_thread, for a single thread). Each finds all that the lines before it did, and nothing else.
-use Rattle.std.specs.Prelude.{◌≡◌, ◌≢◌, ℕ, suc, ◌<◌, List, [], ◌∷◌, ◌++◌, Option, None, Some, IfSome, length, map, slice_get}
+use Rattle.std.specs.Prelude.{◌≡◌, ◌≢◌, ℕ, suc, List, [], ◌∷◌, ◌++◌, Option, None, Some, IfSome, length, map, slice_get}
 use Rattle.std.specs.List.{AllByRecursion, range_with_len}
 use Rattle.blk_ptr.specs.Hash.{shard_of}
-use Rattle.blk_ptr.specs.declared.ptr.Ptr.{Ptr}
 use Rattle.arc_core.specs.PlainShard.{PlainShard}
 use Rattle.arc_core.specs.Replay.{replay}
 use Rattle.arc_core.specs.declared.config.Config.{Config}
