@@ -13,7 +13,6 @@ use Rattle.arc_core.specs.declared.config.Config.{Config}
 use Rattle.arc_core.specs.Operations.{Act}
 use Rattle.arc_table.specs.declared.about.About.{About}
 use Rattle.arc_table.specs.declared.view.Line.{Line as SeenLine}
-use Rattle.arc_table.specs.Fronts.{front_of}
 use Rattle.arc_table.specs.Geometry.{IsCell}
 use Rattle.arc_table.specs.Reading.{KeepsDevice, Outside}
 use Rattle.dbuf_cells.specs.Places.{cell_of}

@@ -63,7 +63,7 @@ module _ (g : Config) (valid : IsConfig g) (len : ℕ) (image : Option (List ℕ
     pub later : FindMore g n ls found k (cell_of g.cells at) (cell_lines look.from.cell ++ lines_of_cell (cell_of g.cells at) l.work.noted)
 
   -- each of n's lines did
-  pub record LookThere (begun seen : List (List Seen)) (had : List Noted) (ls : List Line) : Type 0 where
+  pub record AllLookThere (begun seen : List (List Seen)) (had : List Noted) (ls : List Line) : Type 0 where
     pub found : (k : ℕ) → List Seen
     pub grown : CellsGrow g begun seen
     pub each : (k : ℕ) (l : Line) → slice_get ls k ≡ Some l → is_of_caller n l.op ≡ true → IfSome (on_object l.op) (λ on. LooksThere begun seen (had ++ noted_of_work (lines_of_caller n (take k ls))) ls found k on.at l)
@@ -93,7 +93,7 @@ module _ (g : Config) (valid : IsConfig g) (len : ℕ) (image : Option (List ℕ
 
   -- a line of n's, and those behind it
   module _ (begun next seen : List (List Seen)) (more : CellsGrow g begun next) (had : List Noted) (x : Line) (ls : List Line) (own : is_of_caller n x.op ≡ true)
-      (first : IfSome (on_object x.op) (λ on. LooksFrom g len image openings begun next n had on.at x)) (r : LookThere next seen (had ++ x.work.noted) ls) where
+      (first : IfSome (on_object x.op) (λ on. LooksFrom g len image openings begun next n had on.at x)) (r : AllLookThere next seen (had ++ x.work.noted) ls) where
     later-first : (at : Oid) (f : LooksFrom g len image openings begun next n had at x) (here : List Seen)
         → FindMore g n (x ∷ ls) (found_then here r.found) 0 (cell_of g.cells at) (cell_lines f.from.cell ++ lines_of_cell (cell_of g.cells at) x.work.noted)
     later-first at f here zero e on lt there his is same = absurd (omega (arith, lt))
@@ -124,11 +124,11 @@ module _ (g : Config) (valid : IsConfig g) (len : ℕ) (image : Option (List ℕ
         (by-some (λ (on : OnObject). LooksThere next seen before ls r.found k on.at l) (λ (on : OnObject). LooksThere begun seen before (x ∷ ls) found_all (suc k) on.at l) (on_object l.op)
         (λ on t. behind-one begun next seen more before x ls (found_of begun next had x (on_object x.op) first) r.found k on.at l t) (r.each k l at his))
 
-    own-there : LookThere begun seen had (x ∷ ls)
+    own-there : AllLookThere begun seen had (x ∷ ls)
     own-there = record { found = found_all; grown = λ i in_range. starts-then (front_of i seen) (front_of i next) (front_of i begun) (r.grown i in_range) (more i in_range); each = own-each }
 
   -- a line of another's
-  module _ (begun seen : List (List Seen)) (had : List Noted) (x : Line) (ls : List Line) (other : is_of_caller n x.op ≡ false) (r : LookThere begun seen had ls) where
+  module _ (begun seen : List (List Seen)) (had : List Noted) (x : Line) (ls : List Line) (other : is_of_caller n x.op ≡ false) (r : AllLookThere begun seen had ls) where
     other-each : (k : ℕ) (l : Line) → slice_get (x ∷ ls) k ≡ Some l → is_of_caller n l.op ≡ true
         → IfSome (on_object l.op) (λ on. LooksThere begun seen (had ++ noted_of_work (lines_of_caller n (take k (x ∷ ls)))) (x ∷ ls) (found_then [] r.found) k on.at l)
     other-each zero l at his =
@@ -141,14 +141,14 @@ module _ (g : Config) (valid : IsConfig g) (len : ℕ) (image : Option (List ℕ
         (by-some (λ (on : OnObject). LooksThere begun seen before ls r.found k on.at l) (λ (on : OnObject). LooksThere begun seen before (x ∷ ls) (found_then [] r.found) (suc k) on.at l) (on_object l.op)
         (λ on t. behind-one begun begun seen (λ i in_range. starts_whole (front_of i begun)) before x ls [] r.found k on.at l t) (r.each k l at his))
 
-    other-there : LookThere begun seen had (x ∷ ls)
+    other-there : AllLookThere begun seen had (x ∷ ls)
     other-there = record { found = found_then [] r.found; grown = r.grown; each = other-each }
 
   none-there : (k : ℕ) (l : Line) → slice_get {X = Line} [] k ≡ Some l → ⊥
   none-there k l at = cc
 
   -- all of n's lines among these, by how each went on from the one before it
-  pub look-there : (begun seen : List (List Seen)) (had : List Noted) (ls : List Line) → LooksLines g len image openings begun seen n had (lines_of_caller n ls) → LookThere begun seen had ls
+  pub look-there : (begun seen : List (List Seen)) (had : List Noted) (ls : List Line) → LooksLines g len image openings begun seen n had (lines_of_caller n ls) → AllLookThere begun seen had ls
   look-there begun seen had [] looks = record { found = λ k. []; grown = looks; each = λ k l at his. absurd (none-there k l at) }
   look-there begun seen had (x ∷ ls) looks = elim (cases_true (is_of_caller n x.op)) [
     | inl own ↦

@@ -1,5 +1,5 @@
 -- How callers' lines on objects looked at cells, group by group: behind more lines of theirs, and behind a line that ends their group.
-use Rattle.std.proofs.Common.{◌≡◌, ◌⊎◌, ℕ, zero, suc, ◌+◌, ◌-◌, ◌<◌, ◌≤◌, nat_lt, Bool, true, false, if◌then◌else◌, List, [], ◌∷◌, ◌++◌, Option, Some, None, length, map, take, refl, sym, ap, ◌∙◌, subst, inl, inr, arith, append-nil, append_assoc, length-append}
+use Rattle.std.proofs.Common.{◌≡◌, ◌⊎◌, ℕ, ◌+◌, ◌-◌, ◌<◌, ◌≤◌, nat_lt, Bool, true, false, if◌then◌else◌, List, [], ◌∷◌, ◌++◌, Option, Some, None, length, map, take, refl, sym, ap, ◌∙◌, subst, inl, inr, arith, length-append}
 use Rattle.std.specs.Prelude.{IfSome, slice_get, slice_index_or}
 use Rattle.std.specs.List.{AllByRecursion}
 use Rattle.std.proofs.lemmas.Bool.{cases_lt, false≢true}
@@ -10,7 +10,6 @@ use Rattle.std.proofs.lemmas.Option.{slice_get_within}
 use Rattle.std.proofs.Math.Seq.{take-append-add}
 use mathlib.Core.Option.{some, some-injective, some-ne-none}
 use lib.ListN.{get_elem?}
-use Rattle.arc_lists.proofs.Tables.{cases_true}
 use Rattle.turn_table.specs.Places.{Place}
 use Rattle.arc_core.specs.Config.{IsConfig}
 use Rattle.arc_core.specs.declared.config.Config.{Config}
@@ -22,11 +21,11 @@ use Rattle.arc_table.specs.Geometry.{IsCell}
 use Rattle.arc_table.specs.TableLaws.{starts_whole}
 use Rattle.dbuf_cells.specs.Places.{cell_of}
 use Rattle.dbuf_state.specs.declared.oid.Oid.{Oid}
-use Rattle.trace_run.specs.Deeds.{KeepsCells, Noted, events_of_cell, lines_of_cell}
+use Rattle.trace_run.specs.Deeds.{KeepsCells, events_of_cell, lines_of_cell}
 use Rattle.trace_run.specs.Lines.{caller_of, is_of_caller}
 use Rattle.trace_run.specs.Meeting.{HaveMet}
 use Rattle.trace_run.specs.ObjectLines.{OnObject, cell_lines, on_object}
-use Rattle.trace_run.specs.ObjectReplies.{AnswersFrom, AnswersObject}
+use Rattle.trace_run.specs.ObjectReplies.{AnswersObject}
 use Rattle.trace_run.specs.Objects.{Line}
 use Rattle.trace_run.specs.RunWork.{lines_of_caller}
 use Rattle.trace_run.specs.callers.Looking.{HaveLooked, LooksCut}
