@@ -68,7 +68,7 @@ use Rattle.dbuf_state.specs.declared.event.CellEvent.TheVariants.{End}
 use Rattle.dbuf_state.specs.declared.state.Mapping.{Mapping}
 use Rattle.trace_run.specs.CellEnds.{IsCellDrop, SeesEnd, SeesEnds, end_entry, ends_from}
 use Rattle.trace_run.specs.DbufTurns.{CellsDone}
-use Rattle.trace_run.specs.Deeds.{CellsGrow, HasToldOthers, Noted, acts_of_events, events_there, noted_in}
+use Rattle.trace_run.specs.Deeds.{CellsGrow, HasToldOthers, MakesLater, Noted, acts_of_events, events_there, noted_in}
 use Rattle.trace_run.specs.Making.{HasSeenItsEvents}
 use Rattle.trace_run.proofs.deeds.CellFound.{turn-finds}
 use Rattle.trace_run.proofs.deeds.CellsDone.{turn-done}
@@ -79,6 +79,9 @@ use Rattle.trace_run.proofs.theorem.ToldLemmas.{others-turn}
 use Rattle.trace_run.proofs.CellsLeft.{LeavesCells, does-leaves, leaves-same, leaves-seen, leaves-then}
 use Rattle.trace_run.proofs.MoveLemmas.{made-only}
 use Rattle.trace_run.proofs.callers.MeetLemmas.{own-seen-more, starts-then}
+use Rattle.trace_run.specs.MadeLines.{is_listed}
+use Rattle.trace_run.proofs.deeds.MakesLemmas.{made-later, later-then}
+use Rattle.trace_run.proofs.deeds.MadeLemmas.{listed-back, mines-turn}
 
 -- ---- a cell to which nothing was done
 
@@ -208,6 +211,7 @@ pub record HasDropped (g : Config) (es : List Event) (p q : PartyPlace) : Type 0
   pub all : HasAll q
   pub shards : (shard : ℕ) → seen_of g shard q ≡ seen_of g shard p ++ events_there g shard es
   pub starts : (i : ℕ) → StartsWith (front_of (turn_of g i) q.own.seen) (front_of (turn_of g i) p.own.seen)
+  pub older : MakesLater g p q
   pub recorded : (i : ℕ) → IsCell g i → item_at i q.own.records ≡ item_at i p.own.records
   pub events : es ≡ [] → AreSeen g p.number p.own.mine p.own.seen → AreSeen g q.number q.own.mine q.own.seen
   pub picks : p.number ≡ g.callers → (j : ℕ) → picks_of j q ≡ picks_of j p
@@ -222,6 +226,7 @@ module _ (g : Config) where
     all = all;
     shards = λ shard. sym (append-nil (seen_of g shard p));
     starts = λ i. starts_whole (front_of (turn_of g i) p.own.seen);
+    older = λ shard place below. refl;
     recorded = λ i in_range. refl;
     events = λ none seen. seen;
     picks = λ feeder j. refl;
@@ -244,6 +249,7 @@ module _ (g : Config) where
     shards = λ shard. b.shards shard ∙ (ap (λ (l : List Event). l ++ events_there g shard fs) (a.shards shard)
         ∙ (append_assoc (seen_of g shard p) (events_there g shard es) (events_there g shard fs) ∙ ap (λ (l : List Event). seen_of g shard p ++ l) (sym (there-append shard es fs))));
     starts = λ i. starts-then (front_of (turn_of g i) r.own.seen) (front_of (turn_of g i) q.own.seen) (front_of (turn_of g i) p.own.seen) (b.starts i) (a.starts i);
+    older = later-then g p q r a.starts a.older b.older;
     recorded = λ i in_range. b.recorded i in_range ∙ a.recorded i in_range;
     events = λ none seen. let both = none-both es fs none in b.events both.1 (a.events both.0 seen);
     picks = λ feeder j. b.picks (a.left.stays.number ∙ feeder) j ∙ a.picks feeder j;
@@ -273,6 +279,7 @@ module _ (g : Config) (valid : IsConfig g) where
             let test : (here == shard) ≡ false = ne_eqb here shard differs in
             adds.others shard (λ e. differs (sym e)) ∙ (sym (append-nil (seen_of g shard p)) ∙ ap (λ (l : List Event). seen_of g shard p ++ l) (sym (there shard ∙ ap (λ (b : Bool). if b then es else []) test))));
         starts = grows g here d.before es p q made;
+        older = made-later g here d.before es p q made;
         recorded = λ i in_range. cell-recorded dbuf_meanings g valid k es p q config d i in_range;
         events = λ none seen. made-only g here d.before es p q made (subst (AreOwn (parties_of g) p.number) (sym none) (own-none p.number)) seen;
         picks = λ feeder. same_picks dbuf_meanings g k es p q (valid, config, feeder) d (unpicked d.before.now);
@@ -337,6 +344,7 @@ pub record HasEndedSome (g : Config) (es : List Event) (p q : PartyPlace) : Type
   pub shards : (shard : ℕ) → seen_of g shard q ≡ seen_of g shard p ++ events_there g shard es
   pub own : (shard : ℕ) → own_moments p.number (moments (opening_of g) (seen_of g shard q)) ≡ own_moments p.number (moments (opening_of g) (seen_of g shard p))
   pub starts : (i : ℕ) → StartsWith (front_of (turn_of g i) q.own.seen) (front_of (turn_of g i) p.own.seen)
+  pub older : MakesLater g p q
   pub cells : CellsGrow g p.own.seen q.own.seen
 
 -- where nobody had done anything to a cell from i on, those below k are ended now
@@ -348,11 +356,6 @@ pub record HasEndedIdle (g : Config) (i k : ℕ) (es : List Event) (p q : PartyP
   pub events : AreSeen g p.number p.own.mine p.own.seen → AreSeen g q.number q.own.mine q.own.seen
 
 -- ---- one cell
-
-mines-turn : (turn place count y : ℕ) (a : Mine) → get_elem? (mines_from turn place count) y ≡ some a → a.turn ≡ turn
-mines-turn turn place zero y a at = absurd (some-ne-none a (sym at))
-mines-turn turn place (suc count) zero a at = ap (λ (x : Mine). x.turn) (sym (some-injective _ a at))
-mines-turn turn place (suc count) (suc y) a at = mines-turn turn (suc place) count y a at
 
 module _ (g : Config) (valid : IsConfig g) (i : ℕ) (in_range : IsCell g i) (p q : PartyPlace) (config : p.own.about.config ≡ g) (sees : HasSeenItsEvents g p) (entries : HasSeenItsEntries g p) (all : HasAll p)
     (e : EndsCell g i p q) where
@@ -430,6 +433,11 @@ module _ (g : Config) (valid : IsConfig g) (i : ℕ) (in_range : IsCell g i) (p 
   back-starts : (k : ℕ) → StartsWith (front_of (turn_of g k) back.own.seen) (front_of (turn_of g k) p.own.seen)
   back-starts k = subst (λ (x : List Line × List Line). StartsWith x.0 x.1) (λ z. (sym (back-shard k) z, took-shard k z)) (worked-are.starts k)
 
+  back-later : MakesLater g p back
+  back-later k place below =
+      listed-back (turn_of g k) place i _ _ t.worked.own.mine (no-shard k)
+      ∙ (worked-are.older k place (subst (λ (l : List Line). place < length l) (sym (took-shard k)) below) ∙ ap (is_listed (turn_of g k) place) took.mine)
+
   -- it has found of the cell what it had seen, since it has every number
   before-front : map line.Entry (map event_numbers e.before.value.history) ≡ front_of i p.own.seen
   before-front = at-take.1.whole ∙ (ap (λ (r : List (List ℕ)). front_of i p.own.seen ++ map line.Entry r) (at-take.1.alone all) ∙ append-nil (front_of i p.own.seen))
@@ -458,6 +466,7 @@ module _ (g : Config) (valid : IsConfig g) (i : ℕ) (in_range : IsCell g i) (p 
     own = λ shard. ap (λ (es : List Event). own_moments p.number (moments (opening_of g) es)) (shards-then shard)
         ∙ drops-unmade g p.number (opening_of g) (seen_of g shard p) (events_there g shard e.drops) low (cell-drops-there g shard e.drops (drops-cells g i e.drops are-drops));
     starts = back-starts;
+    older = back-later;
     cells = λ j range. dite (ℕ_discrete j i)
         (λ is. subst (λ (x : ℕ). StartsWith (front_of x back.own.seen) (front_of x p.own.seen)) (sym is) (end_entry p.number i, back-front ∙ ap (λ (l : List Line). l ++ end_entry p.number i) before-front))
         (λ differs. subst (λ (l : List Line). StartsWith l (front_of j p.own.seen)) (sym (back-else j range differs)) (starts_whole (front_of j p.own.seen)));
@@ -581,6 +590,7 @@ module _ (g : Config) (valid : IsConfig g) where
       shards = λ shard. sym (append-nil (seen_of g shard p));
       own = λ shard. refl;
       starts = λ k. starts_whole (front_of (turn_of g k) p.own.seen);
+      older = λ shard place below. refl;
       cells = λ j range. starts_whole (front_of j p.own.seen);
     };
     told = λ did had h. subst (λ (x : List Act × List Noted). HasToldOthers g x.0 x.1 p) (λ z. (sym (append-nil did) z, sym (append-nil had) z)) h;
@@ -621,6 +631,7 @@ module _ (g : Config) (valid : IsConfig g) where
               ∙ (append_assoc (seen_of g shard p) (events_there g shard ends.1.drops) (events_there g shard rest.drops) ∙ ap (λ (l : List Event). seen_of g shard p ++ l) (sym (there-append g shard ends.1.drops rest.drops))));
           own = λ shard. subst (λ (n : ℕ). own_moments n (moments (opening_of g) (seen_of g shard q)) ≡ own_moments n (moments (opening_of g) (seen_of g shard r))) a.number (b.own shard) ∙ a.own shard;
           starts = λ k. starts-then (front_of (turn_of g k) q.own.seen) (front_of (turn_of g k) r.own.seen) (front_of (turn_of g k) p.own.seen) (b.starts k) (a.starts k);
+          older = later-then g p r q a.starts a.older b.older;
           cells = λ j range. starts-then (front_of j q.own.seen) (front_of j r.own.seen) (front_of j p.own.seen) (b.cells j range) (a.cells j range);
         };
         told = λ did had h.

@@ -21,14 +21,14 @@ use Rattle.arc_table.specs.Telling.{opening_of}
 use Rattle.dbuf_cells.specs.Ending.{EndsFrom}
 use Rattle.dbuf_cells.specs.Turns.{KeepsClaims, OnHeap, PartyPlace, dbuf_meanings}
 use Rattle.trace_run.specs.CellEnds.{EndedCells, EndedIdle, SeesEnds, end_entry, ends_from}
-use Rattle.trace_run.specs.Deeds.{HasToldOthers, Noted, acts_of_events, events_there}
+use Rattle.trace_run.specs.Deeds.{HasToldOthers, Noted, acts_of_events, events_there, KeepsCells}
 use Rattle.trace_run.specs.KeptBlocks.{Stands, times}
 use Rattle.trace_run.specs.Making.{AreEventsSeen, AreNoEntries}
-use Rattle.trace_run.specs.Meeting.{AreLast, HasLearned, HaveParted, IsApart, JoinAll, Joins, MayPart, PartAll}
+use Rattle.trace_run.specs.Meeting.{AreLast, HasLearned, HaveParted, IsApart, JoinAll, Joins, PartAll}
 use Rattle.trace_run.proofs.CellsLeft.{entries-more}
 use Rattle.trace_run.proofs.CellEnds.{HasEndedFrom, HasEndedSome, IsUntouched, NoneFrom, all-ended, cell-drops-there, drops-unmade}
 use Rattle.trace_run.proofs.callers.MeetLemmas.{HaveJoined, all-parted, are-last, joined-front, joined_of, left_alone, own-seen-more, parted-then, parted_from, starts-then}
-use Rattle.trace_run.proofs.deeds.MakesLemmas.{grown-same}
+use Rattle.trace_run.proofs.deeds.MakesLemmas.{grown-same, later-same, later-then}
 use Rattle.trace_run.proofs.deeds.DeedLemmas.{others-still}
 use Rattle.trace_run.proofs.callers.TurnLemmas.{joined, joined-all, joined-stands}
 
@@ -118,6 +118,15 @@ module _ (cache : Cache) (p : PartyPlace) (others : List PartyPlace) (stands : S
       listed = λ x. ap (times x) then.holds ∙ q-stands.listed x;
     }
 
+    -- it has seen what it had, and made nothing there later
+    pub keeps-left : KeepsCells g p (left_alone r)
+    keeps-left = record {
+      about = then.about ∙ have.about;
+      fronts = λ i range. starts-then (front_of i r.own.seen) (front_of i q.own.seen) (front_of i p.own.seen) (then.cells i range) (have.self.cells i range);
+      shards = λ shard. starts-then (front_of (turn_of g shard) r.own.seen) (front_of (turn_of g shard) q.own.seen) (front_of (turn_of g shard) p.own.seen) (then.starts shard) (have.self.starts shard);
+      older = later-then g p q r have.self.starts (later-same g p q have.mine) then.older;
+    }
+
     pub last-from : (numbers : List ℕ) → numbers ≡ map (λ o. o.number) others → AreLast numbers r.joined
     last-from numbers is = subst (λ (x : List ℕ × List (Kept (Known OnHeap))). AreLast x.0 x.1) (λ i. (sym is i, sym kept-joined i)) (are-last others)
 
@@ -141,9 +150,6 @@ module _ (cache : Cache) (p : PartyPlace) (others : List PartyPlace) (stands : S
           events = λ seen. idle.events (subst (λ (x : ℕ × List Mine). AreSeen g x.0 x.1 q.own.seen) (λ z. (sym have.number z, sym have.mine z))
               (own-seen-more g p.number p.own.mine p.own.seen q.own.seen have.self.starts seen));
         }
-
-    pub may-part : MayPart cache r
-    may-part = (of, free)
 
     pub last-of : (numbers : List ℕ) → numbers ≡ map (λ o. o.number) others → AreLast numbers r.joined
     last-of = last-from ended.drops r then of free claims
@@ -176,7 +182,7 @@ module _ (cache : Cache) (p : PartyPlace) (others : List PartyPlace) (stands : S
             subst (λ (l : List Noted). HasToldOthers g (did ++ acts_of_events ended.drops) l (left_alone r)) is record { cells = r_told.cells; kinds = r_told.kinds; entries = r_told.entries };
         ends = λ i range. (front_of i q.own.seen, ended.last i range (omega arith) (omega (arith, range)) ∙ ap (λ (n : ℕ). front_of i q.own.seen ++ end_entry n i) have.number);
         entries = all-entries others have.all apart;
-        grows = λ i range. starts-then (front_of i r.own.seen) (front_of i q.own.seen) (front_of i p.own.seen) (then.cells i range) (have.self.cells i range);
+        keeps = keeps-left ended.drops r then of free claims;
         same = λ before own rest shard. then.shards shard ∙ ap (λ (l : List Line). events_in l ++ events_there g shard ended.drops) (have.level before own rest shard);
         same_cells = λ sees own rest i range. ended.last i range (omega arith) (omega (arith, range)) ∙ (λ z. have.level_cells sees own rest i range z ++ end_entry (have.number z) i);
         one = λ o is seen shard. then.shards shard ∙ ap (λ (l : List Event). l ++ events_there g shard ended.drops) (one-front o is seen shard);

@@ -21,10 +21,11 @@ use Rattle.trace_run.specs.Acts.{acts_of_drop, acts_of_drops}
 use Rattle.trace_run.specs.KeptBlocks.{DroppedAlone, Drops, GivesAll, GivesKeptBack, Stands, held_key, holds_in, read_of}
 use Rattle.trace_run.specs.one_caller.OneCaller.{events_of_drops}
 use Rattle.arc_table.specs.Seen.{HasAll, seen_of, turn_of}
-use Rattle.trace_run.specs.Deeds.{HasToldAll, Noted}
+use Rattle.trace_run.specs.Deeds.{HasToldAll, Noted, KeepsCells}
 use Rattle.trace_run.proofs.CellsLeft.{LeavesCells, leaves-same, leaves-then}
 use Rattle.trace_run.proofs.KeptBlockLemmas.{KeepsJoined, given-drops, given-keeps, given-leaves, given-stands, keeps-same}
 use Rattle.trace_run.proofs.callers.MeetLemmas.{starts-then}
+use Rattle.trace_run.proofs.deeds.MakesLemmas.{keeps-none, keeps-then}
 
 module _ {C : Type 0} (g : Config) (p q : Place (Known C)) where
   drop-number : (o : Option Key) → Drops g o p q → q.number ≡ p.number
@@ -38,6 +39,10 @@ module _ {C : Type 0} (g : Config) (p q : Place (Known C)) where
   drop-all : (o : Option Key) → Drops g o p q → HasAll p → HasAll q
   drop-all None is all = subst HasAll (sym is) all
   drop-all (Some k) adds all = adds.all all
+
+  drop-keeps : (o : Option Key) → Drops g o p q → KeepsCells g p q
+  drop-keeps None is = subst (KeepsCells g p) (sym is) (keeps-none g p)
+  drop-keeps (Some k) adds = adds.keeps
 
   -- what a read that is given back adds to a shard
   drop-seen : (o : Option Key) → Drops g o p q → HasAll p → (shard : ℕ)
@@ -91,6 +96,12 @@ module _ {C : Type 0} (m : Meanings C) (cache : Cache) where
   all-number (b ∷ bs) p q stands gives =
       let one = step b bs p gives.0 stands gives.1 in
       all-number bs gives.0 q one.0 gives.2 ∙ drop-number g p gives.0 (held_key b.kept) one.1
+
+  pub all-keeps : (kept : List KeptBlock) (p q : Place (Known C)) → Stands cache p kept → GivesAll m g kept p q → KeepsCells g p q
+  all-keeps [] p q stands is = subst (KeepsCells g p) (sym is) (keeps-none g p)
+  all-keeps (b ∷ bs) p q stands gives =
+      let one = step b bs p gives.0 stands gives.1 in
+      keeps-then g p gives.0 q (drop-keeps g p gives.0 (held_key b.kept) one.1) (all-keeps bs gives.0 q one.0 gives.2)
 
   pub all-told : (kept : List KeptBlock) (p q : Place (Known C)) → Stands cache p kept → GivesAll m g kept p q → (before : List Act) (noted : List Noted) → HasToldAll g before noted p → HasToldAll g (before ++ acts_of_drops p.number (map read_of kept)) noted q
   all-told [] p q stands is before noted told = subst (λ (x : List Act × Place (Known C)). HasToldAll g x.0 noted x.1) (λ h. (sym (append-nil before) h, sym is h)) told

@@ -201,6 +201,7 @@ module _ {C : Type 0} (cache : Cache) where
             about = refl;
             fronts = λ i in_range. subst (λ (s : List (List Line)). StartsWith (front_of i s) (front_of i p.own.seen)) (sym (seen-none ∙ sym first.new.seen)) (starts_whole (front_of i p.own.seen));
             shards = λ shard. subst (λ (s : List (List Line)). StartsWith (front_of (turn_of cache.config shard) s) (front_of (turn_of cache.config shard) p.own.seen)) (sym (seen-none ∙ sym first.new.seen)) (starts_whole (front_of (turn_of cache.config shard) p.own.seen));
+            older = λ shard place below. refl;
           };
         }
         first.new.told

@@ -41,7 +41,8 @@ use Rattle.trace_run.specs.Making.{AreEventsSeen}
 use Rattle.trace_run.proofs.deeds.MakesLemmas.{grown-same, same-none, same-then}
 use Rattle.trace_run.proofs.feeds.PickedLemmas.{resize-picked, roomy-picks}
 use Rattle.trace_run.proofs.callers.MeetLemmas.{HaveJoined, all-level, have-met, all-parted, are-last, joined-front, joined_of, left_alone, parted-then, parted_from, starts-events, starts-then}
-use Rattle.trace_run.proofs.callers.TurnLemmas.{joined, joined-all, joined-stands}
+use Rattle.trace_run.proofs.callers.TurnLemmas.{joined, joined-all, joined-stands, left-stands}
+use Rattle.trace_run.proofs.callers.MakerLemmas.{later-behind}
 
 module _ {C : Type 0} (m : Meanings C) (cache : Cache) (c : ℕ) where
   abbrev gc : Config
@@ -280,20 +281,9 @@ module _ {C : Type 0} (m : Meanings C) (cache : Cache) (p : Place (Known C)) (ot
     all-own shard [] learned = tt
     all-own shard (o ∷ os) learned = (learned.0.own shard, all-own shard os learned.1)
 
-    last-stands : Stands cache (left_alone r) []
-    last-stands = record {
-      valid = given.stands.valid;
-      of = record { row = given.stands.of.row; config = given.stands.of.config };
-      free = given.stands.free;
-      cells = record { own = given.stands.cells.own; joined = tt };
-      idle = given.stands.idle;
-      unclaimed = given.stands.unclaimed;
-      seen = record { own = given.stands.seen.own; joined = tt };
-      apart = tt;
-      joined = tt;
-      owned = tt;
-      listed = given.stands.listed;
-    }
+    all-since : (shard : ℕ) (os : List (Place (Known C))) → AllByRecursion (λ o. HasLearned g o q) os → AllByRecursion (λ o. StartsWith (seen_of g shard q) (seen_of g shard o)) os
+    all-since shard [] learned = tt
+    all-since shard (o ∷ os) learned = (starts-events (front_of (turn_of g shard) q.own.seen) (front_of (turn_of g shard) o.own.seen) (learned.0.starts shard), all-since shard os learned.1)
 
     pub last-of : (numbers : List ℕ) → numbers ≡ map (λ o. o.number) others → AreLast numbers r.joined
     last-of numbers is = subst (λ (x : List ℕ × List (Kept (Known C))). AreLast x.0 x.1) (λ i. (sym is i, sym kept-joined i)) (are-last others)
@@ -310,17 +300,19 @@ module _ {C : Type 0} (m : Meanings C) (cache : Cache) (p : Place (Known C)) (ot
         number = number;
         about = given.stays.about ∙ have.about;
         alone = refl;
-        stands = last-stands;
+        stands = left-stands cache [] r given.stands;
         met = have-met cache q r (leaves-grow g q r given.left) p others have.self.cells have.all;
         front = λ shard. seen_of g shard q;
         seen = given.seen;
         own = have.self.own;
         others = λ shard. all-own shard others have.all;
         since = λ shard. starts-events (front_of (turn_of g shard) q.own.seen) (front_of (turn_of g shard) p.own.seen) (have.self.starts shard);
+        others_since = λ shard. all-since shard others have.all;
+        behind = later-behind g p q r have.mine given.made.keeps.older;
         made =
             let first : SameMade g p q = grown-same g p q have.number have.about have.mine have.self.starts have.self.cells stands.seen stands.cells in
             let both : SameMade g p r = same-then g p q r first given.made in
-            record { number = both.number; cells = both.cells; entries = both.entries; keeps = record { about = both.keeps.about; fronts = both.keeps.fronts; shards = both.keeps.shards } };
+            record { number = both.number; cells = both.cells; entries = both.entries; keeps = record { about = both.keeps.about; fronts = both.keeps.fronts; shards = both.keeps.shards; older = both.keeps.older } };
         settled = λ feeder settled i. given.picks (have.number ∙ feeder) i ∙ (ap (λ (l : Ledger). list_at i l.picked) have.ledger ∙ settled i);
         entries = λ none j a at range. none j a (subst (λ (l : List Mine). get_elem? l j ≡ some a) have.mine (given.left.mine j a range at)) range;
         one = one-front;

@@ -1,5 +1,5 @@
 -- A caller's lines, those on objects among them, each with its work: one after another, and what all of them come to.
-use Rattle.std.proofs.Common.{◌≡◌, ℕ, true, false, List, [], ◌∷◌, ◌++◌, Option, Some, None, Result, Ok, Err, Vec, Global, refl, sym, ap, ◌∙◌, subst, append-nil, append_assoc}
+use Rattle.std.proofs.Common.{◌≡◌, ℕ, true, List, [], ◌∷◌, ◌++◌, Option, Some, None, Result, Ok, Err, Vec, Global, refl, sym, ap, ◌∙◌, subst, append-nil, append_assoc}
 use Rattle.std.specs.Prelude.{IfOk, IfSome, filter, is_some}
 use Rattle.std.specs.List.{AllByRecursion}
 use Rattle.std.proofs.lemmas.Bool.{false≢true}
@@ -47,10 +47,6 @@ use Rattle.trace_run.proofs.deeds.ObjectWork.{object-work}
 use Rattle.trace_run.proofs.one_caller.AskingLines.{AloneAsks}
 
 -- ---- whether a line is on an object
-
-pub none-is : {X : Type 0} (o : Option X) → is_some o ≡ false → o ≡ None
-none-is None is = refl
-none-is (Some x) is = absurd (false≢true (sym is))
 
 module _ {P D : Type 0} (pools : PoolGhosts P) (devices : DeviceGhosts D) (g : Config) (blocks : List Ptr) where
   -- ---- one line

@@ -16,6 +16,7 @@ pub mod InUse
 pub mod LineLists
 pub mod LookedLemmas
 pub mod LookingLemmas
+pub mod MakerLemmas
 pub mod MeetLemmas
 pub mod MergedLines
 pub mod MoreLemmas

@@ -60,10 +60,6 @@ acts_of_all blocks kept (op ∷ ops) [] = []
 acts_of_all blocks kept (op ∷ ops) (reply ∷ replies) =
     acts_of blocks kept op reply ++ acts_of_all blocks (kept_after blocks op reply kept) ops replies
 
--- a caller's own ones among all operations, by the replies to them
-abbrev pub acts_of_lines : List Ptr → List Op → (n : ℕ) → List Reply → List Act
-acts_of_lines blocks ops n replies = acts_of_all blocks [] (filter (is_of_caller n) ops) replies
-
 -- the drops at the end of the run, the oldest first
 abbrev pub acts_of_drops : (n : ℕ) → List KeptRead → List Act
 acts_of_drops n [] = []

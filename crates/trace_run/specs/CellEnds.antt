@@ -12,7 +12,7 @@ use Rattle.arc_table.specs.declared.view.Line.{Line}
 use Rattle.arc_table.specs.declared.view.Line.TheVariants as line
 use Rattle.arc_table.specs.Cache.{Cache}
 use Rattle.arc_table.specs.Ended.{Ended}
-use Rattle.arc_table.specs.Fronts.{StartsWith, front_of}
+use Rattle.arc_table.specs.Fronts.{front_of}
 use Rattle.arc_table.specs.Geometry.{IsCell, cell_number, parties_of}
 use Rattle.arc_table.specs.Seen.{AreEntriesSeen, AreSeen, HasAll, events_in, seen_of}
 use Rattle.arc_table.specs.Telling.{opening_of}
@@ -26,7 +26,7 @@ use Rattle.dbuf_state.specs.declared.event.CellEvent.{CellEvent}
 use Rattle.dbuf_state.specs.declared.event.CellEvent.TheVariants.{End}
 use Rattle.dbuf_state.specs.declared.state.Mapping.{Mapping}
 use Rattle.trace_text.specs.declared.trace.Trace.{Trace}
-use Rattle.trace_run.specs.Deeds.{HasToldOthers, Noted, acts_of_events, events_of_cell, events_there}
+use Rattle.trace_run.specs.Deeds.{HasToldOthers, Noted, acts_of_events, events_of_cell, events_there, KeepsCells}
 use Rattle.trace_run.specs.KeptBlocks.{Stands}
 use Rattle.trace_run.specs.Making.{AreEventsSeen, AreNoEntries}
 use Rattle.trace_run.specs.Meeting.{HasSettled, HaveParted, IsLevel, SeesEntries}
@@ -94,7 +94,7 @@ pub record EndedCells (cache : Cache) (p : PartyPlace) (olds : List PartyPlace) 
   -- of each cell it has seen the end as the last, and all that the others did there
   pub ends : (i : ℕ) → IsCell cache.config i → (before : List Line) × (front_of i q.own.seen ≡ before ++ end_entry p.number i)
   pub entries : AllByRecursion (λ o. AreEntriesSeen cache.config o.number o.own.mine q.own.seen) olds
-  pub grows : (i : ℕ) → IsCell cache.config i → StartsWith (front_of i q.own.seen) (front_of i p.own.seen)
+  pub keeps : KeepsCells cache.config p q
   pub same : (before : ℕ → List Line) → IsLevel cache.config before p → AllByRecursion (IsLevel cache.config before) olds
       → (shard : ℕ) → events_in (lines shard) ≡ events_in (before shard) ++ events_there cache.config shard drops
   pub same_cells : (entries : ℕ → List Line) → SeesEntries cache.config entries p → AllByRecursion (SeesEntries cache.config entries) olds → (i : ℕ) → IsCell cache.config i → front_of i q.own.seen ≡ entries i ++ end_entry p.number i

@@ -13,7 +13,7 @@ use Rattle.arc_table.specs.Geometry.{IsCell}
 use Rattle.arc_table.specs.Seen.{HasAll, seen_of, turn_of}
 use Rattle.arc_table.specs.Telling.{opening_of}
 use Rattle.dbuf_cells.specs.Turns.{PartyPlace}
-use Rattle.trace_run.specs.Deeds.{Noted, events_there, lines_of_cell}
+use Rattle.trace_run.specs.Deeds.{Noted, events_there, lines_of_cell, MakesLater}
 use Rattle.trace_run.specs.MadeLines.{made_of}
 
 -- what the number n holds behind one of these, and behind all
@@ -40,6 +40,7 @@ pub record CellsDone (g : Config) (noted : List Noted) (es : List Event) (p q : 
   pub own : (shard : ℕ) → (ms : List Moment) × (own_moments p.number (moments (opening_of g) (seen_of g shard q)) ≡ own_moments p.number (moments (opening_of g) (seen_of g shard p)) ++ ms)
       × (map (λ (x : Moment). x.event) ms ≡ own_events p.number (events_there g shard es))
   pub starts : (i : ℕ) → StartsWith (front_of (turn_of g i) q.own.seen) (front_of (turn_of g i) p.own.seen)
+  pub older : MakesLater g p q
   pub entries : (i : ℕ) → IsCell g i → made_of i q ≡ made_of i p ++ lines_of_cell i noted
   pub cells : (i : ℕ) → IsCell g i → StartsWith (front_of i q.own.seen) (front_of i p.own.seen)
   pub cells_alone : HasAll p → (i : ℕ) → IsCell g i → front_of i q.own.seen ≡ front_of i p.own.seen ++ lines_of_cell i noted

@@ -1,5 +1,5 @@
 -- What a party did, as what it made of histories tells it.
-use Rattle.std.specs.Prelude.{◌≡◌, ◌≢◌, ◌==◌, ℕ, false, filter, if◌then◌else◌, List, [], ◌∷◌, ◌++◌, map}
+use Rattle.std.specs.Prelude.{◌≡◌, ◌≢◌, ◌==◌, ◌<◌, ℕ, false, filter, if◌then◌else◌, length, List, [], ◌∷◌, ◌++◌, map}
 use Rattle.std.specs.List.{AllByRecursion}
 use Rattle.std.specs.Option.{option_map_or}
 use Rattle.blk_ptr.specs.Hash.{shard_of}
@@ -17,7 +17,7 @@ use Rattle.arc_table.specs.Seen.{turn_of}
 use Rattle.arc_table.specs.Told.{IsTold}
 use Rattle.dbuf_state.specs.Numbers.{event_numbers}
 use Rattle.dbuf_state.specs.declared.event.CellEvent.{CellEvent}
-use Rattle.trace_run.specs.MadeLines.{made_in, made_of}
+use Rattle.trace_run.specs.MadeLines.{is_listed, made_in, made_of}
 
 -- the act that an event with a cell's number stands for
 abbrev pub act_of_event : Event → List Act
@@ -90,11 +90,20 @@ module _ {C : Type 0} where
     pub kinds : (shard c : ℕ) → c ≢ p.number → AllByRecursion HasAct (with_number c (made_in g shard p))
     pub entries : (i : ℕ) → IsCell g i → made_of i p ≡ lines_of_cell i noted
 
-  -- it knows what it knew of the cells' beginnings, and has seen of each cell and of each shard at least what it had
+  -- what it made of each shard later stands from this place on
+  abbrev pub MakesFrom : Config → (from : ℕ → ℕ) → (p q : Place (Known C)) → Type 0
+  MakesFrom g from p q = (shard place : ℕ) → place < from shard → is_listed (turn_of g shard) place q.own.mine ≡ is_listed (turn_of g shard) place p.own.mine
+
+  -- behind all that it had seen
+  abbrev pub MakesLater : Config → (p q : Place (Known C)) → Type 0
+  MakesLater g p q = MakesFrom g (λ shard. length (front_of (turn_of g shard) p.own.seen)) p q
+
+  -- It knows what it knew of the cells' beginnings, and has seen of each cell and of each shard at least what it had. What it made of shards later stands behind that.
   pub record KeepsCells (g : Config) (p q : Place (Known C)) : Type 0 where
     pub about : q.own.about ≡ p.own.about
     pub fronts : CellsGrow g p.own.seen q.own.seen
     pub shards : (shard : ℕ) → StartsWith (front_of (turn_of g shard) q.own.seen) (front_of (turn_of g shard) p.own.seen)
+    pub older : MakesLater g p q
 
   -- it has seen of each cell just what it had
   abbrev pub SameCells : Config → (p q : Place (Known C)) → Type 0

@@ -79,8 +79,9 @@ pub record Explain (trace : Trace) (restored : List Restored) (work : RunWork) (
   -- stand for acts, each for one.
   pub every_call : HoldEveryCallOnce trace.config (shard_of trace.config.shards) (opening_of trace.config)
       (own_acts trace.config trace.blocks work trace.config.callers ++ acts_of_cells trace.config histories) (events_by_feeder trace.config restored trace.ops replies work.feeds) histories
-  -- these are the callers' and the feeder's acts with such a number, of each party in its order
-  pub made : (shard : ℕ) → shard < length histories → AreMadeBy trace.config shard (acts_by trace.config trace.blocks work) (slice_index_or histories shard [])
+  -- these are the callers' and the feeder's acts with such a number, of each party in its order; each event of a shard is one party's
+  pub owner : (shard place : ℕ) → ℕ
+  pub made : (shard : ℕ) → shard < length histories → AreMadeBy trace.config shard (owner shard) (acts_by trace.config trace.blocks work) (slice_index_or histories shard [])
   -- each history ends with the drops at the end of the run: those of what callers keep, and then those of what the cells keep
   pub ending : (shard : ℕ) → shard < length histories
       → EndsWith (slice_index_or histories shard []) (drops_at_end trace.config trace.blocks shard trace.config.callers trace.ops replies ++ events_there trace.config shard work.ended)

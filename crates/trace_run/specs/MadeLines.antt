@@ -1,14 +1,15 @@
 -- The lines of a history that one party made.
-use Rattle.std.specs.Prelude.{ℕ, suc, ◌==◌, ◌&&◌, Bool, if◌then◌else◌, List, [], ◌∷◌}
+use Rattle.std.specs.Prelude.{◌≡◌, ℕ, suc, ◌<◌, ◌==◌, ◌&&◌, Bool, if◌then◌else◌, length, map, List, [], ◌∷◌}
 use Rattle.std.specs.List.{list_any}
 use Rattle.turn_table.specs.Places.{Place}
 use Rattle.arc_core.specs.declared.config.Config.{Config}
 use Rattle.arc_core.specs.declared.event.Event.{Event}
 use Rattle.arc_table.specs.declared.view.Known.{Known}
 use Rattle.arc_table.specs.declared.view.Line.{Line}
+use Rattle.arc_table.specs.declared.view.Line.TheVariants as line
 use Rattle.arc_table.specs.declared.view.Mine.{Mine}
 use Rattle.arc_table.specs.Fronts.{front_of}
-use Rattle.arc_table.specs.Seen.{events_in, turn_of}
+use Rattle.arc_table.specs.Seen.{events_in, seen_of, turn_of}
 
 -- a line stands at this place of the history of this turn
 abbrev pub is_at : (turn place : ℕ) → Mine → Bool
@@ -31,6 +32,12 @@ module _ {C : Type 0} where
   -- what it made of a shard
   abbrev pub made_in : Config → (shard : ℕ) → Place (Known C) → List Event
   made_in g shard p = events_in (made_of (turn_of g shard) p)
+
+module _ {C : Type 0} where
+  -- What the party has seen of a shard are events, and it made those that stand at n's places.
+  pub record IsMaker (g : Config) (shard : ℕ) (owner : ℕ → ℕ) (n : ℕ) (p : Place (Known C)) : Type 0 where
+    pub events : front_of (turn_of g shard) p.own.seen ≡ map line.Event (seen_of g shard p)
+    pub made : (place : ℕ) → place < length (front_of (turn_of g shard) p.own.seen) → is_listed (turn_of g shard) place p.own.mine ≡ (owner place == n)
 
 -- those of these, which stand from this place on, that are n's, where each place has an owner
 abbrev pub owned_from : {A : Type 0} → (owner : ℕ → ℕ) → (n place : ℕ) → List A → List A

@@ -1,5 +1,5 @@
 -- How parties join one and part from it, what they have seen then, and how each in turn gives back what it keeps.
-use Rattle.std.specs.Prelude.{◌≡◌, ◌≢◌, ◌<◌, ℕ, suc, nat_lt, if◌then◌else◌, List, [], ◌∷◌, ◌++◌, map}
+use Rattle.std.specs.Prelude.{◌≡◌, ◌≢◌, ◌<◌, ℕ, suc, nat_lt, if◌then◌else◌, List, [], ◌∷◌, ◌++◌, map, length}
 use Rattle.std.specs.List.{AllByRecursion}
 use Rattle.arc_core.specs.declared.config.Config.{Config}
 use Rattle.arc_core.specs.declared.event.Event.{Event}
@@ -18,7 +18,7 @@ use Rattle.arc_table.specs.Items.{Meanings}
 use Rattle.arc_table.specs.pact.Rule.{Pact}
 use Rattle.arc_table.specs.Seen.{events_in, seen_of, turn_of}
 use Rattle.arc_table.specs.Telling.{opening_of}
-use Rattle.trace_run.specs.Deeds.{HasToldAll, HasToldOthers, KeepsCells, Noted, SameMade}
+use Rattle.trace_run.specs.Deeds.{HasToldAll, HasToldOthers, KeepsCells, Noted, SameMade, MakesFrom}
 use Rattle.trace_run.specs.Making.{AreEventsSeen, AreNoEntries, HasSeenItsEvents, MadeItsOwn}
 use Rattle.arc_table.specs.Views.{after_learned}
 use Rattle.trace_run.specs.declared.kept_blocks.KeptBlock.{KeptBlock}
@@ -254,6 +254,8 @@ module _ {C : Type 0} where
     pub others : (shard : ℕ)
         → AllByRecursion (λ o. own_moments o.number (moments (opening_of cache.config) (front shard)) ≡ own_moments o.number (moments (opening_of cache.config) (seen_of cache.config shard o))) olds
     pub since : (shard : ℕ) → StartsWith (front shard) (seen_of cache.config shard p)
+    pub others_since : (shard : ℕ) → AllByRecursion (λ o. StartsWith (front shard) (seen_of cache.config shard o)) olds
+    pub behind : MakesFrom cache.config (λ shard. length (front shard)) p q
     -- with other numbers than its own it made nothing more, and nothing of a cell
     pub made : SameMade cache.config p q
     pub entries : AreNoEntries cache.config p.own.mine → AreNoEntries cache.config q.own.mine

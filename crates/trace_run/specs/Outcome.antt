@@ -107,8 +107,8 @@ pub record IsRun {P D : Type 0} (pool : Ghosts P) (device : Devices D) (before a
   -- a line on an object is answered by its cell, over that
   pub objects : AreAnsweredByCells trace.config (pool.size before) told closed.cells work.lines
   -- one caller whose lines are on objects too, or whose trace has syncs or feeds, does them one after another
-  pub in_turn : trace.config.callers ≡ 1 → has_further trace.ops ≡ true → RunsInTurn pool device before after lent back place trace ending work closed.cells report
-  pub together : 2 ≤ trace.config.callers → RunsTogether pool before after place told trace ending work closed.cells report
+  pub in_turn : trace.config.callers ≡ 1 → has_further trace.ops ≡ true → RunsInTurn pool device before after lent back place trace ending work explained.owner closed.cells report
+  pub together : 2 ≤ trace.config.callers → RunsTogether pool before after place told trace ending work explained.owner closed.cells report
   -- a trace without an operation has no work: no fork is made for it, and the pool is as it was
   pub idle : trace.ops ≡ [] → (ending ≡ Whole) × (after ≡ before)
   -- a fork failed as a group began, or a sync stopped, which has no reply then

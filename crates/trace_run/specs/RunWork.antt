@@ -102,6 +102,10 @@ lines_of_caller n = filter (λ l. is_of_caller n l.op)
 abbrev pub lines_of_feeder : List Line → List Line
 lines_of_feeder = filter (λ l. option_map_or (λ (n : ℕ). false) (caller_of l.op) true)
 
+-- of the party of a number
+abbrev pub lines_of_party : Config → (n : ℕ) → List Line → List Line
+lines_of_party g n ls = if n == g.callers then lines_of_feeder ls else lines_of_caller n ls
+
 -- what is kept behind these lines, where it was this before them
 abbrev pub kept_after_lines : List Ptr → List KeptRead → List Line → List KeptRead
 kept_after_lines blocks kept [] = kept
@@ -142,10 +146,9 @@ abbrev pub acts_of_cells : Config → List (List Event) → List Act
 acts_of_cells g [] = []
 acts_of_cells g (history ∷ histories) = acts_of_events (filter (λ e. nat_le (parties_of g) (number_of e)) history) ++ acts_of_cells g histories
 
--- Each event of a shard's history is one party's. Those that a party made with the number of a cell stand for its acts with that number, each once and in their
--- order.
-pub record AreMadeBy (g : Config) (shard : ℕ) (did : (n : ℕ) → List Act) (history : List Event) : Type 0 where
-  pub owner : (place : ℕ) → ℕ
+-- Each event of a shard's history is one party's, the owner of its place. Those that a party made with the number of a cell stand for its acts with that number, each once and
+-- in their order.
+pub record AreMadeBy (g : Config) (shard : ℕ) (owner : (place : ℕ) → ℕ) (did : (n : ℕ) → List Act) (history : List Event) : Type 0 where
   pub party : (x : ℕ) → x < length history → owner x < parties_of g
   pub own : (x : ℕ) (e : Event) → slice_get history x ≡ Some e → number_of e < parties_of g → owner x ≡ number_of e
   pub acts : (n i : ℕ) → n < parties_of g → IsCell g i

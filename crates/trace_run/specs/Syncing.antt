@@ -30,7 +30,7 @@ use Rattle.txg_sync.specs.declared.syncing.SyncFault.TheVariants as fault
 use Rattle.txg_sync.specs.declared.syncing.Synced.{Synced}
 use Rattle.vdev_io.specs.declared.pool.Pool.{Ghosts}
 use Rattle.trace_run.specs.CellEnds.{done_by}
-use Rattle.trace_run.specs.Deeds.{HasToldOthers, Noted, acts_of_events, events_of_cell, events_there, lines_of_cell}
+use Rattle.trace_run.specs.Deeds.{HasToldOthers, Noted, acts_of_events, events_of_cell, events_there, lines_of_cell, KeepsCells, MakesFrom}
 use Rattle.trace_run.specs.KeptBlocks.{Stands}
 use Rattle.trace_run.specs.MadeLines.{made_of}
 use Rattle.trace_run.specs.Making.{AreEventsSeen, AreNoEntries}
@@ -102,6 +102,8 @@ pub record SyncsJoined (cache : Cache) (tick : ℕ) (p : PartyPlace) (olds : Lis
   pub others : (shard : ℕ)
       → AllByRecursion (λ o. own_moments o.number (moments (opening_of cache.config) (front shard)) ≡ own_moments o.number (moments (opening_of cache.config) (seen_of cache.config shard o))) olds
   pub since : (shard : ℕ) → StartsWith (front shard) (seen_of cache.config shard p)
+  pub others_since : (shard : ℕ) → AllByRecursion (λ o. StartsWith (front shard) (seen_of cache.config shard o)) olds
+  pub behind : MakesFrom cache.config (λ shard. length (front shard)) p q
   -- the feeder has settled all that it picked, where it had before
   pub settled : p.number ≡ cache.config.callers → HasSettled p → HasSettled q
   -- where one other party has seen all that both made, the front is what that one had seen
@@ -114,8 +116,8 @@ pub record SyncsJoined (cache : Cache) (tick : ℕ) (p : PartyPlace) (olds : Lis
   pub began : (i : ℕ) (c : OnHeap) → slice_get cells i ≡ Some c → opening_numbers c.value.limit c.value.opening ≡ slice_index_or p.own.about.openings i []
   pub noted : (i : ℕ) (c : OnHeap) → slice_get cells i ≡ Some c → front_of i q.own.seen ≡ lines_of c.value.history ++ lines_of (synced_in p.number i xs)
   pub met : HaveMet cache.config (p ∷ olds) (q ∷ news)
-  -- it has seen of each cell what it had
-  pub grown : (i : ℕ) → IsCell cache.config i → StartsWith (front_of i q.own.seen) (front_of i p.own.seen)
+  -- it has seen of each cell and of each shard what it had
+  pub keeps : KeepsCells cache.config p q
   -- and each had done just what is noted of it
   pub did : AllByRecursion (HasDoneTo cache.config cells) (p ∷ olds)
   -- where no party had made an entry of a cell, nothing was done to one before

@@ -394,7 +394,7 @@ fn run_one<P: Pool, D: CacheDev, G: Gate>(
     requires device { MayBeFed D.CacheDev trace.now.config device.old }
     ensures ran { IfOk result (λ ran. (work : RunWork) × (together : RanTogether P.Pool D.CacheDev pool.old pool.new (lent_in device.old) (lent_in device.new) trace.now ran.ending restored.now ran.replies.items work ran.closed)
         × ((rebuilt : Option Rebuilt) → found_keys rebuilt ≡ restored.now
-        → RunsInTurn P.Pool D.CacheDev pool.old pool.new (lent_in device.old) (lent_in device.new) together.place trace.now ran.ending work ran.closed.cells (report_of_closed ran.ending rebuilt ran.replies.items ran.closed))
+        → RunsInTurn P.Pool D.CacheDev pool.old pool.new (lent_in device.old) (lent_in device.new) together.place trace.now ran.ending work together.explained.owner ran.closed.cells (report_of_closed ran.ending rebuilt ran.replies.items ran.closed))
         × LeavesFed D.CacheDev trace.now.config restored.now work.feeds device.old device.new (histories_of ran.closed)) }
     ensures pool { LeavesDeclared P.Pool trace.now.blocks pool.old pool.new }
     ensures still { has_sync trace.now.ops ≡ false → LeavesPool P.Pool pool.old pool.new }

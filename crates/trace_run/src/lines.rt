@@ -1,5 +1,5 @@
 //! One caller's lines over the shared cache.
-ghost use Rattle.std.specs.Prelude.{◌≡◌, ◌≢◌, ◌<◌, ◌+◌, ◌^◌, [], IfOk, IfSome, List, None, OnErr, filter, is_some, length, map, true};
+ghost use Rattle.std.specs.Prelude.{◌≡◌, ◌≢◌, ◌<◌, ◌+◌, ◌^◌, [], IfOk, IfSome, List, None, OnErr, filter, length, map, true};
 ghost use Rattle.arc_table.specs.Reading.{KeepsDevice, outside};
 ghost use Rattle.arc_table.specs.Seen.{HasAll};
 ghost use Rattle.blk_ptr.specs.Hash.{shard_of};
@@ -10,7 +10,7 @@ ghost use Rattle.trace_run.specs.Answering.{KeepsImage, ReadsImage};
 ghost use Rattle.trace_run.specs.Answers.{AnswersDrop, AnswersHold, AnswersRead, IsInside};
 ghost use Rattle.trace_run.specs.callers.WorkLines.{DidOps, DidWith, at_work};
 ghost use Rattle.trace_run.specs.DeviceReads.{AsksFor};
-ghost use Rattle.trace_run.specs.ObjectLines.{IsSized, on_object};
+ghost use Rattle.trace_run.specs.ObjectLines.{IsSized};
 ghost use Rattle.trace_run.specs.Effects.{calls_of, effect_of};
 ghost use Rattle.trace_run.specs.KeptBlocks.{Drops, Stands, read_of};
 ghost use Rattle.trace_run.specs.Lines.{caller_of, is_of_caller};
@@ -212,19 +212,6 @@ pub(crate) fn line<P: Pool, D: CacheDev>(
             object_line(alloc, rt, arcs, party, pool, device, op)
         }
         Op::Feed | Op::Txg { .. } | Op::Cap { .. } => unreachable!(),
-    }
-}
-
-/// Whether an operation is on an object.
-pub(crate) fn is_on_object(op: &Op) -> bool
-    ensures { result ≡ is_some (on_object op.now) }
-{
-    match *op {
-        Op::Get { .. } | Op::Put { .. } | Op::Patch { .. } | Op::Pin { .. } | Op::Unpin { .. } => {
-            true
-        }
-        Op::Read { .. } | Op::Hold { .. } | Op::Drop { .. } => false,
-        Op::Feed | Op::Txg { .. } | Op::Cap { .. } => false,
     }
 }
 

@@ -1,15 +1,14 @@
 -- What a pool is once forks of it were taken back, and what it counts then.
-use Rattle.std.proofs.Common.{◌≡◌, ℕ, zero, suc, ◌+◌, ◌*◌, ◌<◌, ◌≤◌, ◌^◌, List, [], ◌∷◌, ◌++◌, length, get_or, refl, sym, ap, ◌∙◌, subst, arith}
+use Rattle.std.proofs.Common.{◌≡◌, ℕ, zero, suc, ◌+◌, ◌*◌, ◌<◌, ◌≤◌, List, [], ◌∷◌, ◌++◌, length, get_or, refl, sym, ap, ◌∙◌, subst, arith}
 use Rattle.std.specs.Prelude.{sum_by}
 use Rattle.std.specs.List.{AllByRecursion}
-use Rattle.std.proofs.lemmas.List.Sums.{count_by-le-length, sum_by-cons}
+use Rattle.std.proofs.lemmas.List.Sums.{sum_by-cons}
 use Rattle.vdev_io.specs.declared.pool.Pool.{Ghosts}
 use Rattle.vdev_io.specs.Faults.{last_count, sum_of_counts}
-use Rattle.vdev_io.specs.Calls.{KeepsPool, MakesCalls, Call, is_failed}
+use Rattle.vdev_io.specs.Calls.{KeepsPool}
 use Rattle.trace_run.specs.callers.Callers.{Absorbs, AbsorbsAll}
 use Rattle.trace_run.specs.callers.Group.{IsFork, LeavesPool}
 use Rattle.trace_run.specs.callers.Together.{over_callers}
-use Rattle.trace_run.proofs.RunLemmas.{calls-faults, calls-reads}
 
 module _ {P : Type 0} (pools : Ghosts P) where
   -- ---- the pool has its length and its bytes
@@ -96,14 +95,6 @@ module _ {P : Type 0} (pools : Ghosts P) where
   fresh-faults pool [] all = refl
   fresh-faults pool (fork ∷ forks) all = omega (arith, sum_by-cons pools.faults fork forks, all.0.faults, fresh-faults pool forks all.1)
 
-  -- a fork was read at most as often as there were calls
-  pub few-counts : (calls : List Call) (fork done : P) → pools.reads fork ≡ 0 → pools.faults fork ≡ 0 → MakesCalls pools calls fork done → (most : ℕ) → length calls ≤ most → most ≤ last_count
-      → (pools.reads done ≤ most) × (pools.faults done ≤ most)
-  few-counts calls fork done reads faults made most few small = (
-    omega (arith, reads, few, calls-reads pools calls fork done made (omega (arith, reads, few, small))),
-    omega (arith, faults, few, count_by-le-length is_failed calls, calls-faults pools calls fork done made (omega (arith, faults, few, small))),
-  )
-
 -- ---- sums over callers
 
 over-shift : (k : ℕ) (f : ℕ → ℕ) → over_callers (suc k) f ≡ f 0 + over_callers k (λ n. f (suc n))
@@ -113,10 +104,6 @@ over-shift (suc k) f = omega (arith, over-shift k f)
 pub over-sum : {P : Type 0} (f : P → ℕ) (xs : List P) (d : P) → over_callers (length xs) (λ n. f (get_or xs n d)) ≡ sum_by f xs
 over-sum f [] d = refl
 over-sum f (x ∷ xs) d = omega (arith, over-shift (length xs) (λ n. f (get_or (x ∷ xs) n d)), sum_by-cons f x xs, over-sum f xs d)
-
-pub sum-few : {P : Type 0} (f : P → ℕ) (xs : List P) (d : P) → ((k : ℕ) → k < length xs → f (get_or xs k d) ≤ 2 ^ 32) → sum_by f xs ≤ length xs * 2 ^ 32
-sum-few f [] d each = omega arith
-sum-few f (x ∷ xs) d each = omega (arith, sum_by-cons f x xs, each 0 (omega arith), sum-few f xs d (λ k lt. each (suc k) (omega (arith, lt))))
 
 -- where each is at most so much
 pub over-few : (k : ℕ) (f : ℕ → ℕ) (most : ℕ) → ((n : ℕ) → n < k → f n ≤ most) → over_callers k f ≤ k * most

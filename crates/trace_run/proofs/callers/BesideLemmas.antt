@@ -67,9 +67,6 @@ module _ {C D : Type 0} (m : Meanings C) (devices : Ghosts D) (cache : Cache) wh
     used = record { lent = b; later = b; gave = lent; made = made-none m devices cache b p; took = lent-same devices b };
   }
 
-  pub none-tried : (os : List Op) (a : Device D) (p : Place (Known C)) → TriesFeeds m devices cache (filter is_feed os) a a p p
-  none-tried os a p = record { feeds = []; few = omega arith; made = made-none m devices cache a p }
-
   pub none-asked-done : (os : List Op) (a : Device D) (p : Place (Known C)) → list_any is_feed os ≡ false → DoesFeeds m devices cache (filter is_feed os) [] a a p p
   none-asked-done os a p none = subst (λ (l : List Op). DoesFeeds m devices cache l [] a a p p) (sym (none-found os none)) (none-done m devices cache a p)
 

@@ -1,12 +1,10 @@
 -- The acts of all callers, seen from one of them: they are its own.
-use Rattle.std.proofs.Common.{◌≡◌, ◌≢◌, ◌⊎◌, ℕ, zero, suc, ◌<◌, ◌≤◌, ◌==◌, true, false, IfSome, Option, Some, List, [], ◌∷◌, ◌++◌, inl, inr, refl, sym, ap, ◌∙◌, arith, eq-eqb, ne_eqb, append-nil, None}
+use Rattle.std.proofs.Common.{◌≡◌, ◌≢◌, ◌⊎◌, ℕ, zero, suc, ◌≤◌, ◌==◌, true, false, IfSome, Option, Some, List, [], ◌∷◌, ◌++◌, inl, inr, refl, sym, ap, ◌∙◌, arith, eq-eqb, ne_eqb, None}
 use Rattle.std.specs.Prelude.{filter}
 use Rattle.std.specs.Option.{option_map_or}
 use Rattle.std.specs.List.{AllByRecursion}
 use Rattle.std.proofs.lemmas.Bool.{eqb-true, false≢true}
 use Rattle.std.proofs.lemmas.List.Elements.{filter-append}
-use mathlib.Core.Logic.{dite}
-use native.Mathlib.Decide.{ℕ_discrete}
 use Rattle.arc_lists.proofs.Tables.{cases_true}
 use Rattle.blk_ptr.specs.declared.key.Key.{Key}
 use Rattle.blk_ptr.specs.declared.ptr.Ptr.{Ptr}
@@ -87,18 +85,3 @@ module _ (f : Key → ℕ) (shard : ℕ) where
     callers-none (suc c) n above =
         filter-append _ (acts_of_callers blocks c os replies) (acts_of c)
         ∙ (ap (λ (l : List Act). l ++ acts_in f shard n (acts_of c)) (callers-none c n (omega arith)) ∙ others-none c n (acts_of c) (λ e. absurd (omega arith)) (acts-own c))
-
-    -- what a caller did is what its own lines and the end of the run do
-    pub callers-own : (callers n : ℕ) → n < callers → acts_in f shard n (acts_of_callers blocks callers os replies) ≡ acts_in f shard n (acts_of n)
-    callers-own zero n below = absurd (omega arith)
-    callers-own (suc c) n below = dite (ℕ_discrete c n)
-        (λ same.
-        filter-append _ (acts_of_callers blocks c os replies) (acts_of c)
-        ∙ (ap (λ (l : List Act). l ++ acts_in f shard n (acts_of c)) (callers-none c n (omega (arith, same))) ∙ ap (λ (k : ℕ). acts_in f shard n (acts_of k)) same))
-        (λ differs.
-        filter-append _ (acts_of_callers blocks c os replies) (acts_of c)
-        ∙ (ap (λ (l : List Act). acts_in f shard n (acts_of_callers blocks c os replies) ++ l) (others-none c n (acts_of c) differs (acts-own c))
-        ∙ (append-nil (acts_in f shard n (acts_of_callers blocks c os replies)) ∙ callers-own c n (less c n below differs))))
-      where
-        less : (c n : ℕ) → n < suc c → c ≢ n → n < c
-        less c n below differs = omega arith

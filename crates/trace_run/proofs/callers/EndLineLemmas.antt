@@ -100,6 +100,7 @@ module _ (cache : Cache) (old new : Crew OnHeap) (number : old.feeder.number ≡
   sync-made = record {
     lines = j.lines;
     parted = j.parted;
+    level = j.level;
     kept = kept;
     number = j.number;
     about = j.about;
@@ -111,9 +112,11 @@ module _ (cache : Cache) (old new : Crew OnHeap) (number : old.feeder.number ≡
     own = j.own;
     others = j.others;
     since = j.since;
+    others_since = j.others_since;
+    behind = j.behind;
     told = λ acts noted told. subst (λ (n : ℕ). HasToldOthers cache.config (acts ++ acts_of_events j.inserts) (noted ++ noted_of n xs) new.feeder) number (j.told acts noted told);
     met = j.met;
-    cells = j.grown;
+    keeps = j.keeps;
     inserted = more-acts cache t old.feeder old.parties.items new.feeder new.parties.items cells xs j;
   }
 

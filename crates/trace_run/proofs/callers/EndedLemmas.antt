@@ -1,5 +1,5 @@
 -- Several callers behind what the feeder did for the line that ends their group, while all had joined it: the line is answered, or a sync stopped there.
-use Rattle.std.proofs.Common.{◌≡◌, ℕ, zero, suc, ◌==◌, ◌<◌, ◌≤◌, nat_lt, Bool, true, false, if◌then◌else◌, List, [], ◌∷◌, ◌++◌, Option, None, length, take, refl, sym, ap, ◌∙◌, subst, inl, inr, arith, append-nil, append_assoc, length-append, eq-eqb, ◌+◌, ◌-◌, Some, map}
+use Rattle.std.proofs.Common.{◌≡◌, ℕ, zero, suc, ◌==◌, ◌<◌, ◌≤◌, nat_lt, Bool, true, false, if◌then◌else◌, List, [], ◌∷◌, ◌++◌, Option, None, length, take, refl, sym, ap, ◌∙◌, subst, inl, inr, arith, append-nil, append_assoc, length-append, eq-eqb, ◌+◌, ◌-◌, Some, map, ne_eqb}
 use Rattle.std.specs.Prelude.{slice_get, filter}
 use Rattle.std.specs.List.{AllByRecursion}
 use Rattle.std.proofs.lemmas.Bool.{cases_lt, false≢true}
@@ -22,9 +22,9 @@ use Rattle.arc_core.specs.Operations.{Act, Tell, acts_in, moments, own_events, o
 use Rattle.arc_table.specs.Cache.{Cache}
 use Rattle.arc_table.specs.declared.view.Line.{Line as Seen}
 use Rattle.arc_table.specs.Fronts.{StartsWith, front_of}
-use Rattle.arc_table.specs.Geometry.{IsCell, cell_number}
-use Rattle.arc_table.specs.Seen.{seen_of}
-use Rattle.arc_table.specs.TableLaws.{starts_whole}
+use Rattle.arc_table.specs.Geometry.{IsCell, cell_number, parties_of}
+use Rattle.arc_table.specs.Seen.{seen_of, turn_of}
+use Rattle.arc_table.specs.TableLaws.{starts_whole, within}
 use Rattle.arc_table.specs.Telling.{opening_of}
 use Rattle.dbuf_cells.specs.Turns.{OnHeap, PartyPlace}
 use Rattle.l2_feed.specs.Series.{GivesNone}
@@ -35,19 +35,19 @@ use Rattle.trace_text.specs.declared.reply.Reply.TheVariants.{Capped}
 use Rattle.trace_run.specs.declared.groups.Crew.{Crew}
 use Rattle.trace_run.specs.declared.kept_blocks.KeptBlock.{KeptBlock}
 use Rattle.trace_run.specs.Acts.{events_of_feeder}
-use Rattle.trace_run.specs.Deeds.{HasToldOthers, Noted, acts_of_events, with_number}
+use Rattle.trace_run.specs.Deeds.{HasToldOthers, Noted, acts_of_events, with_number, KeepsCells, MakesFrom}
 use Rattle.trace_run.specs.FeedEvents.{events_of_lines, feeds_told}
 use Rattle.trace_run.specs.FeedSeries.{SeesMore}
 use Rattle.trace_run.specs.Feeds.{FeedDone, is_feed}
 use Rattle.trace_run.specs.KeptBlocks.{Stands}
 use Rattle.trace_run.specs.KeptReads.{KeptRead}
 use Rattle.trace_run.specs.Lines.{caller_of, is_of_caller}
-use Rattle.trace_run.specs.Meeting.{HasSettled, HaveMet, HaveParted, IsFed, Resized, Waits, resizes_in}
+use Rattle.trace_run.specs.Meeting.{HasSettled, HaveMet, HaveParted, IsFed, Resized, Waits, resizes_in, IsLevel}
 use Rattle.trace_run.specs.Objects.{Line, Work, no_work, ops_of, replies_of}
 use Rattle.trace_run.specs.Restores.{events_by_feeder, restores_in}
-use Rattle.trace_run.specs.RunWork.{FitsBy, FitsFeeder, IsSyncWork, RunWork, acts_of_syncs, lines_of_caller, lines_of_feeder, noted_of_syncs, AllFit, IsRunWork}
+use Rattle.trace_run.specs.RunWork.{FitsBy, FitsFeeder, IsSyncWork, RunWork, acts_of_syncs, lines_of_caller, lines_of_feeder, noted_of_syncs, AllFit, IsRunWork, lines_of_party}
 use Rattle.trace_run.specs.Syncing.{inserts_noted}
-use Rattle.trace_run.specs.callers.Groups.{AreEndLines, ComesAt, HaveCome, IsEndLine}
+use Rattle.trace_run.specs.callers.Groups.{AreEndLines, ComesAt, HaveCome, IsEndLine, AreMakers}
 use Rattle.trace_run.specs.callers.Together.{AreCut, IsCut, IsCutLast, ends_group, events_at_end}
 use Rattle.trace_run.specs.callers.WorkLines.{acts_of_work, acts_with, acts_with_op, noted_of_work, AreLinesOf}
 use Rattle.trace_run.proofs.callers.GroupLists.{cut-before, cuts-more, get-right, some-same, Cuts}
@@ -59,6 +59,9 @@ use Rattle.trace_run.proofs.deeds.DeedLemmas.{others-still}
 use Rattle.trace_run.proofs.feeds.FedLemmas.{as-told, lines-append, one-asked, ops-are, told-still}
 use Rattle.trace_run.proofs.feeds.SeriesLemmas.{sees-by}
 use Rattle.trace_run.proofs.one_caller.TellLemmas.{all-append}
+use Rattle.trace_run.specs.MadeLines.{IsMaker, is_listed, made_in, owned_from}
+use Rattle.trace_run.proofs.callers.MakerLemmas.{events-few, maker-before, maker-owned}
+use Rattle.trace_run.proofs.deeds.MakesLemmas.{seen-below}
 
 -- ---- the work so far, and more
 
@@ -77,6 +80,7 @@ with_stop w work = record { lines = w.lines; stopped = work; feeds = w.feeds; en
 pub record MadeWork (cache : Cache) (work : Work) (more : (shard : ℕ) → List Event) (old new : Crew OnHeap) : Type 0 where
   pub lines : ℕ → List Seen
   pub parted : HaveParted cache lines old.parties.items new.parties.items
+  pub level : IsLevel cache.config lines new.feeder
   pub kept : new.kept.items ≡ old.kept.items
   pub number : new.feeder.number ≡ old.feeder.number
   pub about : new.feeder.own.about ≡ old.feeder.own.about
@@ -89,11 +93,13 @@ pub record MadeWork (cache : Cache) (work : Work) (more : (shard : ℕ) → List
   pub others : (shard : ℕ)
       → AllByRecursion (λ o. own_moments o.number (moments (opening_of cache.config) (front shard)) ≡ own_moments o.number (moments (opening_of cache.config) (seen_of cache.config shard o))) old.parties.items
   pub since : (shard : ℕ) → StartsWith (front shard) (seen_of cache.config shard old.feeder)
+  pub others_since : (shard : ℕ) → AllByRecursion (λ o. StartsWith (front shard) (seen_of cache.config shard o)) old.parties.items
+  pub behind : MakesFrom cache.config (λ shard. length (front shard)) old.feeder new.feeder
   pub told : (acts : List Act) (noted : List Noted) → HasToldOthers cache.config acts noted old.feeder → HasToldOthers cache.config (acts ++ work.acts) (noted ++ work.noted) new.feeder
   -- of each cell all have seen the same
   pub met : HaveMet cache.config (old.feeder ∷ old.parties.items) (new.feeder ∷ new.parties.items)
-  -- it has seen of each cell what it had, and its acts with the numbers of cells are those of these events
-  pub cells : (i : ℕ) → IsCell cache.config i → StartsWith (front_of i new.feeder.own.seen) (front_of i old.feeder.own.seen)
+  -- it has seen of each cell and of each shard what it had, and its acts with the numbers of cells are those of these events
+  pub keeps : KeepsCells cache.config old.feeder new.feeder
   pub inserted : (shard i : ℕ) → IsCell cache.config i → acts_in (shard_of cache.config.shards) shard (cell_number cache.config i) work.acts ≡ acts_of_events (with_number (cell_number cache.config i) (more shard))
 
 -- A line that ends a group was done so: of its own number the feeder made just what the line asks of it.
@@ -201,9 +207,69 @@ module _ {P D : Type 0} (pools : Ghosts P) (devices : Devices D) (cache : Cache)
     grown : (shard : ℕ) → StartsWith (seen_of g shard new.feeder) (seen_of g shard old.feeder)
     grown shard = starts-then (seen_of g shard new.feeder) (made.front shard) (seen_of g shard old.feeder) (more shard, made.seen shard) (made.since shard)
 
+    makers-old : (shard : ℕ) (owner : (place : ℕ) → ℕ) → AreMakers g shard owner new → AreMakers g shard owner old
+    makers-old shard owner makers = record {
+      callers = λ n p at.
+          let few = within old.parties.items n p at in
+          let b = before.each n (omega (arith, few, before.parties)) in
+          let x = parted-at cache made.lines n old.parties.items new.parties.items b.party made.parted b.at.party_at in
+          subst (IsMaker g shard owner n) (some-injective b.party p (sym b.at.party_at ∙ at)) (maker-before g shard owner n b.party x.0 (x.2.same b.reads b.come.waits.stands).keeps (makers.callers n x.0 x.1));
+      feeder = maker-before g shard owner g.callers old.feeder new.feeder made.keeps makers.feeder;
+    }
+
+    -- what each party had done with the numbers of cells stands before it
+    module _ (shard : ℕ) (owner : (place : ℕ) → ℕ) (makers : AreMakers g shard owner new) where
+      front-few : length (made.front shard) ≤ length (made.lines shard)
+      front-few =
+          let long : length (seen_of g shard new.feeder) ≡ length (made.front shard) + length (more shard) = ap length (made.seen shard) ∙ length-append (made.front shard) (more shard) in
+          let few = events-few (front_of (turn_of g shard) new.feeder.own.seen) in
+          let same = ap length (made.level shard) in
+          omega (arith, long, few, same)
+
+      caller-cells : (n i : ℕ) → n < g.callers → IsCell g i → acts_of_events (with_number (cell_number g i) (owned_from owner n 0 (made.front shard)))
+          ≡ acts_in (shard_of g.shards) shard (cell_number g i) (acts_of_work g blocks [] (lines_of_caller n w.lines))
+      caller-cells n i caller range =
+          let b = before.each n caller in
+          let x = parted-at cache made.lines n old.parties.items new.parties.items b.party made.parted b.at.party_at in
+          let was = (makers-old shard owner makers).callers n b.party b.at.party_at in
+          let is = makers.callers n x.0 x.1 in
+          let same = ap length (x.2.level shard) in
+          let owned : owned_from owner n 0 (made.front shard) ≡ made_in g shard b.party =
+          maker-owned g shard owner n b.party (made.front shard) was.events (seen-below g b.party.number b.party.own.mine b.party.own.seen shard b.come.waits.stands.seen.own)
+          (all-at _ old.parties.items n b.party (made.others_since shard) b.at.party_at)
+          (λ y inside. ap (is_listed (turn_of g shard) y) (sym x.2.mine) ∙ is.made y (let few = front-few in omega (arith, inside, few, same))) in
+          ap (λ (es : List Event). acts_of_events (with_number (cell_number g i) es)) owned
+          ∙ sym (b.come.waits.told.cells shard (cell_number g i) (λ same. let number = b.come.waits.number in omega (arith, same, number, caller)))
+
+      feeder-cells : (i : ℕ) → IsCell g i → acts_of_events (with_number (cell_number g i) (owned_from owner g.callers 0 (made.front shard)))
+          ≡ acts_in (shard_of g.shards) shard (cell_number g i) (acts_of_work g blocks [] (lines_of_feeder w.lines))
+      feeder-cells i range =
+          let was = (makers-old shard owner makers).feeder in
+          let same = ap length (made.level shard) in
+          let owned : owned_from owner g.callers 0 (made.front shard) ≡ made_in g shard old.feeder =
+          maker-owned g shard owner g.callers old.feeder (made.front shard) was.events (seen-below g old.feeder.number old.feeder.own.mine old.feeder.own.seen shard before.feeder.stands.seen.own) (made.since shard)
+          (λ y inside. sym (made.behind shard y inside) ∙ makers.feeder.made y (let few = front-few in omega (arith, inside, few, same))) in
+          let acts : List Act = acts_of_work g blocks [] (lines_of_feeder w.lines) in
+          ap (λ (es : List Event). acts_of_events (with_number (cell_number g i) es)) owned
+          ∙ (sym (before.feeder.told.cells shard (cell_number g i) (λ same. let number = feeder-number in omega (arith, same, number)))
+          ∙ ap (acts_in (shard_of g.shards) shard (cell_number g i)) (ap (λ (x : Work). acts ++ x.acts) goes_on ∙ append-nil acts))
+
+      party-cells : (n i : ℕ) → n < parties_of g → IsCell g i → acts_of_events (with_number (cell_number g i) (owned_from owner n 0 (made.front shard)))
+          ≡ acts_in (shard_of g.shards) shard (cell_number g i) (acts_of_work g blocks [] (lines_of_party g n w.lines))
+      party-cells n i party range = elim (cases_lt n g.callers) [
+        | inl caller ↦
+            let other : (n == g.callers) ≡ false = ne_eqb n g.callers (λ is. omega (arith, is, caller)) in
+            rw other (caller-cells n i caller range)
+        | inr above ↦
+            let last : n ≡ g.callers = omega (arith, above, party) in
+            let here : (n == g.callers) ≡ true = eq-eqb n g.callers last in
+            rw here (subst (λ (k : ℕ). acts_of_events (with_number (cell_number g i) (owned_from owner k 0 (made.front shard)))
+            ≡ acts_in (shard_of g.shards) shard (cell_number g i) (acts_of_work g blocks [] (lines_of_feeder w.lines))) (sym last) (feeder-cells i range))
+      ]
+
     -- what stands before it
-    cut-at : (shard : ℕ) → shard < g.shards → (here : List Event → List Event) → more shard ≡ here (made.front shard) → IsCut g restored blocks shard w.lines w.feeds work.acts here (seen_of g shard new.feeder)
-    cut-at shard below here is =
+    cut-at : (shard : ℕ) → shard < g.shards → (owner : (place : ℕ) → ℕ) → AreMakers g shard owner new → (here : List Event → List Event) → more shard ≡ here (made.front shard) → IsCut g restored blocks shard owner w.lines w.feeds work.acts here (seen_of g shard new.feeder)
+    cut-at shard below owner makers here is =
         let are = ops-are os rs w.lines before.did.lines in
         record {
           front = made.front shard;
@@ -216,6 +282,7 @@ module _ {P D : Type 0} (pools : Ghosts P) (devices : Devices D) (cache : Cache)
               subst (λ (k : ℕ). Tell (acts_in (shard_of g.shards) shard k acts) (own_moments k (moments (opening_of g) (made.front shard)))) b.come.waits.number
               (subst (Tell (acts_in (shard_of g.shards) shard b.party.number acts)) (sym same) (b.come.waits.told.acts shard));
           feeder = front-own shard below ∙ sym (λ i. events_by_feeder g restored (are.0 i) (are.1 i) w.feeds shard);
+          cells = party-cells shard owner makers;
           inserted = λ i range. made.inserted shard i range ∙ ap (λ (es : List Event). acts_of_events (with_number (cell_number g i) es)) is;
         }
 
@@ -262,11 +329,11 @@ module _ {P D : Type 0} (pools : Ghosts P) (devices : Devices D) (cache : Cache)
       ended = before.ended;
       feeder = behind-fed work so.made (λ shard. []) so.none os rs (λ shard. sym (append-nil (events_by_feeder g restored os rs w.feeds shard))) (acts_of_syncs g blocks stopped) (noted_of_syncs stopped) stopped-told;
       begun = λ shard below. starts-then (seen_of g shard new.feeder) (seen_of g shard old.feeder) (restores_in g restored shard) (grown work so.made shard) (before.begun shard below);
-      cut = λ shard below. cuts-more g restored blocks shard w.lines w.feeds (seen_of g shard old.feeder) (seen_of g shard new.feeder) (grown work so.made shard) (before.cut shard below);
+      cut = λ shard below owner makers. cuts-more g restored blocks shard owner w.lines w.feeds (seen_of g shard old.feeder) (seen_of g shard new.feeder) (grown work so.made shard) (before.cut shard below owner (makers-old work so.made shard owner makers));
     }
 
-    pub stopped-cut : (shard : ℕ) → shard < g.shards → IsCutLast g restored blocks shard tick stopped (seen_of g shard new.feeder)
-    stopped-cut shard below = cut-at work so.made shard below (inserts_noted g tick work.noted shard) (so.here shard below)
+    pub stopped-cut : (shard : ℕ) → shard < g.shards → (owner : (place : ℕ) → ℕ) → AreMakers g shard owner new → IsCutLast g restored blocks shard owner tick stopped (seen_of g shard new.feeder)
+    stopped-cut shard below owner makers = cut-at work so.made shard below owner makers (inserts_noted g tick work.noted shard) (so.here shard below)
 
   -- ---- a line that was answered
 
@@ -317,21 +384,21 @@ module _ {P D : Type 0} (pools : Ghosts P) (devices : Devices D) (cache : Cache)
         ∙ sym (append_assoc (restores_in g restored shard) (events_of_lines g shard os rs w.feeds) asked)
 
     -- what stands before it
-    cut-here : (shard : ℕ) → shard < g.shards → IsCut g restored blocks shard w.lines w.feeds l.work.acts (events_at_end g shard l.op l.work.noted) (seen_of g shard new.feeder)
-    cut-here shard below = cut-at l.work so.made shard below (events_at_end g shard l.op l.work.noted) (so.here shard below)
+    cut-here : (shard : ℕ) → shard < g.shards → (owner : (place : ℕ) → ℕ) → AreMakers g shard owner new → IsCut g restored blocks shard owner w.lines w.feeds l.work.acts (events_at_end g shard l.op l.work.noted) (seen_of g shard new.feeder)
+    cut-here shard below owner makers = cut-at l.work so.made shard below owner makers (events_at_end g shard l.op l.work.noted) (so.here shard below)
 
-    all-cut : (shard : ℕ) → shard < g.shards → AreCut g restored blocks shard answered (seen_of g shard new.feeder)
-    all-cut shard below k x at ends = elim (cases_lt k (length w.lines)) [
+    all-cut : (shard : ℕ) → shard < g.shards → (owner : (place : ℕ) → ℕ) → AreMakers g shard owner new → AreCut g restored blocks shard owner answered (seen_of g shard new.feeder)
+    all-cut shard below owner makers k x at ends = elim (cases_lt k (length w.lines)) [
       | inl early ↦
-          subst (λ (fs : List FeedDone). IsCut g restored blocks shard (take k (w.lines ++ l ∷ [])) fs x.work.acts (events_at_end g shard x.op x.work.noted) (seen_of g shard new.feeder)) (append-nil w.feeds)
-          (cut-before g restored blocks shard w.lines (l ∷ []) w.feeds [] (seen_of g shard new.feeder) few
-          (cuts-more g restored blocks shard w.lines w.feeds (seen_of g shard old.feeder) (seen_of g shard new.feeder) (grown l.work so.made shard) (before.cut shard below)) k x at ends early)
+          subst (λ (fs : List FeedDone). IsCut g restored blocks shard owner (take k (w.lines ++ l ∷ [])) fs x.work.acts (events_at_end g shard x.op x.work.noted) (seen_of g shard new.feeder)) (append-nil w.feeds)
+          (cut-before g restored blocks shard owner w.lines (l ∷ []) w.feeds [] (seen_of g shard new.feeder) few
+          (cuts-more g restored blocks shard owner w.lines w.feeds (seen_of g shard old.feeder) (seen_of g shard new.feeder) (grown l.work so.made shard) (before.cut shard below owner (makers-old l.work so.made shard owner makers))) k x at ends early)
       | inr late ↦
           let inside = slice_get_within (w.lines ++ l ∷ []) k x at in
           let last : k ≡ length w.lines = omega (arith, late, inside, length-append w.lines (l ∷ [])) in
           let is : x ≡ l = some-same x l (sym at ∙ (ap (slice_get (w.lines ++ l ∷ [])) (last ∙ omega arith) ∙ get-right w.lines (l ∷ []) 0)) in
-          subst (λ (y : List Line × Line). IsCut g restored blocks shard y.0 w.feeds y.1.work.acts (events_at_end g shard y.1.op y.1.work.noted) (seen_of g shard new.feeder))
-          (λ i. (sym (ap (λ (n : ℕ). take n (w.lines ++ l ∷ [])) last ∙ take-append_seam w.lines (l ∷ [])) i, sym is i)) (cut-here shard below)
+          subst (λ (y : List Line × Line). IsCut g restored blocks shard owner y.0 w.feeds y.1.work.acts (events_at_end g shard y.1.op y.1.work.noted) (seen_of g shard new.feeder))
+          (λ i. (sym (ap (λ (n : ℕ). take n (w.lines ++ l ∷ [])) last ∙ take-append_seam w.lines (l ∷ [])) i, sym is i)) (cut-here shard below owner makers)
     ]
       where
         few : feeds_told (ops_of w.lines) (replies_of w.lines) ≤ length w.feeds
@@ -379,6 +446,7 @@ cap-ends cache c old new number resized kept = record {
   made = record {
     lines = resized.lines;
     parted = resized.parted;
+    level = resized.level;
     kept = kept;
     number = resized.number;
     about = resized.about;
@@ -390,10 +458,12 @@ cap-ends cache c old new number resized kept = record {
     own = resized.own;
     others = resized.others;
     since = resized.since;
+    others_since = resized.others_since;
+    behind = resized.behind;
     told = λ acts noted told. subst (λ (x : List Act × List Noted). HasToldOthers cache.config x.0 x.1 new.feeder) (λ i. (sym (append-nil acts) i, sym (append-nil noted) i))
         (others-still cache.config acts noted old.feeder new.feeder resized.made told);
     met = resized.met;
-    cells = resized.made.keeps.fronts;
+    keeps = resized.made.keeps;
     inserted = λ shard i range. sym (none-inserted cache.config.callers c (cell_number cache.config i) (nat_lt shard cache.config.shards));
   };
   end = inl (c, refl, refl);

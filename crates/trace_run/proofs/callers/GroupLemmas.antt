@@ -1,5 +1,5 @@
 -- Several callers at once: from what each did on its own to what all have done.
-use Rattle.std.proofs.Common.{◌≡◌, ℕ, zero, suc, ◌+◌, ◌<◌, IsSome, List, [], ◌∷◌, length, get_or, map, Option, Some, refl, sym, ap, ◌∙◌, subst, arith}
+use Rattle.std.proofs.Common.{◌≡◌, ℕ, zero, suc, ◌+◌, ◌<◌, List, [], ◌∷◌, length, get_or, map, Option, refl, sym, ap, ◌∙◌, subst, arith}
 use Rattle.std.specs.Prelude.{Err, IfOk, Ok, Result, Vec, filter, sum_by}
 use Rattle.std.specs.List.{AllByRecursion, AllZip}
 use Rattle.std.specs.declared.alloc.Global.{Global}
@@ -26,9 +26,8 @@ use Rattle.trace_run.specs.callers.DeviceForks.{AllAsk}
 use Rattle.trace_run.specs.callers.Group.{HasWorked, HaveWorked, IsFork, RepliedAt}
 use Rattle.trace_run.specs.callers.WorkLines.{AnswersLines, AreLinesOf, AsksGiven, IsWorkOf, LooksLines}
 use Rattle.trace_run.specs.KeptBlocks.{Stands, read_of}
-use Rattle.trace_run.specs.Lines.{caller_of, is_of_caller}
+use Rattle.trace_run.specs.Lines.{is_of_caller}
 use Rattle.trace_run.specs.Objects.{Line}
-use Rattle.trace_run.specs.one_caller.OneCaller.{kept_after}
 use Rattle.trace_run.specs.one_caller.OverShards.{AreNamed}
 use Rattle.trace_run.specs.Tally.{AreAnswered}
 use Rattle.trace_run.specs.callers.Together.{over_callers}
@@ -65,20 +64,6 @@ lines-number {C} {P} g pools blocks [] [] a b did = ap (λ (x : At C P). x.party
 lines-number g pools blocks [] (r ∷ rs) a b did = absurd did
 lines-number g pools blocks (o ∷ os) [] a b did = absurd did
 lines-number g pools blocks (o ∷ os) (r ∷ rs) a b did = lines-number g pools blocks os rs did.0 b did.2 ∙ did.1.did.number
-
--- lines of a caller leave the parties that joined
-pub lines-joined : {C P : Type 0} (g : Config) (pools : Ghosts P) (blocks : List Ptr) (n : ℕ) (os : List Op) (rs : List Reply) (a b : At C P) → AllByRecursion (λ op. caller_of op ≡ Some n) os → DidLines g pools blocks os rs a b
-    → b.party.joined ≡ a.party.joined
-lines-joined {C} {P} g pools blocks n [] [] a b own did = ap (λ (x : At C P). x.party.joined) did
-lines-joined g pools blocks n [] (r ∷ rs) a b own did = absurd did
-lines-joined g pools blocks n (o ∷ os) [] a b own did = absurd did
-lines-joined g pools blocks n (o ∷ os) (r ∷ rs) a b own did = lines-joined g pools blocks n os rs did.0 b own.1 did.2 ∙ did.1.did.joined (subst IsSome (sym own.0) refl)
-
-answers-length : (len : ℕ) (image : Option (List ℕ)) (blocks : List Ptr) (kept : List KeptRead) (os : List Op) (rs : List Reply) → AreAnswered len image blocks kept os rs → length rs ≡ length os
-answers-length len image blocks kept [] [] answers = refl
-answers-length len image blocks kept [] (r ∷ rs) answers = absurd answers
-answers-length len image blocks kept (o ∷ os) [] answers = absurd answers
-answers-length len image blocks kept (o ∷ os) (r ∷ rs) answers = ap suc (answers-length len image blocks (kept_after blocks o r kept) os rs answers.1)
 
 module _ {C P D : Type 0} (cache : Cache) (pools : Ghosts P) (devices : DeviceGhosts D) (blocks : List Ptr) (ops : List Op) where
   -- the caller's operations, as it was before them

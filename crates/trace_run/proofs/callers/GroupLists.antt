@@ -41,13 +41,13 @@ take-map f (suc k) (x ∷ xs) = ap (λ (ys : List _). f x ∷ ys) (take-map f k 
 -- ---- what is cut stays cut
 
 -- these lines cut the history, each behind those before it
-abbrev pub Cuts : Config → List Restored → List Ptr → (shard : ℕ) → List Line → List FeedDone → (history : List Event) → Type 0
-Cuts config restored blocks shard ls fs history =
-    (k : ℕ) (l : Line) → slice_get ls k ≡ Some l → ends_group l.op ≡ true → IsCut config restored blocks shard (take k ls) fs l.work.acts (events_at_end config shard l.op l.work.noted) history
+abbrev pub Cuts : Config → List Restored → List Ptr → (shard : ℕ) → (owner : (place : ℕ) → ℕ) → List Line → List FeedDone → (history : List Event) → Type 0
+Cuts config restored blocks shard owner ls fs history =
+    (k : ℕ) (l : Line) → slice_get ls k ≡ Some l → ends_group l.op ≡ true → IsCut config restored blocks shard owner (take k ls) fs l.work.acts (events_at_end config shard l.op l.work.noted) history
 
-module _ (config : Config) (restored : List Restored) (blocks : List Ptr) (shard : ℕ) where
+module _ (config : Config) (restored : List Restored) (blocks : List Ptr) (shard : ℕ) (owner : (place : ℕ) → ℕ) where
   -- behind what the feeder had seen
-  pub cut-more : (ls : List Line) (fs : List FeedDone) (acts : List Act) (here : List Event → List Event) (h g : List Event) → StartsWith g h → IsCut config restored blocks shard ls fs acts here h → IsCut config restored blocks shard ls fs acts here g
+  pub cut-more : (ls : List Line) (fs : List FeedDone) (acts : List Act) (here : List Event → List Event) (h g : List Event) → StartsWith g h → IsCut config restored blocks shard owner ls fs acts here h → IsCut config restored blocks shard owner ls fs acts here g
   cut-more ls fs acts here h g starts cut = record {
     front = cut.front;
     rest = cut.rest ++ starts.0;
@@ -56,21 +56,23 @@ module _ (config : Config) (restored : List Restored) (blocks : List Ptr) (shard
         ∙ (append_assoc cut.front (here cut.front ++ cut.rest) starts.0 ∙ ap (λ (l : List Event). cut.front ++ l) (append_assoc (here cut.front) cut.rest starts.0)));
     callers = cut.callers;
     feeder = cut.feeder;
+    cells = cut.cells;
     inserted = cut.inserted;
   }
 
-  pub cuts-more : (ls : List Line) (fs : List FeedDone) (h g : List Event) → StartsWith g h → Cuts config restored blocks shard ls fs h → Cuts config restored blocks shard ls fs g
+  pub cuts-more : (ls : List Line) (fs : List FeedDone) (h g : List Event) → StartsWith g h → Cuts config restored blocks shard owner ls fs h → Cuts config restored blocks shard owner ls fs g
   cuts-more ls fs h g starts cut k l at ends = cut-more (take k ls) fs l.work.acts (events_at_end config shard l.op l.work.noted) h g starts (cut k l at ends)
 
   -- where more feeds were made
-  cut-fed : (ls : List Line) (fs gs : List FeedDone) (acts : List Act) (here : List Event → List Event) (h : List Event) → feeds_told (ops_of ls) (replies_of ls) ≤ length fs → IsCut config restored blocks shard ls fs acts here h
-      → IsCut config restored blocks shard ls (fs ++ gs) acts here h
+  cut-fed : (ls : List Line) (fs gs : List FeedDone) (acts : List Act) (here : List Event → List Event) (h : List Event) → feeds_told (ops_of ls) (replies_of ls) ≤ length fs → IsCut config restored blocks shard owner ls fs acts here h
+      → IsCut config restored blocks shard owner ls (fs ++ gs) acts here h
   cut-fed ls fs gs acts here h few cut = record {
     front = cut.front;
     rest = cut.rest;
     whole = cut.whole;
     callers = cut.callers;
     feeder = cut.feeder ∙ ap (λ (l : List Event). restores_in config restored shard ++ l) (sym (lines-enough config shard (ops_of ls) (replies_of ls) fs gs few));
+    cells = cut.cells;
     inserted = cut.inserted;
   }
 
@@ -78,11 +80,11 @@ module _ (config : Config) (restored : List Restored) (blocks : List Ptr) (shard
   front-told k ls = subst (λ (n : ℕ). n ≤ feeds_told (ops_of ls) (replies_of ls)) (λ i. feeds_told (take-map (λ (l : Line). l.op) k ls i) (take-map (λ (l : Line). l.reply) k ls i)) (told-front k (ops_of ls) (replies_of ls))
 
   -- by lines that stand before others
-  pub cut-before : (ls ms : List Line) (fs gs : List FeedDone) (h : List Event) → feeds_told (ops_of ls) (replies_of ls) ≤ length fs → Cuts config restored blocks shard ls fs h
+  pub cut-before : (ls ms : List Line) (fs gs : List FeedDone) (h : List Event) → feeds_told (ops_of ls) (replies_of ls) ≤ length fs → Cuts config restored blocks shard owner ls fs h
       → (k : ℕ) (l : Line) → slice_get (ls ++ ms) k ≡ Some l → ends_group l.op ≡ true → k < length ls
-      → IsCut config restored blocks shard (take k (ls ++ ms)) (fs ++ gs) l.work.acts (events_at_end config shard l.op l.work.noted) h
+      → IsCut config restored blocks shard owner (take k (ls ++ ms)) (fs ++ gs) l.work.acts (events_at_end config shard l.op l.work.noted) h
   cut-before ls ms fs gs h told cut k l at ends below =
-      subst (λ (x : List Line). IsCut config restored blocks shard x (fs ++ gs) l.work.acts (events_at_end config shard l.op l.work.noted) h) (sym (take-append-le k ls ms (omega (arith, below))))
+      subst (λ (x : List Line). IsCut config restored blocks shard owner x (fs ++ gs) l.work.acts (events_at_end config shard l.op l.work.noted) h) (sym (take-append-le k ls ms (omega (arith, below))))
       (cut-fed (take k ls) fs gs l.work.acts (events_at_end config shard l.op l.work.noted) h (omega (arith, told, front-told k ls)) (cut k l (sym (get-left ls ms k below) ∙ at) ends))
 
 -- ---- groups

@@ -1,5 +1,5 @@
 -- Several callers at the ends of groups and of their run: what a trace's lines are, which parties have stopped, and what waiting callers may do.
-use Rattle.std.proofs.Common.{◌≡◌, ◌≢◌, ℕ, zero, suc, ◌+◌, ◌<◌, ◌≤◌, Bool, List, [], ◌∷◌, ◌++◌, length, length-append, map, Option, Some, Result, Ok, Err, IfOk, inl, inr, refl, sym, ap, ◌∙◌, subst, arith}
+use Rattle.std.proofs.Common.{◌≡◌, ◌≢◌, ℕ, zero, suc, ◌+◌, ◌<◌, ◌≤◌, List, [], ◌∷◌, ◌++◌, length, length-append, map, Option, Some, inl, inr, refl, sym, ap, ◌∙◌, subst, arith}
 use Rattle.std.specs.Prelude.{slice_get}
 use Rattle.std.specs.List.{AllByRecursion}
 use Rattle.std.proofs.lemmas.Bool.{cases_lt}
@@ -8,7 +8,6 @@ use Rattle.std.proofs.lemmas.Option.{get_or_from_slice_get, slice_get_within}
 use mathlib.Core.Option.{some, some-injective, some-ne-none}
 use lib.ListN.{get_elem?}
 use Rattle.blk_ptr.specs.declared.ptr.Ptr.{Ptr}
-use Rattle.arc_lists.proofs.Tables.{cases_true}
 use Rattle.arc_core.specs.declared.event.Event.{Event}
 use Rattle.arc_core.specs.declared.served.Restored.{Restored}
 use Rattle.arc_core.specs.Operations.{Act}
@@ -34,7 +33,7 @@ use Rattle.trace_run.specs.callers.WorkLines.{acts_of_work, noted_of_work}
 use Rattle.trace_run.specs.Deeds.{Noted}
 use Rattle.trace_run.specs.KeptBlocks.{Stands, read_of}
 use Rattle.trace_run.specs.KeptReads.{KeptRead}
-use Rattle.trace_run.specs.Lines.{caller_of, replies_where}
+use Rattle.trace_run.specs.Lines.{caller_of}
 use Rattle.trace_run.specs.Meeting.{AllGave, AreWaiting, HaveGivenBack, IsApart, MayGoOn, Waits}
 use Rattle.trace_run.specs.ObjectLines.{IsSized}
 use Rattle.trace_run.specs.Objects.{Line}
@@ -244,18 +243,3 @@ module _ {C : Type 0} (cache : Cache) (restored : List Restored) (len : ℕ) (im
       all-named : (kept : List KeptRead) (ls : List Line) → AreNamed blocks kept → AreNamed blocks (kept_after_lines blocks kept ls)
       all-named kept [] named = named
       all-named kept (l ∷ ls) named = all-named (kept_after blocks l.op l.reply kept) ls (named-after blocks l.op l.reply kept named)
-
-pub where-few : (test : Op → Bool) (os : List Op) (rs : List Reply) → length (replies_where test os rs) ≤ length rs
-where-few test [] rs = omega arith
-where-few test (o ∷ os) [] = omega arith
-where-few test (o ∷ os) (r ∷ rs) =
-    let rest = where-few test os rs in
-    elim (cases_true (test o)) [
-      | inl own ↦ rw own (omega (arith, rest))
-      | inr other ↦ rw other (omega (arith, rest))
-    ]
-
--- what follows of two facts of an answer
-pub ok-both : {T E : Type 0} (A B R : T → Type 0) (r : Result T E) → IfOk r A → IfOk r B → ((x : T) → A x → B x → R x) → IfOk r R
-ok-both A B R (Ok x) a b both = both x a b
-ok-both A B R (Err e) a b both = tt

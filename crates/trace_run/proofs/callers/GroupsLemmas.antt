@@ -118,7 +118,7 @@ module _ {C : Type 0} (cache : Cache) (whole : List (Place (Known C))) (crew : C
       settled = λ i. ap (λ (l : Ledger). list_at i l.picked) feeder-new.new.begun;
     };
     begun = λ shard below. (seen_of cache.config shard crew.feeder, refl);
-    cut = λ shard below k l at ends. absurd (none-cut k at);
+    cut = λ shard below owner makers k l at ends. absurd (none-cut k at);
   }
     where
       none-own : (shard : ℕ) → own_events crew.feeder.number (seen_of cache.config shard crew.feeder) ≡ []
@@ -189,5 +189,5 @@ module _ {C : Type 0} (cache : Cache) (restored : List Restored) (len : ℕ) (im
       settled = made.settled before.feeder.number before.feeder.settled;
     };
     begun = λ shard below. subst (λ (es : List Event). StartsWith es (restores_in cache.config restored shard)) (sym (restores-seen shard)) (starts_whole (restores_in cache.config restored shard));
-    cut = λ shard below k l at ends. absurd (none-cut k at);
+    cut = λ shard below owner makers k l at ends. absurd (none-cut k at);
   }

@@ -103,9 +103,6 @@ module _ {D : Type 0} (devices : Ghosts D) where
   pub in-use-then : (os : List Op) (a b c : Device D) → WasInUse devices os a b → WasInUse devices os b c → WasInUse devices os a c
   in-use-then os a b c first second = record { kind = kind-then a b c first.kind second.kind; unfed = λ none. lent-then devices a b c (first.unfed none) (second.unfed none) }
 
-  pub lent-in-use : (os : List Op) (a b : Device D) → WasLent devices a b → WasInUse devices os a b
-  lent-in-use os a b lent = record { kind = lent-kind a b lent; unfed = λ none. lent }
-
 module _ {C D : Type 0} (m : Meanings C) (devices : Ghosts D) (cache : Cache) where
   feeds-alike : (fs : List FeedDone) (was now : D) (old new : CursorState) (p q : Place (Known C)) → MadeFeeds m devices cache fs was now old new p q → IsAlike devices was now
   feeds-alike [] was now old new p q made = alike-same devices was now made.0

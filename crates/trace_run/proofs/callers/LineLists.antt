@@ -1,6 +1,6 @@
 -- Lines with their work, one behind the other: what they come to together, and what the lines of a group ask of the feeder.
-use Rattle.std.proofs.Common.{◌≡◌, ◌⊎◌, ℕ, zero, suc, ◌+◌, ◌<◌, ◌≤◌, ◌==◌, Bool, true, false, cond, List, [], ◌∷◌, ◌++◌, Option, Some, None, length, refl, sym, ap, ◌∙◌, subst, inl, inr, arith, append-nil, append_assoc, length-append}
-use Rattle.std.specs.Prelude.{count_by, slice_get}
+use Rattle.std.proofs.Common.{◌≡◌, ◌⊎◌, ℕ, suc, ◌+◌, ◌<◌, ◌≤◌, ◌==◌, Bool, true, false, cond, List, [], ◌∷◌, ◌++◌, Option, Some, None, length, refl, sym, ap, ◌∙◌, subst, inl, inr, arith, append-nil, append_assoc, length-append}
+use Rattle.std.specs.Prelude.{count_by}
 use Rattle.std.specs.List.{AllByRecursion}
 use Rattle.std.specs.Option.{option_map_or}
 use Rattle.std.proofs.lemmas.Bool.{false≢true}
@@ -50,22 +50,6 @@ are-append [] qs (r ∷ rs) ss ls ms first rest = absurd first
 are-append (o ∷ os) qs [] ss ls ms first rest = absurd first
 are-append (o ∷ os) qs (r ∷ rs) ss [] ms first rest = absurd first
 are-append (o ∷ os) qs (r ∷ rs) ss (l ∷ ls) ms first rest = (first.0, first.1, are-append os qs rs ss ls ms first.2 rest)
-
--- a line at a place is of the operation and the reply there
-pub line-at : (os : List Op) (rs : List Reply) (ls : List Line) → AreLinesOf os rs ls → (k : ℕ) (l : Line) → slice_get ls k ≡ Some l → (slice_get os k ≡ Some l.op) × (slice_get rs k ≡ Some l.reply)
-line-at [] [] [] are k l at = absurd (none-there k at)
-  where
-    none-there : (k : ℕ) → slice_get {X = Line} [] k ≡ Some l → ⊥
-    none-there k is = cc
-line-at [] [] (x ∷ ls) are k l at = absurd are
-line-at [] (r ∷ rs) ls are k l at = absurd are
-line-at (o ∷ os) [] ls are k l at = absurd are
-line-at (o ∷ os) (r ∷ rs) [] are k l at = absurd are
-line-at (o ∷ os) (r ∷ rs) (x ∷ ls) are zero l at = let is : x ≡ l = some-line x l at in ((λ i. Some ((sym are.0 ∙ ap (λ (y : Line). y.op) is) i)), (λ i. Some ((sym are.1 ∙ ap (λ (y : Line). y.reply) is) i)))
-  where
-    some-line : (a b : Line) → ◌≡◌ {A = Option Line} (Some a) (Some b) → a ≡ b
-    some-line a b is = cc
-line-at (o ∷ os) (r ∷ rs) (x ∷ ls) are (suc k) l at = line-at os rs ls are.2 k l at
 
 -- ---- one behind the other
 

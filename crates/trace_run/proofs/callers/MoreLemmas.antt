@@ -35,7 +35,7 @@ use Rattle.trace_run.specs.Restores.{events_by_feeder, restores_in}
 use Rattle.trace_run.specs.RunWork.{AllFit, FitsBy, IsSyncWork, RunWork, acts_of_syncs, kept_after_lines, lines_of_caller, lines_of_feeder, noted_of_syncs}
 use Rattle.trace_run.specs.callers.Beside.{FeedsBeside}
 use Rattle.trace_run.specs.callers.Group.{AllWorked, HasWorked}
-use Rattle.trace_run.specs.callers.Groups.{AreEndLines, ComesAt, DidLines, DidLinesAtOnce, HaveCome}
+use Rattle.trace_run.specs.callers.Groups.{AreEndLines, ComesAt, DidLines, DidLinesAtOnce, HaveCome, AreMakers}
 use Rattle.trace_run.specs.callers.InOrder.{AreInGroup}
 use Rattle.trace_run.specs.callers.Together.{AreCut, IsFirstPlace, ends_group}
 use Rattle.trace_run.specs.callers.WorkLines.{AnswersLines, HasFront, acts_of_work, noted_of_work, AreLinesOf}
@@ -47,6 +47,9 @@ use Rattle.trace_run.proofs.callers.LineLists.{AreInside, acts-lines, all-inside
 use Rattle.trace_run.proofs.callers.MeetLemmas.{starts-then}
 use Rattle.trace_run.proofs.feeds.FedLemmas.{HasFedMore, as-told, ends-beside, fed-again, fed-beside, group-acts, group-noted, ops-are, told-beside, told-then}
 use Rattle.trace_run.proofs.one_caller.TellLemmas.{all-append}
+use Rattle.trace_run.specs.MadeLines.{IsMaker}
+use Rattle.trace_run.proofs.callers.MakerLemmas.{maker-before}
+use Rattle.arc_table.specs.TableLaws.{within}
 
 -- ---- the work so far, and more
 
@@ -218,11 +221,19 @@ module _ {P D : Type 0} (cache : Cache) (restored : List Restored) (pools : Ghos
       let same : feeds_told (ops_of w.lines) (replies_of w.lines) ≡ length w.feeds = (λ i. feeds_told (are.0 i) (are.1 i)) ∙ as-told g os rs w.feeds before.did.fed in
       omega (arith, same)
 
-  cut-lines : (shard : ℕ) → shard < g.shards → AreCut g restored blocks shard after (seen_of g shard new.feeder)
-  cut-lines shard below k l at ends = elim (cases_lt k (length w.lines)) [
+  makers-old : (shard : ℕ) (owner : (place : ℕ) → ℕ) → AreMakers g shard owner new → AreMakers g shard owner old
+  makers-old shard owner makers = record {
+    callers = λ n p at.
+        let h = worked.each n (within old.parties.items n p at) in
+        subst (IsMaker g shard owner n) (some-injective h.from p (sym h.before.party_at ∙ at)) (maker-before g shard owner n h.from h.to h.worked.cells (makers.callers n h.to h.after.party_at));
+    feeder = maker-before g shard owner g.callers old.feeder new.feeder fed.same.keeps makers.feeder;
+  }
+
+  cut-lines : (shard : ℕ) → shard < g.shards → (owner : (place : ℕ) → ℕ) → AreMakers g shard owner new → AreCut g restored blocks shard owner after (seen_of g shard new.feeder)
+  cut-lines shard below owner makers k l at ends = elim (cases_lt k (length w.lines)) [
     | inl early ↦
-        cut-before g restored blocks shard w.lines ms w.feeds feeds (seen_of g shard new.feeder) feeds-few
-        (cuts-more g restored blocks shard w.lines w.feeds (seen_of g shard old.feeder) (seen_of g shard new.feeder) (fed.starts shard) (before.cut shard below)) k l at ends early
+        cut-before g restored blocks shard owner w.lines ms w.feeds feeds (seen_of g shard new.feeder) feeds-few
+        (cuts-more g restored blocks shard owner w.lines w.feeds (seen_of g shard old.feeder) (seen_of g shard new.feeder) (fed.starts shard) (before.cut shard below owner (makers-old shard owner makers))) k l at ends early
     | inr late ↦
         let there : k ≡ length w.lines + (k - length w.lines) = omega (arith, late) in
         absurd (false≢true (sym (inside-at ms inside-group (k - length w.lines) l (sym (get-right w.lines ms (k - length w.lines)) ∙ (ap (slice_get (w.lines ++ ms)) (sym there) ∙ at))) ∙ ends))

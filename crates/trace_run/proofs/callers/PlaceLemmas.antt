@@ -1,5 +1,5 @@
 -- The place of the first sync: behind the declared blocks whose keys are valid.
-use Rattle.std.proofs.Common.{◌≡◌, ◌⊎◌, ◌%◌, ◌+◌, ◌<◌, ◌≤◌, ℕ, suc, max, List, Option, Some, length, refl, sym, ap, ◌∙◌, subst, inl, inr, arith}
+use Rattle.std.proofs.Common.{◌≡◌, ◌⊎◌, ◌<◌, ◌≤◌, ℕ, suc, max, List, Option, Some, length, refl, sym, ap, ◌∙◌, subst, inl, inr, arith}
 use Rattle.std.specs.Prelude.{slice_get}
 use Rattle.std.proofs.lemmas.Bool.{cases_lt}
 use Rattle.std.proofs.lemmas.Option.{slice_get_within}
@@ -8,7 +8,6 @@ use Rattle.blk_ptr.specs.declared.key.KeyFault.{KeyFault}
 use Rattle.blk_ptr.specs.declared.key.KeyFault.TheVariants as fault
 use Rattle.blk_ptr.specs.declared.ptr.Ptr.{Ptr}
 use Rattle.blk_ptr.specs.Key.{IsFirstKeyFault, IsValid, key_end}
-use Rattle.blk_ptr.specs.Size.{sector}
 use Rattle.trace_run.specs.callers.Together.{IsFirstPlace}
 
 -- a key that fails one of the tests is not valid
@@ -17,27 +16,6 @@ fault-not-valid len key fault.Unaligned fails valid = fails valid.formed.aligned
 fault-not-valid len key fault.Size fails valid = fails.1 valid.formed.sized
 fault-not-valid len key (fault.OutOfPool end l) fails valid = let i = valid.inside in let o = fails.4 in omega arith
 fault-not-valid len key fault.BirthZero fails valid = let b = valid.formed.born in let z = fails.3 in omega arith
-
--- a valid key's end is at a sector's boundary
-valid-aligned : (len : ℕ) (key : Key) → IsValid len key → key_end key % sector ≡ 0
-valid-aligned len key valid = multiples key.offset key.size valid.formed.aligned valid.formed.sized.0
-  where
-    multiples : (x y : ℕ) → x % sector ≡ 0 → y % sector ≡ 0 → (x + y) % sector ≡ 0
-    multiples x y hx hy = omega arith
-
-pub place-aligned : (len : ℕ) (blocks : List Ptr) (place : ℕ) → IsFirstPlace len blocks place → place % sector ≡ 0
-place-aligned len blocks place first = go first.least
-  where
-    go : ((place ≡ 0) ⊎ ((k : ℕ) × (ptr : Ptr) × (slice_get blocks k ≡ Some ptr) × IsValid len ptr.key × (place ≡ key_end ptr.key))) → place % sector ≡ 0
-    go (inl none) = ap (λ (n : ℕ). n % sector) none
-    go (inr found) = ap (λ (n : ℕ). n % sector) found.4 ∙ valid-aligned len found.1.key found.3
-
-pub place-inside : (len : ℕ) (blocks : List Ptr) (place : ℕ) → IsFirstPlace len blocks place → place ≤ len
-place-inside len blocks place first = go first.least
-  where
-    go : ((place ≡ 0) ⊎ ((k : ℕ) × (ptr : Ptr) × (slice_get blocks k ≡ Some ptr) × IsValid len ptr.key × (place ≡ key_end ptr.key))) → place ≤ len
-    go (inl none) = omega (arith, none)
-    go (inr found) = let e = found.4 in let i = found.3.inside in omega arith
 
 -- ---- one block after another
 

@@ -491,7 +491,7 @@ module _ {P D : Type 0} (cache : Cache) (restored : List Restored) (pools : Ghos
       told = told_begun;
       told_front = begun-front;
       groups = λ several. subst (λ (gs : List GroupLines). WorkInGroups pools cache.config (Cells last.feeder) told_begun [] gs start (between_groups to was.group was.next)) (sym groups-are)
-          (in-groups-more pools cache.config (Cells last.feeder) told_begun [] (groups_of w.lines) alone-group start was (between_groups to was.group was.next) to (groups-behind last h.so.made.cells several) (once None) refl begun-these);
+          (in-groups-more pools cache.config (Cells last.feeder) told_begun [] (groups_of w.lines) alone-group start was (between_groups to was.group was.next) to (groups-behind last h.so.made.keeps.fronts several) (once None) refl begun-these);
       used = λ several. subst (λ (gs : List GroupLines). UsedInGroups devices trace.blocks callers gs done.feeds (lent_in begun) (lent_in b)) (sym groups-are) (used-lines several alone-group refl);
       fed = moved-so-far dbuf_meanings devices cache restored done.feeds begun b new.feeder last.feeder fed-lines
           (λ shard below. made-sees cache h.work h.more new last come-lines.feeder.number h.so.made shard [] (h.so.none shard below) tt);
@@ -499,8 +499,8 @@ module _ {P D : Type 0} (cache : Cache) (restored : List Restored) (pools : Ghos
           (parted-length cache h.so.made.lines new.parties.items last.parties.items h.so.made.parted ∙ come-lines.parties);
     };
     ended = h.ended;
-    last = λ t stopped shard below. subst (λ (tick : ℕ). IsCutLast cache.config restored trace.blocks shard tick (with_stop done h.work) (seen_of cache.config shard last.feeder)) (sym (h.ticks t stopped))
-        (stopped-cut pools devices cache restored (pools.size start.pool) (pools.told start.pool) start.next trace.blocks (os ++ qs) (rs ++ ss) done h.more new last come-lines refl h.tick h.work h.so shard below);
+    last = λ t stopped shard below owner makers. subst (λ (tick : ℕ). IsCutLast cache.config restored trace.blocks shard owner tick (with_stop done h.work) (seen_of cache.config shard last.feeder)) (sym (h.ticks t stopped))
+        (stopped-cut pools devices cache restored (pools.size start.pool) (pools.told start.pool) start.next trace.blocks (os ++ qs) (rs ++ ss) done h.more new last come-lines refl h.tick h.work h.so shard below owner makers);
   }
     where
       groups-are : groups_done ending (w.lines ++ ms) ≡ groups_of w.lines ++ alone-group ∷ []
@@ -561,7 +561,7 @@ module _ {P D : Type 0} (cache : Cache) (restored : List Restored) (pools : Ghos
         told = told_begun;
         told_front = begun-front;
         groups = λ several. subst (λ (gs : List GroupLines). WorkInGroups pools cache.config (Cells last.feeder) told_begun [] gs start fin) (sym groups-ended)
-            (in-groups-more pools cache.config (Cells last.feeder) told_begun [] (groups_of w.lines) ended-group start was fin to (groups-behind last turn.so.made.cells several) (once (Some l))
+            (in-groups-more pools cache.config (Cells last.feeder) told_begun [] (groups_of w.lines) ended-group start was fin to (groups-behind last turn.so.made.keeps.fronts several) (once (Some l))
             (subst (λ (ls : List Line). EndsGroup pools cache.config (Cells last.feeder) (ls ++ ms) (Some l) (between_groups to was.group was.next) fin) (sym (after-groups [] w.lines)) turn.ends) begun-these);
         used = λ several. subst (λ (gs : List GroupLines). UsedInGroups devices trace.blocks callers gs done.feeds (lent_in begun) (lent_in b)) (sym groups-ended) (used-lines several ended-group refl);
         fed = moved-so-far dbuf_meanings devices cache restored done.feeds begun b new.feeder last.feeder fed-lines

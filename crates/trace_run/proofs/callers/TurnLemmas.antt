@@ -22,7 +22,7 @@ use Rattle.arc_table.specs.Seen.{HasAll, HasSeenItsEntries, events_in, seen_of, 
 use Rattle.arc_table.specs.Telling.{opening_of}
 use Rattle.trace_run.specs.Deeds.{HasToldAll, HasToldOthers, KeepsCells, Noted}
 use Rattle.trace_run.proofs.deeds.DeedLemmas.{others-still, told-still}
-use Rattle.trace_run.proofs.deeds.MakesLemmas.{grown-same}
+use Rattle.trace_run.proofs.deeds.MakesLemmas.{grown-same, keeps-then, later-same}
 use Rattle.arc_table.proofs.OwnLemmas.{no-own-moments, own-append}
 use Rattle.trace_run.specs.declared.kept_blocks.KeptBlock.{KeptBlock}
 use Rattle.trace_run.specs.Acts.{acts_of_drops}
@@ -30,7 +30,7 @@ use Rattle.trace_run.specs.KeptBlocks.{AllQuiet, GivesAll, IsOwnedBy, Stands, ho
 use Rattle.trace_run.specs.KeptReads.{KeptRead}
 use Rattle.trace_run.specs.Meeting.{AreLast, GaveBackJoined, HasLearned, HaveParted, IsApart, IsFed, IsLevel, JoinAll, MayJoin, PartAll, SeesEntries, Waits}
 use Rattle.trace_run.specs.one_caller.OneCaller.{events_of_drops}
-use Rattle.trace_run.proofs.GiveLemmas.{all-alone, all-keep, all-leave, all-number, all-stand, all-told}
+use Rattle.trace_run.proofs.GiveLemmas.{all-alone, all-keep, all-leave, all-number, all-stand, all-told, all-keeps}
 use Rattle.trace_run.proofs.CellsLeft.{LeavesCells, leaves-grow}
 use Rattle.trace_run.proofs.callers.MeetLemmas.{HaveJoined, all-level, all-parted, are-last, have-joined, joined_of, left_alone, parted-then, parted_from, same-own-events, starts-events, starts-then}
 use Rattle.trace_run.proofs.one_caller.TellLemmas.{IsMine, all-append, mine-drops}
@@ -97,9 +97,6 @@ other-drops n k s front reads differs =
 module _ {C : Type 0} (m : Meanings C) (cache : Cache) (p : Place (Known C)) (kept : List KeptBlock) (others : List (Place (Known C))) (stands : Stands cache p kept) (alone : p.joined ≡ [])
     (apart : AllByRecursion (IsApart cache) others) (everyone : (n : ℕ) → n < parties_of cache.config → SomeHas n (p ∷ others)) (count : p.parties ≡ parties_of cache.config)
     (differ : AllByRecursion (λ o. o.number ≢ p.number) others) (q : Place (Known C)) (joins : JoinAll m others p q) where
-  abbrev g : Config
-  g = cache.config
-
   pub joined : HaveJoined m cache p others q
   joined = have-joined m cache p (may-join cache kept p stands alone) others q (all-may cache others apart) joins
 
@@ -188,11 +185,9 @@ module _ {C : Type 0} (m : Meanings C) (cache : Cache) (p : Place (Known C)) (ke
     last-stands = left-stands cache [] r after
 
     last-cells : KeepsCells gk p last
-    last-cells = record {
-      about = about;
-      fronts = λ i in_range. subst (λ (x : List Line). StartsWith x (front_of i p.own.seen)) (sym (left.fronts i in_range)) (have.self.cells i in_range);
-      shards = λ shard. starts-then (lines shard) (front_of (turn_of gk shard) q.own.seen) (front_of (turn_of gk shard) p.own.seen) (more shard) (have.self.starts shard);
-    }
+    last-cells =
+        let then = keeps-then gk p q r record { about = have.about; fronts = have.self.cells; shards = have.self.starts; older = later-same gk p q have.mine } (all-keeps m cache kept q r q-stands gives) in
+        record { about = then.about; fronts = then.fronts; shards = then.shards; older = then.older }
 
     -- the feeder's, which kept nothing
     last-fed : (openings : List (List ℕ)) (fed since : (shard : ℕ) → List Event) (acts : List Act) (noted : List Noted) → kept ≡ [] → IsFed cache openings fed since acts noted p → IsFed cache openings fed since acts noted last

@@ -18,7 +18,7 @@ use Rattle.trace_run.specs.Deeds.{KeepsCells, Noted}
 use Rattle.trace_run.specs.Meeting.{AllGave, AllKeepCells, AreWaiting, FirstGaveBack, FirstMayGoOn, GaveBackJoined, HasParted, HaveGivenBack, HaveParted, IsApart, IsFed, IsLevel, MayGoOn, SeesEntries, Waits, drops_from}
 use Rattle.trace_run.specs.one_caller.OneCaller.{events_of_drops}
 use Rattle.trace_run.proofs.callers.AfterEnds.{last-same}
-use Rattle.trace_run.proofs.callers.MeetLemmas.{parted-fed, parted-waits}
+use Rattle.trace_run.proofs.callers.MeetLemmas.{parted-fed, parted-level, parted-waits}
 use Rattle.trace_run.proofs.deeds.MakesLemmas.{keeps-then}
 
 -- ---- the first of the parties
@@ -42,10 +42,6 @@ module _ {X : Type 0} (P : X → Type 0) where
   all-append : (xs ys : List X) → AllByRecursion P xs → AllByRecursion P ys → AllByRecursion P (xs ++ ys)
   all-append [] ys a b = b
   all-append (x ∷ xs) ys a b = (a.0, all-append xs ys a.1 b)
-
-  all-split : (xs ys : List X) → AllByRecursion P (xs ++ ys) → AllByRecursion P xs × AllByRecursion P ys
-  all-split [] ys all = (tt, all)
-  all-split (x ∷ xs) ys all = let h = all-split xs ys all.1 in ((all.0, h.0), h.1)
 
 module _ {C : Type 0} where
   has-left : (n : ℕ) (xs ys : List (Place (Known C))) → SomeHas n xs → SomeHas n (xs ++ ys)
@@ -168,12 +164,6 @@ module _ {C : Type 0} (cache : Cache) (acts : ℕ → List Act) (noted : ℕ →
 
   -- ---- parties that parted are in their order
 
-  parted-level : (lines : ℕ → List Line) (os xs : List (Place (Known C))) → HaveParted cache lines os xs → AllByRecursion (IsLevel cache.config lines) xs
-  parted-level lines [] [] parted = tt
-  parted-level lines [] (x ∷ xs) parted = absurd parted
-  parted-level lines (o ∷ os) [] parted = absurd parted
-  parted-level lines (o ∷ os) (x ∷ xs) parted = (parted.0.level, parted-level lines os xs parted.1)
-
   parted-waiting : (lines : ℕ → List Line) (n : ℕ) (ks : List (List KeptBlock)) (os xs : List (Place (Known C))) → HaveParted cache lines os xs → AreWaiting cache acts noted n ks os → AreWaiting cache acts noted n ks xs
   parted-waiting lines n [] [] [] parted waits = tt
   parted-waiting lines n ks [] (x ∷ xs) parted waits = absurd parted
@@ -291,7 +281,7 @@ module _ {C : Type 0} (cache : Cache) (acts : ℕ → List Act) (noted : ℕ →
       keeps = record { went = []; behind = olds; were = refl; behind_cells = parted-cells b.lines olds b.rest b.parted (waiting-apart 0 all olds waits); gone_cells = tt; fed_cells = b.cells };
       first = λ shard. events_in (b.lines shard);
       lines = b.lines;
-      level = subst (AllByRecursion (IsLevel cache.config b.lines)) (sym b.are) (all-append (IsLevel cache.config b.lines) b.rest (b.last ∷ []) (parted-level b.lines olds b.rest b.parted) (b.level, tt));
+      level = subst (AllByRecursion (IsLevel cache.config b.lines)) (sym b.are) (all-append (IsLevel cache.config b.lines) b.rest (b.last ∷ []) (parted-level cache b.lines olds b.rest b.parted) (b.level, tt));
       drops = λ shard. sym (append-nil (events_in (b.lines shard)));
       same = λ before own rest shard. b.drops before own rest shard ∙ append-nil (events_in (before shard));
       same_cells = b.same_cells;
@@ -349,7 +339,7 @@ module _ {C : Type 0} (cache : Cache) (acts : ℕ → List Act) (noted : ℕ →
                 (h.5.same [] fed.stands).keeps keeps;
             first = first;
             lines = b.lines;
-            level = subst (AllByRecursion (IsLevel cache.config b.lines)) (sym b.are) (all-append (IsLevel cache.config b.lines) b.rest (b.last ∷ []) (parted-level b.lines (waiting ++ feeder ∷ done) b.rest b.parted) (b.level, tt));
+            level = subst (AllByRecursion (IsLevel cache.config b.lines)) (sym b.are) (all-append (IsLevel cache.config b.lines) b.rest (b.last ∷ []) (parted-level cache b.lines (waiting ++ feeder ∷ done) b.rest b.parted) (b.level, tt));
             drops = λ shard.
                 let mine : List Event = events_of_drops number (holds_in cache.config shard (map read_of k)) in
                 b.drops lines own_level level shard

@@ -83,7 +83,7 @@ module _ (g : Config) (es : List Event) (p q : PartyPlace) (none : es ≡ []) (d
     cells = λ shard c other. ap (with_number c) (in-more g shard (events_there g shard es) p q (d.made shard)
         ∙ (ap (λ (l : List Event). made_in g shard p ++ events_there g shard l) none ∙ append-nil (made_in g shard p)));
     entries = λ i in_range. d.entries i in_range ∙ append-nil (made_of i p);
-    keeps = record { about = d.about; fronts = d.cells; shards = d.starts };
+    keeps = record { about = d.about; fronts = d.cells; shards = d.starts; older = d.older };
   }
 
   seen-same : HasAll p → (shard : ℕ) → seen_of g shard q ≡ seen_of g shard p

@@ -1,5 +1,5 @@
 -- How a party found a cell in a turn of it, as seen from before that turn and from behind it.
-use Rattle.std.proofs.Common.{◌≡◌, ◌⊎◌, ℕ, ◌<◌, List, [], ◌++◌, map, refl, sym, ap, ◌∙◌, subst, append-nil}
+use Rattle.std.proofs.Common.{◌≡◌, ◌⊎◌, ℕ, ◌<◌, List, [], ◌++◌, map, sym, ap, ◌∙◌, subst, append-nil}
 use Rattle.std.specs.Prelude.{slice_index_or}
 use Rattle.arc_core.specs.Config.{IsConfig}
 use Rattle.arc_core.specs.declared.config.Config.{Config}
@@ -44,9 +44,6 @@ pub record LeavesSeen (g : Config) (p q : PartyPlace) : Type 0 where
   pub entries : (i : ℕ) → IsCell g i → made_of i q ≡ made_of i p
 
 module _ (g : Config) where
-  pub seen-none : (p : PartyPlace) → LeavesSeen g p p
-  seen-none p = record { number = refl; joined = refl; about = refl; all = λ all. all; cells = λ i in_range. starts_whole (front_of i p.own.seen); alone = λ all i in_range. refl; entries = λ i in_range. refl }
-
   pub seen-then : (p q r : PartyPlace) → LeavesSeen g p q → LeavesSeen g q r → LeavesSeen g p r
   seen-then p q r a b = record {
     number = b.number ∙ a.number;

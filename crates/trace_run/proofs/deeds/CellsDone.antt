@@ -1,5 +1,5 @@
 -- What a turn of a cell of dbufs, or several, come to for their party: what it made of each history, what it has seen, and what it lists.
-use Rattle.std.proofs.Common.{◌≡◌, ◌≢◌, ◌⊎◌, ℕ, zero, suc, ◌<◌, ◌==◌, true, false, List, [], ◌∷◌, ◌++◌, map, Option, Some, refl, sym, ap, ◌∙◌, subst, inl, inr, arith, append-nil, append_assoc, eq-eqb, ne_eqb}
+use Rattle.std.proofs.Common.{◌≡◌, ◌≢◌, ◌⊎◌, ℕ, zero, suc, ◌<◌, ◌==◌, true, false, List, [], ◌∷◌, ◌++◌, map, Option, Some, refl, sym, ap, ◌∙◌, subst, inl, inr, arith, append-nil, append_assoc, eq-eqb, ne_eqb, length}
 use Rattle.std.proofs.lemmas.List.{map-append}
 use mathlib.Core.Logic.{dite}
 use native.Mathlib.Decide.{ℕ_discrete}
@@ -32,11 +32,13 @@ use Rattle.dbuf_state.specs.Numbers.{event_numbers}
 use Rattle.dbuf_state.specs.declared.event.CellEvent.{CellEvent}
 use Rattle.dbuf_state.specs.declared.oid.Oid.{Oid}
 use Rattle.trace_run.specs.DbufTurns.{CellsDone, held_through}
-use Rattle.trace_run.specs.Deeds.{Noted, events_of_cell, events_there, lines_of_cell, noted_in}
-use Rattle.trace_run.specs.MadeLines.{made_of}
+use Rattle.trace_run.specs.Deeds.{Noted, events_of_cell, events_there, lines_of_cell, noted_in, MakesLater}
+use Rattle.trace_run.specs.MadeLines.{made_of, is_listed}
 use Rattle.trace_run.proofs.CellsLeft.{leaves-seen}
 use Rattle.trace_run.proofs.deeds.MadeCells.{given-made, given-made-else, took-made, took-made-else}
 use Rattle.trace_run.proofs.deeds.TurnMakes.{AreTurnEvents, TurnMakes, all-made, held-append, own-there, starts-on, there-append}
+use Rattle.trace_run.proofs.deeds.MakesLemmas.{later-same, later-then}
+use Rattle.trace_run.proofs.deeds.MadeLemmas.{listed-back}
 
 pub noted-here : (i : ℕ) (news : List CellEvent) → events_of_cell i (noted_in i news) ≡ news
 noted-here i [] = refl
@@ -73,6 +75,7 @@ module _ (g : Config) where
     made = λ shard. sym (append-nil (made_of (turn_of g shard) p));
     own = λ shard. ([], sym (append-nil (own_moments p.number (moments (opening_of g) (seen_of g shard p)))), refl);
     starts = λ i. starts_whole (front_of (turn_of g i) p.own.seen);
+    older = later-same g p p refl;
     entries = λ i in_range. sym (append-nil (made_of i p));
     cells = λ i in_range. starts_whole (front_of i p.own.seen);
     cells_alone = λ all i in_range. sym (append-nil (front_of i p.own.seen));
@@ -102,6 +105,7 @@ module _ (g : Config) where
           map-append (λ (z : Moment). z.event) u.0 v.0 ∙ ((λ i. u.2 i ++ v.2 i) ∙ sym (own-there g p.number shard es fs)),
         );
     starts = λ i. starts-on g (front_of (turn_of g i) r.own.seen) (front_of (turn_of g i) q.own.seen) (front_of (turn_of g i) p.own.seen) (y.starts i) (x.starts i);
+    older = later-then g p q r x.starts x.older y.older;
     entries = λ i in_range. y.entries i in_range ∙ (ap (λ (l : List Line). l ++ lines_of_cell i b) (x.entries i in_range)
         ∙ (append_assoc (made_of i p) (lines_of_cell i a) (lines_of_cell i b) ∙ ap (λ (l : List Line). made_of i p ++ l) (sym (lines-append i a b))));
     cells = λ i in_range. starts-on g (front_of i r.own.seen) (front_of i q.own.seen) (front_of i p.own.seen) (y.cells i in_range) (x.cells i in_range);
@@ -217,6 +221,12 @@ module _ (g : Config) (valid : IsConfig g) (i : ℕ) (in_range : IsCell g i) (be
   had-alone : HasAll p → had ≡ front_of i p.own.seen
   had-alone all = at-take.1.whole ∙ (ap (λ (r : List (List ℕ)). front_of i p.own.seen ++ map line.Entry r) (at-take.1.alone all) ∙ append-nil (front_of i p.own.seen))
 
+  -- the entries of the cell are of no shard
+  turn-later : MakesLater g p back
+  turn-later k place below =
+      listed-back (turn_of g k) place i _ _ t.worked.own.mine (no-shard k)
+      ∙ (makes.older k place (subst (λ (l : List Line). place < length l) (sym (took-shard k)) below) ∙ ap (is_listed (turn_of g k) place) took.mine)
+
   pub turn-done : CellsDone g (noted_in i news) es p q
   turn-done = subst (CellsDone g (noted_in i news) es p) (sym t.gave) record {
     parties = makes.left.stays.parties ∙ took.parties;
@@ -240,6 +250,7 @@ module _ (g : Config) (valid : IsConfig g) (i : ℕ) (in_range : IsCell g i) (be
           u.2,
         );
     starts = λ k. subst (λ (x : List Line × List Line). StartsWith x.0 x.1) (λ z. (sym (back-shard k) z, took-shard k z)) (makes.starts k);
+    older = turn-later;
     entries = λ j range. dite (ℕ_discrete j i)
         (λ is. subst (λ (x : ℕ). made_of x back ≡ made_of x p ++ lines_of_cell x (noted_in i news)) (sym is)
         (given-made dbuf_meanings g i t.after t.worked in_range t.given worked-front worked-entries

@@ -1,5 +1,5 @@
 -- How what a party did is told, once it did more.
-use Rattle.std.proofs.Common.{◌≡◌, ◌≢◌, ◌⊎◌, ℕ, ◌==◌, ◌&&◌, true, false, if◌then◌else◌, List, [], ◌∷◌, ◌++◌, map, refl, sym, ap, ◌∙◌, subst, inl, inr, append-nil, append_assoc, ne_eqb}
+use Rattle.std.proofs.Common.{◌≡◌, ◌≢◌, ◌⊎◌, ℕ, ◌==◌, true, false, List, [], ◌∷◌, ◌++◌, refl, sym, ap, ◌∙◌, subst, inl, inr, append-nil, append_assoc, ne_eqb}
 use Rattle.std.specs.List.{AllByRecursion}
 use Rattle.std.specs.Option.{option_map_or}
 use Rattle.std.proofs.lemmas.Bool.{eqb-true}
@@ -10,17 +10,11 @@ use Rattle.blk_ptr.specs.declared.key.Key.{Key}
 use Rattle.arc_core.specs.declared.config.Config.{Config}
 use Rattle.arc_core.specs.declared.event.Event.{Event}
 use Rattle.arc_core.specs.declared.event.Event.TheVariants.{Drop, Hand, Release}
-use Rattle.arc_core.specs.Operations.{Act, GivesBack, MakesPrivate, act_key, actor_of, acts_in, event_key, number_of}
+use Rattle.arc_core.specs.Operations.{Act, GivesBack, MakesPrivate, actor_of, acts_in, event_key, number_of}
 use Rattle.turn_table.specs.Places.{Place}
 use Rattle.arc_table.specs.declared.view.Known.{Known}
-use Rattle.arc_table.specs.declared.view.Line.TheVariants as line
-use Rattle.arc_table.specs.Geometry.{IsCell}
-use Rattle.arc_table.specs.Seen.{turn_of}
 use Rattle.arc_table.specs.Told.{IsTold}
-use Rattle.trace_run.specs.Deeds.{HasAct, HasToldAll, HasToldOthers, Noted, SameMade, act_of_event, acts_of_events, events_there, lines_of_cell, with_number}
-use Rattle.trace_run.specs.MadeLines.{made_in, made_of}
-use Rattle.trace_run.proofs.deeds.CellsDone.{lines-append}
-use Rattle.trace_run.proofs.deeds.MakesLemmas.{in-more}
+use Rattle.trace_run.specs.Deeds.{HasAct, HasToldAll, HasToldOthers, Noted, SameMade, act_of_event, acts_of_events, events_there, with_number}
 use Rattle.trace_run.proofs.deeds.TurnMakes.{AreTurnEvents, IsTurnEvent, there-append}
 
 -- ---- acts
@@ -41,13 +35,6 @@ acts-of-none f shard n c [] all differs = refl
 acts-of-none f shard n c (act ∷ acts) all differs =
     let other : (actor_of act == c) ≡ false = ne_eqb (actor_of act) c (λ same. differs (sym all.0 ∙ same)) in
     rw other (acts-of-none f shard n c acts all.1 differs)
-
--- an act with its number and the shard of its key
-one-act : (f : Key → ℕ) (shard c : ℕ) (act : Act) → acts_in f shard c (act ∷ []) ≡ (if (actor_of act == c && f (act_key act) == shard) then (act ∷ []) else [])
-one-act f shard c act = elim (cases_true (actor_of act == c && f (act_key act) == shard)) [
-  | inl here ↦ rw here refl
-  | inr other ↦ rw other refl
-]
 
 -- ---- what a turn's events stand for, under a cell's number
 
@@ -146,24 +133,4 @@ module _ {C : Type 0} (g : Config) where
     cells = λ shard c other. let differs : c ≢ p.number = λ is. other (is ∙ sym same.number) in h.cells shard c differs ∙ ap acts_of_events (sym (same.cells shard c differs));
     kinds = λ shard c other. let differs : c ≢ p.number = λ is. other (is ∙ sym same.number) in subst (AllByRecursion HasAct) (sym (same.cells shard c differs)) (h.kinds shard c differs);
     entries = λ i in_range. same.entries i in_range ∙ h.entries i in_range;
-  }
-
-  -- a turn's events under a cell's number, and what was done to cells
-  pub told-turn : (did : List Act) (had more : List Noted) (es : List Event) (d : ℕ) (p q : Place (Known C)) → q.number ≡ p.number → AreTurnEvents p.number d es → IsTold g (did ++ acts_of_events es) q
-      → ((shard : ℕ) → made_of (turn_of g shard) q ≡ made_of (turn_of g shard) p ++ map line.Event (events_there g shard es)) → ((i : ℕ) → IsCell g i → made_of i q ≡ made_of i p ++ lines_of_cell i more)
-      → HasToldAll g did had p → HasToldAll g (did ++ acts_of_events es) (had ++ more) q
-  told-turn did had more es d p q number kinds told made entries before = record {
-    acts = told;
-    cells = λ shard c other.
-        let differs : c ≢ p.number = λ is. other (is ∙ sym number) in
-        acts-append (shard_of g.shards) shard c did (acts_of_events es)
-        ∙ ((λ i. before.cells shard c differs i ++ turn-acts g p.number d shard c es kinds differs i)
-        ∙ (sym (events-acts (with_number c (made_in g shard p)) (with_number c (events_there g shard es)))
-        ∙ ap acts_of_events (sym (ap (with_number c) (in-more g shard (events_there g shard es) p q (made shard)) ∙ filter-append _ (made_in g shard p) (events_there g shard es)))));
-    kinds = λ shard c other.
-        let differs : c ≢ p.number = λ is. other (is ∙ sym number) in
-        subst (AllByRecursion HasAct)
-        (sym (ap (with_number c) (in-more g shard (events_there g shard es) p q (made shard)) ∙ filter-append _ (made_in g shard p) (events_there g shard es)))
-        (all-both HasAct (with_number c (made_in g shard p)) (with_number c (events_there g shard es)) (before.kinds shard c differs) (turn-kinds g p.number d shard c es kinds differs));
-    entries = λ i in_range. entries i in_range ∙ ((λ k. before.entries i in_range k ++ lines_of_cell i more) ∙ sym (lines-append i had more));
   }

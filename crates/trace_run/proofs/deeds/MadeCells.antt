@@ -97,7 +97,7 @@ module _ {C : Type 0} (m : Meanings C) (g : Config) (i : ℕ) (d : C) (p : Place
 -- ---- in the end
 
 -- where just the lines of n are listed
-listed-owned : (owner : ℕ → ℕ) (turn n place : ℕ) (mines : List Mine) (ls : List Line) → ((y : ℕ) → y < length ls → is_listed turn (place + y) mines ≡ (owner (place + y) == n)) → made_from turn place mines ls ≡ owned_from owner n place ls
+pub listed-owned : (owner : ℕ → ℕ) (turn n place : ℕ) (mines : List Mine) (ls : List Line) → ((y : ℕ) → y < length ls → is_listed turn (place + y) mines ≡ (owner (place + y) == n)) → made_from turn place mines ls ≡ owned_from owner n place ls
 listed-owned owner turn n place mines [] same = refl
 listed-owned owner turn n place mines (l ∷ ls) same =
     let z : place + 0 ≡ place = omega arith in
@@ -119,7 +119,7 @@ module _ {C : Type 0} (m : Meanings C) (scene : Scene C) (logged : Logged m scen
   abbrev lines : List Line
   lines = lines_in m (scene.now t)
 
-  listed-is : (y : ℕ) → y < length lines → is_listed t (0 + y) w.mine ≡ (scene.owner t (0 + y) == n)
+  pub listed-is : (y : ℕ) → y < length lines → is_listed t (0 + y) w.mine ≡ (scene.owner t (0 + y) == n)
   listed-is y inside = dite (ℕ_discrete (scene.owner t (0 + y)) n)
       (λ is.
       let h = logged.places t (0 + y) (omega (arith, inside)) in

@@ -8,6 +8,7 @@ use Rattle.arc_lists.proofs.Tables.{cases_true}
 use Rattle.arc_table.specs.declared.view.Line.{Line}
 use Rattle.arc_table.specs.declared.view.Mine.{Mine}
 use Rattle.arc_table.specs.Fronts.{StartsWith}
+use Rattle.arc_table.specs.Views.{mines_from}
 use Rattle.arc_table.proofs.TableLaws.{there}
 use Rattle.trace_run.specs.MadeLines.{is_at, is_listed, made_from}
 
@@ -41,7 +42,7 @@ listed-none turn place mines never = elim (cases_true (is_listed turn place mine
   | inr none ↦ none
 ]
 
-listed-both : (turn place : ℕ) (xs ys : List Mine) → is_listed turn place ys ≡ false → is_listed turn place (xs ++ ys) ≡ is_listed turn place xs
+pub listed-both : (turn place : ℕ) (xs ys : List Mine) → is_listed turn place ys ≡ false → is_listed turn place (xs ++ ys) ≡ is_listed turn place xs
 listed-both turn place [] ys none = none
 listed-both turn place (x ∷ xs) ys none = elim (cases_true (is_at turn place x)) [
   | inl here ↦ rw here refl
@@ -54,6 +55,17 @@ listed-later turn place (x ∷ xs) ys some_listed = elim (cases_true (is_at turn
   | inl here ↦ rw here refl
   | inr other ↦ rw other (listed-later turn place xs ys some_listed)
 ]
+
+-- the lines of a cell that was given back
+pub mines-turn : (turn place count y : ℕ) (a : Mine) → get_elem? (mines_from turn place count) y ≡ some a → a.turn ≡ turn
+mines-turn turn place zero y a at = absurd (some-ne-none a (sym at))
+mines-turn turn place (suc count) zero a at = ap (λ (x : Mine). x.turn) (sym (some-injective _ a at))
+mines-turn turn place (suc count) (suc y) a at = mines-turn turn (suc place) count y a at
+
+-- they are of no other turn
+pub listed-back : (turn place i from count : ℕ) (mines : List Mine) → turn ≢ i → is_listed turn place (mines ++ mines_from i from count) ≡ is_listed turn place mines
+listed-back turn place i from count mines differs =
+    listed-both turn place mines (mines_from i from count) (listed-none turn place (mines_from i from count) (λ y a at t p. differs (sym t ∙ mines-turn i from count y a at)))
 
 -- ---- the lines
 

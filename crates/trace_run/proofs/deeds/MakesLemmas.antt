@@ -1,5 +1,5 @@
 -- What a call adds to what its party made of each history.
-use Rattle.std.proofs.Common.{◌≡◌, ◌≢◌, ℕ, suc, ◌+◌, ◌==◌, false, List, [], ◌∷◌, ◌++◌, length, map, length-append, append-nil, append_assoc, refl, sym, ap, ◌∙◌, subst, arith, ne_eqb}
+use Rattle.std.proofs.Common.{◌≡◌, ◌≢◌, ℕ, suc, ◌+◌, ◌<◌, ◌≤◌, ◌==◌, false, List, [], ◌∷◌, ◌++◌, length, map, length-append, append-nil, append_assoc, refl, sym, ap, ◌∙◌, subst, arith, ne_eqb}
 use Rattle.std.specs.List.{AllByRecursion}
 use Rattle.std.proofs.lemmas.List.Elements.{filter-append}
 use mathlib.Core.Logic.{dite}
@@ -32,11 +32,11 @@ use Rattle.arc_table.proofs.OwnLemmas.{grows}
 use Rattle.arc_table.proofs.PassMines.{mines_of_are}
 use Rattle.arc_table.proofs.scans.RoomyAfter.{does_roomy_mine}
 use Rattle.arc_table.proofs.SeenLemmas.{events-append, events-map}
-use Rattle.trace_run.specs.Deeds.{CellsGrow, KeepsCells, SameMade, with_number}
-use Rattle.trace_run.specs.MadeLines.{made_from, made_in, made_of}
+use Rattle.trace_run.specs.Deeds.{CellsGrow, KeepsCells, MakesLater, SameMade, with_number}
+use Rattle.trace_run.specs.MadeLines.{is_listed, made_from, made_in, made_of}
 use Rattle.trace_run.specs.Making.{HasSeenItsEvents}
 use Rattle.trace_run.proofs.CellsLeft.{LeavesCells, leaves-grow}
-use Rattle.trace_run.proofs.deeds.MadeLemmas.{AreBelow, made-else, made-grown, made-more}
+use Rattle.trace_run.proofs.deeds.MadeLemmas.{AreBelow, listed-both, listed-none, made-else, made-grown, made-more}
 
 -- lines that are seen stand in what was seen
 pub seen-below : {May : (n number : ℕ) → Type 0} (g : Config) (n : ℕ) (mines : List Mine) (seen : List (List Line)) (shard : ℕ) → AreSeenBy May g n mines seen → AreBelow (turn_of g shard) (length (front_of (turn_of g shard) seen)) mines
@@ -45,6 +45,31 @@ seen-below g n mines seen shard own j a at is = let h = own shard j a at is in w
 pub entries-below : (g : Config) (n : ℕ) (mines : List Mine) (seen : List (List Line)) (i : ℕ) → IsCell g i → AreEntriesSeen g n mines seen → AreBelow i (length (front_of i seen)) mines
 entries-below g n mines seen i in_range own j a at is = let h = own i j a in_range at is in within (front_of i seen) a.place (line.Entry (n ∷ h.rest)) h.there
 
+-- ---- what a party makes later
+
+pub starts-long : {A : Type 0} (more front : List A) → StartsWith more front → length front ≤ length more
+starts-long more front starts = omega (arith, ap length starts.1, length-append front starts.0)
+
+module _ {C : Type 0} (g : Config) where
+  pub later-same : (p q : Place (Known C)) → q.own.mine ≡ p.own.mine → MakesLater g p q
+  later-same p q same shard place below = ap (is_listed (turn_of g shard) place) same
+
+  pub later-then : (p q r : Place (Known C)) → ((shard : ℕ) → StartsWith (front_of (turn_of g shard) q.own.seen) (front_of (turn_of g shard) p.own.seen)) → MakesLater g p q → MakesLater g q r → MakesLater g p r
+  later-then p q r starts a b shard place below =
+      let long = starts-long (front_of (turn_of g shard) q.own.seen) (front_of (turn_of g shard) p.own.seen) (starts shard) in
+      b shard place (omega (arith, below, long)) ∙ a shard place below
+
+  -- events of a shard stand behind all that was there
+  pub made-later : {May : (n number : ℕ) → Type 0} (shard : ℕ) (before : ShardLog) (es : List Event) (p q : Place (Known C)) → MadeBy May g shard before es p q → MakesLater g p q
+  made-later shard before es p q made j place below =
+      ap (is_listed (turn_of g j) place) made.mine
+      ∙ listed-both (turn_of g j) place p.own.mine made.news (listed-none (turn_of g j) place made.news (λ y a at t is.
+      let h = made.each y a at in
+      let here : place < length (front_of (turn_of g shard) p.own.seen) = subst (λ (turn : ℕ). place < length (front_of turn p.own.seen)) (sym t ∙ h.0) below in
+      let long = starts-long (map line.Event before.history) (front_of (turn_of g shard) p.own.seen) made.found.starts in
+      let there = h.1 in
+      omega (arith, here, long, length-map before.history line.Event, there, is)))
+
 module _ {C : Type 0} (g : Config) where
   -- Of this shard the party made these events more, and of no other and of no cell anything.
   pub record MakesMore (shard : ℕ) (es : List Event) (p q : Place (Known C)) : Type 0 where
@@ -52,6 +77,7 @@ module _ {C : Type 0} (g : Config) where
     pub others : (j : ℕ) → j ≢ shard → made_of (turn_of g j) q ≡ made_of (turn_of g j) p
     pub cells : (i : ℕ) → IsCell g i → made_of i q ≡ made_of i p
     pub starts : (j : ℕ) → StartsWith (front_of (turn_of g j) q.own.seen) (front_of (turn_of g j) p.own.seen)
+    pub older : MakesLater g p q
 
   module _ {May : (n number : ℕ) → Type 0} (shard : ℕ) (before : ShardLog) (es : List Event) (p q : Place (Known C)) (made : MadeBy May g shard before es p q) (long : length made.news ≡ length es)
       (own : AreSeenBy May g p.number p.own.mine p.own.seen) (fronts : (i : ℕ) → IsCell g i → front_of i q.own.seen ≡ front_of i p.own.seen) where
@@ -71,6 +97,7 @@ module _ {C : Type 0} (g : Config) where
           (λ k. made_from i 0 (made.mine k) (fronts i in_range k))
           ∙ made-else i (turn_of g shard) p.own.mine made.news (front_of i p.own.seen) (λ e. let b = in_range in omega (arith, e, b)) (λ y a at. (made.each y a at).0);
       starts = grows g shard before es p q made;
+      older = made-later g shard before es p q made;
     }
 
 same-length : {A : Type 0} (mines xs ys whole : List A) → whole ≡ mines ++ xs → whole ≡ mines ++ ys → length xs ≡ length ys
@@ -117,11 +144,11 @@ module _ {C : Type 0} (g : Config) where
         ∙ (ap (λ (l : List Event). with_number c (made_in g shard p) ++ l) (none-numbered p.number c es mine (λ same. other (sym same))) ∙ append-nil (with_number c (made_in g shard p))))))
         (λ differs. ap (λ (l : List Line). with_number c (events_in l)) (more.others j differs));
     entries = more.cells;
-    keeps = record { about = left.stays.about; fronts = leaves-grow g p q left; shards = more.starts };
+    keeps = record { about = left.stays.about; fronts = leaves-grow g p q left; shards = more.starts; older = more.older };
   }
 
   pub keeps-none : (p : Place (Known C)) → KeepsCells g p p
-  keeps-none p = record { about = refl; fronts = λ i in_range. starts_whole (front_of i p.own.seen); shards = λ shard. starts_whole (front_of (turn_of g shard) p.own.seen) }
+  keeps-none p = record { about = refl; fronts = λ i in_range. starts_whole (front_of i p.own.seen); shards = λ shard. starts_whole (front_of (turn_of g shard) p.own.seen); older = later-same g p p refl }
 
   pub keeps-then : (p q r : Place (Known C)) → KeepsCells g p q → KeepsCells g q r → KeepsCells g p r
   keeps-then p q r a b = record {
@@ -134,6 +161,7 @@ module _ {C : Type 0} (g : Config) where
         let x = a.shards shard in
         let y = b.shards shard in
         (x.0 ++ y.0, y.1 ∙ (ap (λ (l : List Line). l ++ y.0) x.1 ∙ append_assoc (front_of (turn_of g shard) p.own.seen) x.0 y.0));
+    older = later-then g p q r a.shards a.older b.older;
   }
 
   pub same-none : (p : Place (Known C)) → SameMade g p p
@@ -152,7 +180,7 @@ module _ {C : Type 0} (g : Config) where
       → CellsGrow g p.own.seen q.own.seen → HasSeenItsEvents g p → HasSeenItsEntries g p → SameMade g p q
   grown-same p q number about mine starts grow events entries = record {
     number = number;
-    keeps = record { about = about; fronts = grow; shards = starts };
+    keeps = record { about = about; fronts = grow; shards = starts; older = later-same g p q mine };
     cells = λ shard c other. ap (λ (l : List Line). with_number c (events_in l))
         ((λ k. made_from (turn_of g shard) 0 (mine k) (front_of (turn_of g shard) q.own.seen))
         ∙ made-grown (turn_of g shard) p.own.mine (front_of (turn_of g shard) p.own.seen) (front_of (turn_of g shard) q.own.seen) (starts shard) (seen-below g p.number p.own.mine p.own.seen shard events.own));

@@ -34,10 +34,6 @@ pub evictions-kinds : (m n c : ℕ) (o : Outline) (evs : List CellEvent) (es : L
 evictions-kinds m n c o [] es none = subst (AreTurnEvents n c) (sym none) tt
 evictions-kinds m n c o (e ∷ evs) es a = subst (AreTurnEvents n c) (sym a.6) (all-both (IsTurnEvent n c) a.2 a.3 (at-most-kinds n c a.1.key a.2 a.7) (evictions-kinds m n c (after o e) evs a.3 a.8))
 
-pub release-kinds : (n c : ℕ) (at : Oid) (o : Outline) (es : List Event) → ReleasesAtMost c at o es → AreTurnEvents n c es
-release-kinds n c at o es (no_hold none) = subst (AreTurnEvents n c) (sym none) tt
-release-kinds n c at o es (one_hold ptr sole there cached is) = subst (AreTurnEvents n c) (sym is) (inr (inr (ptr.key, sole, refl)), tt)
-
 -- events with the cell's number leave what a party holds
 pub held-same : (n c : ℕ) (es : List Event) (hs : List Ptr) → AllByRecursion (λ e. ((k : Key) × (e ≡ Drop c k)) ⊎ ((k : Key) × (sole : Bool) × (e ≡ Release c k sole))) es → held_through n es hs ≡ hs
 held-same n c [] hs all = refl

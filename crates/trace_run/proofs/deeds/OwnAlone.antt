@@ -1,5 +1,5 @@
 -- A party that is told to have done acts of its own number alone, and nothing to a cell, made just events of shards with its own number.
-use Rattle.std.proofs.Common.{◌≡◌, ◌≢◌, ◌⊎◌, ℕ, zero, suc, ◌+◌, ◌<◌, ◌≤◌, ◌==◌, Bool, true, false, if◌then◌else◌, List, [], ◌∷◌, ◌++◌, refl, sym, ap, ◌∙◌, subst, inl, inr, arith, eq-eqb}
+use Rattle.std.proofs.Common.{◌≡◌, ◌≢◌, ◌⊎◌, ℕ, zero, suc, ◌+◌, ◌<◌, ◌≤◌, ◌==◌, Bool, true, false, if◌then◌else◌, List, [], ◌∷◌, ◌++◌, refl, sym, ap, ◌∙◌, inl, inr, arith, eq-eqb}
 use Rattle.std.specs.List.{AllByRecursion}
 use mathlib.Core.Option.{some, some-injective, some-ne-none}
 use lib.ListN.{get_elem?}
@@ -18,10 +18,7 @@ use Rattle.arc_table.specs.Geometry.{parties_of}
 use Rattle.arc_table.specs.Seen.{HasSeenItsEntries, events_in, turn_of}
 use Rattle.trace_run.specs.Deeds.{HasAct, HasToldAll, acts_of_events, with_number}
 use Rattle.trace_run.specs.MadeLines.{is_listed, made_from, made_in}
-use Rattle.arc_table.specs.Cache.{Cache}
-use Rattle.trace_run.specs.declared.kept_blocks.KeptBlock.{KeptBlock}
 use Rattle.trace_run.specs.Making.{HasSeenItsEvents, MadeItsOwn}
-use Rattle.trace_run.specs.Meeting.{Waits}
 use Rattle.trace_run.proofs.deeds.DeedLemmas.{AreActsBy, acts-of-none}
 use Rattle.trace_run.proofs.deeds.MadeLemmas.{at-listed}
 
@@ -115,8 +112,3 @@ module _ {C : Type 0} (g : Config) (did : List Act) (p : Place (Known C)) (low :
         let h = entries.own a.turn j a in_range at refl in
         never-made a.turn 0 p.own.mine 0 a.place (front_of a.turn p.own.seen) (line.Entry (p.number ∷ h.rest)) h.there (at-listed a.turn (0 + a.place) p.own.mine j a at refl (omega arith)) (told.entries a.turn in_range);
   }
-
--- a caller that waits, and did acts of its own alone
-pub waits-alone : {C : Type 0} (cache : Cache) (n : ℕ) (acts : List Act) (kept : List KeptBlock) (p : Place (Known C)) → n < cache.config.callers → AreActsBy n acts → Waits cache n acts [] kept p → MadeItsOwn cache.config p
-waits-alone cache n acts kept p below mine waits =
-    own-alone cache.config acts p (let same = waits.number in omega (arith, same, below)) (subst (λ (k : ℕ). AreActsBy k acts) (sym waits.number) mine) waits.told waits.stands.seen waits.stands.cells

@@ -36,11 +36,11 @@ use Rattle.arc_table.proofs.OwnLemmas.{grows, made-all, made-alone, made-own, ma
 use Rattle.arc_table.proofs.reads.ReadMoments.{own-single-by}
 use Rattle.dbuf_cells.specs.Turns.{LooksTimes, MakesAll, PartyPlace, dbuf_meanings}
 use Rattle.trace_run.specs.DbufTurns.{held_after, held_through}
-use Rattle.trace_run.specs.Deeds.{events_there}
+use Rattle.trace_run.specs.Deeds.{MakesLater, events_there}
 use Rattle.trace_run.specs.MadeLines.{made_of}
 use Rattle.trace_run.specs.Making.{HasSeenItsEvents}
 use Rattle.trace_run.proofs.CellsLeft.{LeavesCells, does-leaves, leaves-same, leaves-then}
-use Rattle.trace_run.proofs.deeds.MakesLemmas.{does-long, makes-more}
+use Rattle.trace_run.proofs.deeds.MakesLemmas.{does-long, later-same, later-then, makes-more}
 
 -- With a cell in hand its party hands a hold of its own to the cell, or drops or releases one with the cell's number c.
 abbrev pub IsTurnEvent : (n c : ℕ) → Event → Type 0
@@ -62,6 +62,7 @@ pub record TurnMakes (g : Config) (es : List Event) (p q : PartyPlace) : Type 0 
       × (map (λ (x : Moment). x.event) ms ≡ own_events p.number (events_there g shard es))
   pub cells_made : (i : ℕ) → IsCell g i → made_of i q ≡ made_of i p
   pub starts : (i : ℕ) → StartsWith (front_of (turn_of g i) q.own.seen) (front_of (turn_of g i) p.own.seen)
+  pub older : MakesLater g p q
   pub recorded : (i : ℕ) → IsCell g i → item_at i q.own.records ≡ item_at i p.own.records
 
 module _ (g : Config) where
@@ -87,6 +88,7 @@ module _ (g : Config) where
     own = λ shard. ([], sym (append-nil (own_moments p.number (moments (opening_of g) (seen_of g shard p)))), refl);
     cells_made = λ i in_range. refl;
     starts = λ i. starts_whole (front_of (turn_of g i) p.own.seen);
+    older = later-same g p p refl;
     recorded = λ i in_range. refl;
   }
 
@@ -115,6 +117,7 @@ module _ (g : Config) where
         );
     cells_made = λ i in_range. b.cells_made i in_range ∙ a.cells_made i in_range;
     starts = λ i. starts-on (front_of (turn_of g i) r.own.seen) (front_of (turn_of g i) q.own.seen) (front_of (turn_of g i) p.own.seen) (b.starts i) (a.starts i);
+    older = later-then g p q r a.starts a.older b.older;
     recorded = λ i in_range. b.recorded i in_range ∙ a.recorded i in_range;
   }
 
@@ -155,6 +158,7 @@ module _ (g : Config) (valid : IsConfig g) where
             ));
         cells_made = more.cells;
         starts = grows g here d.before es p q made;
+        older = more.older;
         recorded = λ i in_range. cell-recorded dbuf_meanings g valid k es p q config d i in_range;
       }
     where

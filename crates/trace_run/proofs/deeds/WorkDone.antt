@@ -24,7 +24,7 @@ use Rattle.trace_run.specs.Reads.{now_of}
 use Rattle.trace_run.proofs.deeds.BringDone.{BringDone, MakesOwn}
 use Rattle.trace_run.proofs.deeds.CellsDone.{lines-append}
 use Rattle.trace_run.proofs.deeds.DeedLemmas.{AreActsBy, acts-append, acts-of-none, events-acts, turn-acts, turn-kinds}
-use Rattle.trace_run.proofs.deeds.MakesLemmas.{in-more}
+use Rattle.trace_run.proofs.deeds.MakesLemmas.{in-more, later-then}
 use Rattle.trace_run.proofs.deeds.OperatesDone.{AreOfCell, all-both, held-same}
 use Rattle.trace_run.proofs.deeds.TurnMakes.{AreTurnEvents, IsTurnEvent, held-append, own-there, starts-on, there-append}
 
@@ -173,7 +173,7 @@ module _ (g : Config) (t c : ℕ) (above : parties_of g ≤ c) (brought : Brough
     source = b.source;
     all = λ all. d.all (b.seen.all all);
     joined = d.joined ∙ b.seen.joined;
-    keeps = record { about = d.about ∙ b.seen.about; fronts = λ i in_range. starts-on g _ _ _ (d.cells i in_range) (b.seen.cells i in_range); shards = λ shard. starts-on g _ _ _ (d.starts shard) (b.same.keeps.shards shard) };
+    keeps = record { about = d.about ∙ b.seen.about; fronts = λ i in_range. starts-on g _ _ _ (d.cells i in_range) (b.seen.cells i in_range); shards = λ shard. starts-on g _ _ _ (d.starts shard) (b.same.keeps.shards shard); older = later-then g p m q b.same.keeps.shards b.same.keeps.older d.older };
     cells_alone = λ all i in_range. d.cells_alone (b.seen.all all) i in_range ∙ ap (λ (l : List Line). l ++ lines_of_cell i noted) (b.seen.alone all i in_range);
   }
 

@@ -1,5 +1,5 @@
 -- The events of feeds: those of a group's lines are those of the feeds that were made, and the feeder's party has seen them behind what it had. And what the cache device was asked for by a group with feeds.
-use Rattle.std.proofs.Common.{◌≡◌, ◌+◌, ◌<◌, ◌≤◌, ℕ, zero, suc, Bool, true, false, List, [], ◌∷◌, ◌++◌, Option, Some, None, length, take, refl, sym, ap, ◌∙◌, subst, inl, inr, arith, append-nil, append_assoc}
+use Rattle.std.proofs.Common.{◌≡◌, ◌<◌, ◌≤◌, ℕ, zero, suc, Bool, true, false, List, [], ◌∷◌, ◌++◌, Option, Some, None, length, take, refl, sym, ap, ◌∙◌, subst, inl, inr, arith, append-nil, append_assoc}
 use Rattle.std.specs.Prelude.{◌⊎◌, filter, map, slice_get}
 use Rattle.std.proofs.lemmas.Bool.{false≢true}
 use Rattle.std.specs.List.{AllByRecursion}
@@ -37,7 +37,7 @@ use Rattle.trace_run.specs.Acts.{events_of_feeder, events_of_feeds}
 use Rattle.trace_run.specs.Answers.{AnswersFeed}
 use Rattle.trace_run.specs.Deeds.{Noted, SameMade}
 use Rattle.trace_run.specs.Devices.{lent_in}
-use Rattle.trace_run.specs.FeedEvents.{AreFeedsTold, events_of_line, events_of_lines, events_of_made, feeds_behind, feeds_told, is_fed, was_fed}
+use Rattle.trace_run.specs.FeedEvents.{AreFeedsTold, events_of_lines, events_of_made, feeds_told, is_fed, was_fed}
 use Rattle.trace_run.specs.Feeds.{AreFedReplies, AsksForFeeds, AsksOfFeeds, FeedDone, IsFeedOf, IsIdleFeeder, MadeFeeds, MadeFeedsOf, is_feed}
 use Rattle.trace_run.specs.KeptBlocks.{Stands}
 use Rattle.trace_run.specs.Lines.{caller_of, replies_where}
@@ -71,18 +71,6 @@ asked-fed op reply asks = rw asks refl
 -- ---- the lines behind others
 
 module _ (g : Config) (shard : ℕ) where
-  line-other : (op : Op) (reply : Reply) (fs : List FeedDone) → was_fed op reply ≡ false → events_of_line g shard op reply fs ≡ events_of_feeder g.callers op
-  line-other op reply fs other = rw other refl
-
-  line-fed : (op : Op) (reply : Reply) (f : FeedDone) (fs : List FeedDone) → was_fed op reply ≡ true → events_of_line g shard op reply (f ∷ fs) ≡ events_at g g.callers shard f.acts
-  line-fed op reply f fs fed = rw fed refl
-
-  behind-other : (op : Op) (reply : Reply) (fs : List FeedDone) → was_fed op reply ≡ false → feeds_behind op reply fs ≡ fs
-  behind-other op reply fs other = rw other refl
-
-  behind-fed : (op : Op) (reply : Reply) (f : FeedDone) (fs : List FeedDone) → was_fed op reply ≡ true → feeds_behind op reply (f ∷ fs) ≡ fs
-  behind-fed op reply f fs fed = rw fed refl
-
   lines-other : (op : Op) (reply : Reply) (os : List Op) (rs : List Reply) (fs : List FeedDone) → was_fed op reply ≡ false → events_of_lines g shard (op ∷ os) (reply ∷ rs) fs ≡ events_of_feeder g.callers op ++ events_of_lines g shard os rs fs
   lines-other op reply os rs fs other = rw other refl
 
@@ -107,21 +95,6 @@ module _ (op : Op) (reply : Reply) (os : List Op) (rs : List Reply) where
         rw asks (rw yes refl)
     | inr none ↦ absurd (false≢true (sym (other-unfed op reply none) ∙ fed))
   ]
-
-pub told-append : (os qs : List Op) (rs ss : List Reply) → length rs ≡ length os → feeds_told (os ++ qs) (rs ++ ss) ≡ feeds_told os rs + feeds_told qs ss
-told-append [] qs [] ss same = let none : 0 + feeds_told qs ss ≡ feeds_told qs ss = omega arith in sym none
-told-append [] qs (r ∷ rs) ss same = absurd (omega arith)
-told-append (o ∷ os) qs [] ss same = absurd (omega arith)
-told-append (o ∷ os) qs (r ∷ rs) ss same =
-    let rest = told-append os qs rs ss (omega (arith, same)) in
-    elim (cases_true (was_fed o r)) [
-      | inl fed ↦ let a = told-fed o r (os ++ qs) (rs ++ ss) fed in let b = told-fed o r os rs fed in omega (arith, rest, a, b)
-      | inr other ↦ let a = told-other o r (os ++ qs) (rs ++ ss) other in let b = told-other o r os rs other in omega (arith, rest, a, b)
-    ]
-
-none-of : {X : Type 0} (xs : List X) → length xs ≡ 0 → xs ≡ []
-none-of [] none = refl
-none-of (x ∷ xs) none = absurd (omega arith)
 
 -- the feeds of some lines and then those of others
 pub lines-append : (g : Config) (shard : ℕ) (os qs : List Op) (rs ss : List Reply) (fs gs : List FeedDone) → length rs ≡ length os → feeds_told os rs ≡ length fs
@@ -173,10 +146,6 @@ lines-enough g shard (o ∷ os) (r ∷ rs) (f ∷ fs) gs few = elim (cases_true 
       ∙ (ap (λ (l : List Event). events_of_feeder g.callers o ++ l) (lines-enough g shard os rs (f ∷ fs) gs (let same = told-other o r os rs other in omega (arith, few, same)))
       ∙ sym (lines-other g shard o r os rs (f ∷ fs) other))
 ]
-
-pub none-told : (os : List Op) → feeds_told os [] ≡ 0
-none-told [] = refl
-none-told (o ∷ os) = refl
 
 -- fewer lines were fed no more often
 pub told-front : (k : ℕ) (os : List Op) (rs : List Reply) → feeds_told (take k os) (take k rs) ≤ feeds_told os rs
@@ -257,9 +226,6 @@ group-made g shard callers (q ∷ qs) (s ∷ ss) (x ∷ gs) own same told = elim
 -- what else a line asks for stands behind the feeds
 pub one-asked : (g : Config) (shard : ℕ) (op : Op) (reply : Reply) → is_feed op ≡ false → events_of_lines g shard (op ∷ []) (reply ∷ []) [] ≡ events_of_feeder g.callers op
 one-asked g shard op reply other = lines-other g shard op reply [] [] [] (other-unfed op reply other) ∙ append-nil (events_of_feeder g.callers op)
-
-pub one-told : (op : Op) (reply : Reply) → is_feed op ≡ false → feeds_told (op ∷ []) (reply ∷ []) ≡ 0
-one-told op reply other = told-other op reply [] [] (other-unfed op reply other)
 
 -- ---- what is told
 

@@ -196,18 +196,6 @@ module _ {D : Type 0} (devices : Ghosts D) where
       subst (λ (x : List Op × List Reply). AreFedReplies a x.0 fs x.1)
       (λ i. ((ap ops_of (inside-done ending ls) ∙ ops-fed ls) i, (ap replies_of (inside-done ending ls) ∙ replies-fed ls) i)) (groups-answered blocks callers (groups_done ending ls) fs a b used)
 
--- where no line asks for a feed none is answered so
-pub unasked-answered : {D : Type 0} (a : Option D) (os : List Op) (rs : List Reply) → list_any is_feed os ≡ false → AreFedReplies a (filter is_feed os) [] (replies_where is_feed os rs)
-unasked-answered a os rs none = subst (λ (x : List Op × List Reply). AreFedReplies a x.0 [] x.1) (λ i. (sym (none-found os none) i, sym (no-replies os rs none) i)) (none-answered a)
-  where
-    no-replies : (os : List Op) (rs : List Reply) → list_any is_feed os ≡ false → replies_where is_feed os rs ≡ []
-    no-replies [] rs none = refl
-    no-replies (o ∷ os) [] none = refl
-    no-replies (o ∷ os) (r ∷ rs) none = elim (cases_true (is_feed o)) [
-      | inl asks ↦ absurd (false≢true (sym none ∙ rw asks refl))
-      | inr other ↦ rw other (no-replies os rs (rw other at none))
-    ]
-
 -- and so where one caller's lines did nothing beside their replies: none of them asks for a feed
 pub plain-answered : {D : Type 0} (a : Option D) (os : List Op) (rs : List Reply) → list_any is_further os ≡ false
     → AreFedReplies a (filter is_feed (ops_of (plain_lines os rs))) [] (replies_where is_feed (ops_of (plain_lines os rs)) (replies_of (plain_lines os rs)))

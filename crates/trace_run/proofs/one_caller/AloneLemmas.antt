@@ -78,11 +78,6 @@ use Rattle.trace_run.proofs.one_caller.TellLemmas.{IsAloneEvent, IsAloneOp, act-
 -- ---- lists by their places
 
 module _ {A : Type 0} where
-  -- what is so at each place is so of all
-  all-at : (P : A → Type 0) (l : List A) → ((i : ℕ) (a : A) → get_elem? l i ≡ some a → P a) → AllByRecursion P l
-  all-at P [] each = tt
-  all-at P (x ∷ xs) each = (each 0 x refl, all-at P xs (λ i a is. each (suc i) a is))
-
   all-then-at : (P : A → Type 0) (l : List A) → AllByRecursion P l → (i : ℕ) (a : A) → get_elem? l i ≡ some a → P a
   all-then-at P [] all i a is = absurd (some-ne-none a (sym is))
   all-then-at P (x ∷ xs) all zero a is = subst P (some-injective x a is) all.0
@@ -92,10 +87,6 @@ module _ {A B : Type 0} (f : A → B) where
   all-mapped : (P : B → Type 0) (l : List A) → ((i : ℕ) (a : A) → get_elem? l i ≡ some a → P (f a)) → AllByRecursion P (map f l)
   all-mapped P [] each = tt
   all-mapped P (x ∷ xs) each = (each 0 x refl, all-mapped P xs (λ i a is. each (suc i) a is))
-
-  same-mapped : (h : A → B) (l : List A) → ((i : ℕ) (a : A) → get_elem? l i ≡ some a → f a ≡ h a) → map f l ≡ map h l
-  same-mapped h [] each = refl
-  same-mapped h (x ∷ xs) each = λ i. each 0 x refl i ∷ same-mapped h xs (λ k a is. each (suc k) a is) i
 
   -- a list that is counted off
   counted-off : (h : ℕ → B) (l : List A) (n : ℕ) → ((i : ℕ) (a : A) → get_elem? l i ≡ some a → f a ≡ h (n + i)) → map f l ≡ map h (range_with_len n (length l))
@@ -491,9 +482,6 @@ module _ {C P : Type 0} (m : Meanings C) (cache : Cache) (pools : Ghosts P) (tra
 
   pub still-0 : r.number ≡ 0
   still-0 = number-r m cache pools trace.blocks trace.ops replies before after p q r kept callers own restored new first fed did between gives last
-
-  pub still-all : HasAll r
-  still-all = (dropped m cache pools trace.blocks trace.ops replies before after p q r kept callers own restored new first fed did between gives last).all
 
   pub still-rows : cache.row.parties ≡ parties_of cache.config
   still-rows = sym last.of.row.1 ∙ parties-r m cache pools trace.blocks trace.ops replies before after p q r kept callers own restored new first fed did between gives last

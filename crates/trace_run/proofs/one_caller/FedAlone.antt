@@ -197,7 +197,7 @@ module _ {C : Type 0} (cache : Cache) (more : (shard : ℕ) → List Event) (p :
       -- and it made nothing more
       same-made : SameMade g p q
       same-made =
-          let first : SameMade g p p1 = record { number = refl; cells = λ shard c other. refl; entries = λ i in_range. refl; keeps = record { about = refl; fronts = λ i in_range. starts_whole (front_of i p.own.seen); shards = λ shard. starts_whole (front_of (turn_of g shard) p.own.seen) } } in
+          let first : SameMade g p p1 = record { number = refl; cells = λ shard c other. refl; entries = λ i in_range. refl; keeps = record { about = refl; fronts = λ i in_range. starts_whole (front_of i p.own.seen); shards = λ shard. starts_whole (front_of (turn_of g shard) p.own.seen); older = λ shard place below. refl } } in
           same-then g p p1 q first
           (same-then g p1 p2 q (p2-parted.same had p1-stands) (grown-same g p2 q have2.number have2.about have2.mine have2.self.starts have2.self.cells p2-stands.seen p2-stands.cells))
 

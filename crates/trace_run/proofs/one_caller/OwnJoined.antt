@@ -48,7 +48,7 @@ use Rattle.trace_run.specs.one_caller.Sequence.{BetweenLines}
 use Rattle.trace_run.proofs.callers.MeetLemmas.{HaveJoined, joined_of, left_alone, parted-front, parted-then, parted_from, starts-then}
 use Rattle.trace_run.proofs.callers.TurnLemmas.{joined, joined-all, joined-stands, left-stands}
 use Rattle.trace_run.proofs.deeds.DeedLemmas.{told-still}
-use Rattle.trace_run.proofs.deeds.MakesLemmas.{grown-same, keeps-then}
+use Rattle.trace_run.proofs.deeds.MakesLemmas.{grown-same, keeps-then, later-same}
 use Rattle.trace_run.proofs.deeds.OperatesDone.{cell-there}
 use Rattle.trace_run.proofs.one_caller.OwnLines.{own-whole}
 
@@ -120,7 +120,7 @@ module _ (cache : Cache) (one : cache.config.callers ≡ 1) (rows : cache.row.pa
     met-number = have.number ∙ p-number
 
     met-keeps : KeepsCells g p q
-    met-keeps = record { about = have.about; fronts = have.self.cells; shards = have.self.starts }
+    met-keeps = record { about = have.about; fronts = have.self.cells; shards = have.self.starts; older = later-same g p q have.mine }
 
     met-told : (acts : List Act) (noted : List Noted) → HasToldAll g acts noted p → HasToldAll g acts noted q
     met-told acts noted told = told-still g acts noted p q
@@ -221,7 +221,7 @@ module _ (cache : Cache) (one : cache.config.callers ≡ 1) (rows : cache.row.pa
               let told = gone.came.told acts noted (met-told acts noted waits.told) in
               record { number = last-number; alone = refl; stands = last-stands; told = record { acts = told.acts; cells = told.cells; kinds = told.kinds; entries = told.entries } };
           keeps = gone.came.kept;
-          cells = record { about = keeps.about; fronts = keeps.fronts; shards = keeps.shards };
+          cells = record { about = keeps.about; fronts = keeps.fronts; shards = keeps.shards; older = keeps.older };
           answers = λ acts noted told place.
               subst (λ (x : List (List ℕ) × ℕ). AnswersLines g (pools.size before) (pools.told before) place blocks x.0 r.own.seen x.1 noted (map read_of had) lines) (λ i. ((have.about i).openings, met-number i))
               (gone.came.answers acts noted (met-told acts noted told) place);

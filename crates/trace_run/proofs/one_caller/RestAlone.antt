@@ -14,7 +14,7 @@ use Rattle.turn_table.specs.Places.{Place, SomeHas}
 use Rattle.arc_table.specs.declared.item.Item.TheVariants as item
 use Rattle.arc_table.specs.declared.view.Known.{Known}
 use Rattle.arc_table.specs.Cache.{Cache}
-use Rattle.arc_table.specs.Ended.{AreAtRest, Ended, Ends}
+use Rattle.arc_table.specs.Ended.{Ended, Ends}
 use Rattle.arc_table.specs.Geometry.{parties_of}
 use Rattle.arc_table.specs.Items.{Meanings}
 use Rattle.arc_table.specs.pact.Logged.{IsSoundLog}
@@ -37,10 +37,6 @@ none-listed (h ∷ hs) none =
     let zero_is : times h (h ∷ hs) ≡ 0 = none h in
     let one : ◌≡◌ {A = ℕ} (cond (is_ptr h h) 1 0) 1 = rw (is_ptr-same h) refl in
     absurd (omega arith)
-
--- the party may close the cache
-pub may-close : {C : Type 0} (cache : Cache) (p : Place (Known C)) → Stands cache p [] → AreAtRest cache (p ∷ [])
-may-close cache p stands = (stands.of, stands.free, tt)
 
 pub all-there : {C : Type 0} (cache : Cache) (p : Place (Known C)) → p.parties ≡ parties_of cache.config → HasAll p → (n : ℕ) → n < parties_of cache.config → SomeHas n (p ∷ [])
 all-there cache p parties all n below = inl (all n (subst (λ (k : ℕ). n < k) (sym parties) below))

@@ -197,9 +197,6 @@ act-all n blocks kept (op ∷ os) [] own = tt
 act-all n blocks kept (op ∷ os) (reply ∷ replies) own =
     all-append (IsActOf n) (acts_of blocks kept op reply) _ (act-of blocks kept op reply n own.0) (act-all n blocks (kept_after blocks op reply kept) os replies own.1)
 
-pub act-lines : (n : ℕ) (blocks : List Ptr) (kept : List KeptRead) (os : List Op) (replies : List Reply) → AllByRecursion (λ op. caller_of op ≡ Some n) os → AllByRecursion (λ act. actor_of act ≡ n) (acts_of_all blocks kept os replies)
-act-lines n blocks kept os replies own = all-map (IsActOf n) (λ act. actor_of act ≡ n) _ (λ act is. is.0) (act-all n blocks kept os replies own)
-
 pub act-drops : (n : ℕ) (kept : List KeptRead) → AllByRecursion (IsActOf n) (acts_of_drops n kept)
 act-drops n [] = tt
 act-drops n (read ∷ reads) = all-append (IsActOf n) (acts_of_drop n read.held) _ (act-drop n read.held) (act-drops n reads)

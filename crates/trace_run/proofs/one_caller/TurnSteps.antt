@@ -5,7 +5,6 @@ use Rattle.std.specs.List.{AllByRecursion}
 use Rattle.std.proofs.lemmas.Bool.{false≢true}
 use Rattle.std.proofs.lemmas.Option.{get_or_from_slice_get, slice_get_within}
 use Rattle.std.proofs.Math.Seq.{take-add, take-suc}
-use mathlib.Core.Option.{some}
 use lib.ListN.{get_elem?}
 use Rattle.arc_core.specs.declared.config.Config.{Config}
 use Rattle.arc_core.specs.declared.served.Restored.{Restored}
@@ -39,7 +38,7 @@ use Rattle.trace_run.specs.Devices.{IsHandedBack, WasLent, lent_in}
 use Rattle.trace_run.specs.Meeting.{MayGoOn, Waits}
 use Rattle.trace_run.specs.FeedEvents.{AreFeedsTold, is_fed}
 use Rattle.trace_run.specs.FeedSeries.{AreMadeSoFar}
-use Rattle.trace_run.specs.Feeds.{AreFedReplies, FeedDone, IsIdleFeeder, MadeFeedsOf, is_feed}
+use Rattle.trace_run.specs.Feeds.{FeedDone, IsIdleFeeder, MadeFeedsOf, is_feed}
 use Rattle.trace_run.specs.Lines.{caller_of, is_of_caller, replies_where}
 use Rattle.trace_run.specs.Objects.{Line, no_work, ops_of, replies_of}
 use Rattle.trace_run.specs.Openings.{AllKnow, openings_of}
@@ -120,10 +119,6 @@ own-fits g (l ∷ ls) mine fits = (subst (λ (o : Option ℕ). FitsBy g o l) (sy
 
 own-group : (callers : ℕ) (qs : List Op) → 0 < callers → AreOwn qs → AreInGroup callers qs
 own-group callers qs any own k op there = inl (0, own k op there, any)
-
-none-answered-of : {D : Type 0} (o : Option D) → AreFedReplies o [] [] []
-none-answered-of None = (refl, refl)
-none-answered-of (Some d) = (refl, refl)
 
 -- a line is the one caller's where it is some caller's
 only-caller : (o : Option ℕ) (callers : ℕ) → callers ≡ 1 → ((n : ℕ) → o ≡ Some n → n < callers) → o ≢ None → o ≡ Some 0
@@ -522,8 +517,8 @@ module _ {P D : Type 0} (cache : Cache) (restored : List Restored) (pools : Ghos
               (parted-length cache h.so.made.lines old.parties.items last.parties.items h.so.made.parted ∙ reached.come.parties);
         };
         ended = h.ended;
-        last = λ t stopped shard below. subst (λ (tick : ℕ). IsCutLast cache.config restored trace.blocks shard tick (with_stop w h.work) (seen_of cache.config shard last.feeder)) (sym (h.ticks t stopped))
-            (stopped-cut pools devices cache restored (pools.size start.pool) (pools.told start.pool) start.next trace.blocks os rs w h.more old last reached.come between.goes_on h.tick h.work h.so shard below);
+        last = λ t stopped shard below owner makers. subst (λ (tick : ℕ). IsCutLast cache.config restored trace.blocks shard owner tick (with_stop w h.work) (seen_of cache.config shard last.feeder)) (sym (h.ticks t stopped))
+            (stopped-cut pools devices cache restored (pools.size start.pool) (pools.told start.pool) start.next trace.blocks os rs w h.more old last reached.come between.goes_on h.tick h.work h.so shard below owner makers);
       };
       at = between.at;
       lines = between.lines;

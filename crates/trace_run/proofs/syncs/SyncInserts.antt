@@ -51,7 +51,7 @@ use Rattle.trace_run.specs.Making.{HasSeenItsEvents}
 use Rattle.trace_run.specs.Syncing.{IsInsert, insert_of, inserts_in}
 use Rattle.trace_run.proofs.CellEnds.{AreCellDrops, HasDropped, dropped-none, dropped-then, look-dropped}
 use Rattle.trace_run.proofs.CellsLeft.{roomy-leaves}
-use Rattle.trace_run.proofs.deeds.MakesLemmas.{MakesMore, makes-more, roomy-long}
+use Rattle.trace_run.proofs.deeds.MakesLemmas.{MakesMore, makes-more, roomy-long, made-later}
 use Rattle.trace_run.proofs.deeds.TurnMakes.{TurnMakes, all-made, there-append}
 use Rattle.trace_run.proofs.feeds.PickedLemmas.{roomy-picks}
 
@@ -142,6 +142,7 @@ module _ (g : Config) (valid : IsConfig g) (tick : ℕ) where
           let test : (here == shard) ≡ false = ne_eqb here shard differs in
           adds.others shard (λ same. differs (sym same)) ∙ (sym (append-nil (seen_of g shard p)) ∙ ap (λ (l : List Event). seen_of g shard p ++ l) (sym (one-there shard ∙ ap (λ (b : Bool). if b then (e ∷ []) else []) test))));
       starts = grows g here d.before (d.makes.passes ++ e ∷ []) p q made;
+      older = made-later g here d.before (d.makes.passes ++ e ∷ []) p q made;
       recorded = λ i in_range. (cell-kept-roomy dbuf_meanings g valid k e p q config d i in_range (hand i in_range)).recorded;
       events = λ empty. absurd (some-event empty);
       picks = λ feeder j. one-picks feeder j;

@@ -11,7 +11,7 @@ use Rattle.arc_core.specs.Operations.{Act, moments, own_moments}
 use Rattle.turn_table.specs.Places.{SomeHas}
 use Rattle.arc_table.specs.declared.view.Ledger.{Ledger}
 use Rattle.arc_table.specs.Cache.{Cache, IsPartyOf}
-use Rattle.arc_table.specs.Fronts.{list_at, front_of}
+use Rattle.arc_table.specs.Fronts.{list_at, front_of, StartsWith}
 use Rattle.arc_table.specs.Geometry.{IsCell, parties_of}
 use Rattle.arc_table.specs.Seen.{HasAll, events_in, seen_of, turn_of, AreEntriesSeen}
 use Rattle.arc_table.specs.Telling.{opening_of}
@@ -46,15 +46,16 @@ use Rattle.trace_run.specs.Syncing.{SyncedJoined, SyncsJoined, inserts_in, lines
 use Rattle.trace_run.proofs.CellEnds.{HasEndedSome, nothing-from}
 use Rattle.trace_run.proofs.deeds.DeedLemmas.{all-both, others-still}
 use Rattle.trace_run.proofs.deeds.MakesLemmas.{grown-same}
-use Rattle.trace_run.proofs.EndSteps.{all-parted-then, have, last-from, last-stands, lines, one-front, parted, q-all, q-stands, untouched as untouched-by}
+use Rattle.trace_run.proofs.EndSteps.{all-parted-then, have, last-from, last-stands, lines, one-front, parted, q-all, q-stands, untouched as untouched-by, keeps-left}
 use Rattle.trace_run.proofs.syncs.SyncInserts.{HasInserted}
 use Rattle.trace_run.proofs.syncs.SyncSteps.{AreFound, HasTaken, IsFound, all-taken}
 use Rattle.trace_run.proofs.syncs.SyncWrites.{all-synced, cell-front, inserts, synced-cells, synced-front, synced-made, synced-mine, synced-picks, synced-shards, taken}
 use Rattle.trace_run.proofs.syncs.SyncTold.{others-synced}
-use Rattle.trace_run.proofs.callers.MeetLemmas.{HaveJoined, have-met, left_alone, own-seen-more, parted_from, starts-events, joined_of, starts-then}
+use Rattle.trace_run.proofs.callers.MeetLemmas.{HaveJoined, have-met, left_alone, own-seen-more, parted_from, starts-events, joined_of}
 use Rattle.trace_run.proofs.syncs.SyncOwned.{AreDoneFrom, DidSo, IsDone}
 use Rattle.trace_run.specs.MadeLines.{made_from}
 use Rattle.trace_run.specs.CellEnds.{done_by}
+use Rattle.trace_run.proofs.callers.MakerLemmas.{later-behind}
 
 -- ---- cells to which nothing was done have no dirty block
 
@@ -180,6 +181,10 @@ module _ (cache : Cache) (p : PartyPlace) (others : List PartyPlace) (stands : S
     all-own shard [] learned = tt
     all-own shard (o ∷ os) learned = (learned.0.own shard, all-own shard os learned.1)
 
+    all-since : (shard : ℕ) (os : List PartyPlace) → AllByRecursion (λ o. HasLearned g o q) os → AllByRecursion (λ o. StartsWith (seen_of g shard q) (seen_of g shard o)) os
+    all-since shard [] learned = tt
+    all-since shard (o ∷ os) learned = (starts-events (front_of (turn_of g shard) q.own.seen) (front_of (turn_of g shard) o.own.seen) (learned.0.starts shard), all-since shard os learned.1)
+
     -- to have joined is nothing that is told
     met-told : (did : List Act) (had : List Noted) → HasToldOthers g did had p → HasToldOthers g did had q
     met-told did had before = others-still g did had p q (grown-same g p q met.number met.about met.mine met.self.starts met.self.cells stands.seen stands.cells) before
@@ -230,6 +235,8 @@ module _ (cache : Cache) (p : PartyPlace) (others : List PartyPlace) (stands : S
         own = met.self.own;
         others = λ shard. all-own shard others met.all;
         since = λ shard. starts-events (front_of (turn_of g shard) q.own.seen) (front_of (turn_of g shard) p.own.seen) (met.self.starts shard);
+        others_since = λ shard. all-since shard others met.all;
+        behind = later-behind g p q r met.mine then.older;
         settled = λ last settled i. synced-picks g stands.valid tick cells xs q r stood.of.config low stood.seen has-all stood.cells s inside (met.number ∙ last) i ∙ (ap (λ (l : Ledger). list_at i l.picked) met.ledger ∙ settled i);
         one = one-front cache p others stands alone apart everyone count differ q joins;
         same = λ before own rest shard. ap events_in (met.level before own rest shard);
@@ -251,7 +258,7 @@ module _ (cache : Cache) (p : PartyPlace) (others : List PartyPlace) (stands : S
             ∙ ((λ k. cell-front g stands.valid tick cells xs q r stood.of.config low stood.seen has-all stood.cells s inside i c within k ++ lines_of (synced_in (met.number k) i xs))
             ∙ ap (λ (x : OnHeap). lines_of x.value.history ++ lines_of (synced_in p.number i xs)) (index-at i cells c at));
         met = have-met cache q r then.cells p others met.self.cells met.all;
-        grown = λ i range. starts-then (front_of i r.own.seen) (front_of i q.own.seen) (front_of i p.own.seen) (then.cells i range) (met.self.cells i range);
+        keeps = keeps-left cache p others stands alone apart everyone count differ q joins wrote.events r then of free claims;
         did = all-did;
         fresh = λ own rest i c at. none-at i cells c (t.fresh (untouched-by cache p others stands alone apart everyone count differ q joins own rest)) at;
         inserts = wrote.events;

@@ -44,6 +44,9 @@ use Rattle.trace_run.proofs.callers.MeetLemmas.{starts-then}
 use Rattle.trace_run.proofs.deeds.MadeCells.{given-made, given-made-else, took-made, took-made-else}
 use Rattle.trace_run.proofs.syncs.SyncOwned.{AreDoneFrom, IsDone, done-as, found-done}
 use Rattle.arc_table.specs.declared.view.Mine.{Mine}
+use Rattle.trace_run.specs.Deeds.{MakesLater}
+use Rattle.trace_run.proofs.deeds.MakesLemmas.{later-same, later-then}
+use Rattle.trace_run.proofs.deeds.MadeLemmas.{listed-back}
 
 -- ---- what a party with every number has seen, while it makes no event of a shard
 
@@ -61,6 +64,7 @@ pub record IsQuiet (g : Config) (p q : PartyPlace) : Type 0 where
   pub all : HasAll q
   pub shards : (shard : ℕ) → seen_of g shard q ≡ seen_of g shard p
   pub starts : (i : ℕ) → StartsWith (front_of (turn_of g i) q.own.seen) (front_of (turn_of g i) p.own.seen)
+  pub older : MakesLater g p q
 
 module _ (g : Config) where
   quiet-same : (p q : PartyPlace) → HasSeenItsEvents g p → HasAll p → q ≡ p → IsQuiet g p q
@@ -77,6 +81,7 @@ module _ (g : Config) where
     all = all;
     shards = λ shard. refl;
     starts = λ i. starts_whole (front_of (turn_of g i) p.own.seen);
+    older = λ shard place below. refl;
   }
 
   pub quiet-then : (p q r : PartyPlace) → IsQuiet g p q → IsQuiet g q r → IsQuiet g p r
@@ -93,6 +98,7 @@ module _ (g : Config) where
     all = b.all;
     shards = λ shard. b.shards shard ∙ a.shards shard;
     starts = λ i. starts-then (front_of (turn_of g i) r.own.seen) (front_of (turn_of g i) q.own.seen) (front_of (turn_of g i) p.own.seen) (b.starts i) (a.starts i);
+    older = later-then g p q r a.starts a.older b.older;
   }
 
 -- ---- cells in hand
@@ -161,6 +167,7 @@ module _ (g : Config) (valid : IsConfig g) where
       all = λ k below. subst (λ (x : ℕ × List (Kept (Known OnHeap))). (x.0 ≡ k) ⊎ IsIn k x.1) (λ z. (sym took.number z, sym took.joined z)) (all k (subst (λ (x : ℕ). k < x) took.parties below));
       shards = λ shard. ap events_in (take-fronts (turn_of g shard));
       starts = λ k. subst (λ (l : List Line). StartsWith l (front_of (turn_of g k) p.own.seen)) (sym (take-fronts (turn_of g k))) (starts_whole (front_of (turn_of g k) p.own.seen));
+      older = later-same g p r took.mine;
     }
 
     pub take-held : r.held ≡ i ∷ p.held
@@ -310,6 +317,7 @@ module _ (g : Config) (valid : IsConfig g) where
       all = all;
       shards = λ shard. ap events_in (back-shard shard);
       starts = λ k. subst (λ (l : List Line). StartsWith l (front_of (turn_of g k) w.own.seen)) (sym (back-shard k)) (starts_whole (front_of (turn_of g k) w.own.seen));
+      older = λ k place below. listed-back (turn_of g k) place i _ _ w.own.mine (no-shard k);
     }
 
     pub give-quiet : IsQuiet g w q

@@ -1,5 +1,5 @@
 -- How what the feeder did is told, once it synced.
-use Rattle.std.proofs.Common.{◌≡◌, ◌≢◌, ◌⊎◌, ◌==◌, ℕ, ◌<◌, true, false, List, [], ◌∷◌, ◌++◌, map, refl, sym, ap, ◌∙◌, subst, inl, inr, arith, ne_eqb}
+use Rattle.std.proofs.Common.{◌≡◌, ◌≢◌, ◌⊎◌, ◌==◌, ℕ, true, false, List, [], ◌∷◌, ◌++◌, map, refl, sym, ap, ◌∙◌, subst, inl, inr}
 use Rattle.std.specs.List.{AllByRecursion}
 use Rattle.std.specs.Option.{option_map_or}
 use Rattle.std.proofs.lemmas.List.Elements.{filter-append}
@@ -11,7 +11,7 @@ use Rattle.arc_core.specs.declared.event.Event.{Event}
 use Rattle.arc_core.specs.declared.event.Event.TheVariants.{Insert}
 use Rattle.arc_core.specs.Operations.{Act, Writes, acts_in, event_key, number_of}
 use Rattle.arc_table.specs.declared.view.Line.TheVariants as line
-use Rattle.arc_table.specs.Geometry.{IsCell, cell_number, parties_of}
+use Rattle.arc_table.specs.Geometry.{IsCell, cell_number}
 use Rattle.arc_table.specs.Seen.{turn_of}
 use Rattle.dbuf_cells.specs.Turns.{PartyPlace}
 use Rattle.dbuf_state.specs.declared.event.CellEvent.{CellEvent}
@@ -69,19 +69,6 @@ module _ (g : Config) where
 
       one : IsInsert g e → AllByRecursion HasAct (with_number c (events_there g shard (e ∷ [])))
       one i = some e (Writes (cell_number g i.0) i.3 (record { key = i.1; digest = i.2 }), ap act_of_event i.4)
-
-  -- none is of a party's number
-  inserts-not-own : (shard n : ℕ) (es : List Event) → n < parties_of g → AllByRecursion (IsInsert g) es → acts_in shard_is shard n (acts_of_events es) ≡ []
-  inserts-not-own shard n es low kinds = inserts-acts shard n es kinds ∙ ap acts_of_events (none es kinds)
-    where
-      none : (es : List Event) → AllByRecursion (IsInsert g) es → with_number n (events_there g shard es) ≡ []
-      none [] kinds = refl
-      none (e ∷ es) kinds =
-          let far : (number_of e == n) ≡ false = ne_eqb (number_of e) n (λ same. let is = ap number_of kinds.0.4 in omega (arith, same, is, low)) in
-          elim (cases_true (option_map_or (λ (k : Key). shard_of g.shards k == shard) (event_key e) false)) [
-            | inl here ↦ rw (here, far) (none es kinds.1)
-            | inr out ↦ rw out (none es kinds.1)
-          ]
 
   -- what was noted of each cell
   pub noted-there : (n i : ℕ) (xs : List SyncItem) → events_of_cell i (noted_of n xs) ≡ synced_in n i xs

@@ -30,6 +30,7 @@ use Rattle.trace_run.proofs.CellsLeft.{leaves-seen}
 use Rattle.trace_run.proofs.syncs.SyncInserts.{HasInserted, all-inserted}
 use Rattle.trace_run.proofs.syncs.SyncSteps.{AreInHand, HasGivenCells, HasTaken, HaveNews, HaveSameHistories, all-given, all-taken, in-hand-as}
 use Rattle.trace_run.proofs.callers.MeetLemmas.{starts-then}
+use Rattle.trace_run.proofs.deeds.MakesLemmas.{later-then}
 
 pub lines-both : (xs ys : List CellEvent) → lines_of (xs ++ ys) ≡ lines_of xs ++ lines_of ys
 lines-both xs ys = ap (map line.Entry) (map-append event_numbers xs ys) ∙ map-append line.Entry (map event_numbers xs) (map event_numbers ys)
@@ -111,6 +112,7 @@ module _ (g : Config) (valid : IsConfig g) (tick : ℕ) (cells : List OnHeap) (x
         ∙ drops-unmade g p.number (opening_of g) (seen_of g shard p) (events_there g shard inserts.events) low (cell-drops-there g shard inserts.events inserts.cells);
     starts = λ i. starts-then (front_of (turn_of g i) r.own.seen) (front_of (turn_of g i) s.reached.own.seen) (front_of (turn_of g i) p.own.seen) (given.quiet.starts i)
         (starts-then (front_of (turn_of g i) s.reached.own.seen) (front_of (turn_of g i) s.taken.own.seen) (front_of (turn_of g i) p.own.seen) (did.starts i) (taken.quiet.starts i));
+    older = later-then g p s.taken r taken.quiet.starts taken.quiet.older (later-then g s.taken s.reached r did.starts did.older given.quiet.older);
     cells = λ i in_range. (lines_of (synced_in p.number i xs), synced-front i in_range);
   }
 

@@ -34,13 +34,14 @@ use Rattle.arc_table.specs.TableLaws.{get_front, within}
 use Rattle.arc_table.specs.Telling.{opening_of}
 use Rattle.arc_table.proofs.SeenLemmas.{events-at, events-map}
 use Rattle.trace_run.specs.Deeds.{HasAct, HasToldOthers, Noted, act_of_event, acts_of_events, with_number}
-use Rattle.trace_run.specs.MadeLines.{made_in, owned_from}
+use Rattle.trace_run.specs.MadeLines.{made_in, owned_from, IsMaker, is_listed}
 use Rattle.trace_run.specs.Making.{AreEventsSeen}
 use Rattle.trace_run.specs.RunWork.{AreMadeBy}
 use Rattle.trace_run.proofs.deeds.ClosedDeeds.{cell-told}
-use Rattle.trace_run.proofs.deeds.MadeCells.{made-owned, owned-map}
-use Rattle.trace_run.proofs.deeds.MakesLemmas.{seen-below}
+use Rattle.trace_run.proofs.deeds.MadeCells.{made-owned, owned-map, listed-is}
+use Rattle.trace_run.proofs.deeds.MakesLemmas.{seen-below, starts-long}
 use Rattle.trace_run.proofs.theorem.CloseLemmas.{get-map, value-at}
+use Rattle.trace_run.proofs.callers.MakerLemmas.{events-front}
 
 -- ---- lists of events
 
@@ -214,9 +215,8 @@ module _ {C : Type 0} (m : Meanings C) (cache : Cache) (ps : List (Place (Known 
     | inr above ↦ let has = stands-there x ev there above in absurd (no-pass-act ev pass has.0 has.1)
   ]
 
-  pub made-by : AreMadeBy g i did l.history
+  pub made-by : AreMadeBy g i owner did l.history
   made-by = record {
-    owner = owner;
     party = λ x inside. let ev = event-at l.history x inside in owner-party x ev.0 ev.1;
     own = λ x ev there below. sym (own-number x ev (from-slice l.history x ev there) below);
     acts = λ n j below range.
@@ -234,6 +234,21 @@ module _ {C : Type 0} (m : Meanings C) (cache : Cache) (ps : List (Place (Known 
   lines-seen n below =
       let h = each n below in
       subst (λ (x : List Line × List (List Line)). StartsWith x.0 (front_of (turn_of g i) x.1)) (λ k. (now-there k, sym (ends.pact.attached.views n h.party.own h.shown).seen k)) (ends.pact.logged.seen n (turn_of g i))
+
+  -- a party made just what it is the owner of
+  pub maker-there : (n : ℕ) (below : n < parties_of g) → IsMaker g i owner n (each n below).party
+  maker-there n below =
+      let h = each n below in
+      let w : Known C = h.party.own in
+      let starts = lines-seen n below in
+      let long = starts-long (map line.Event l.history) (front_of (turn_of g i) w.seen) starts in
+      record {
+        events = events-front (front_of (turn_of g i) w.seen) starts.0 l.history starts.1;
+        made = λ place inside.
+            let z : 0 + place ≡ place = omega arith in
+            subst (λ (k : ℕ). is_listed (turn_of g i) k w.mine ≡ (owner k == n)) z
+            (listed-is m scene ends.pact.logged n w (ends.pact.attached.views n w h.shown) (turn_of g i) (seen-below g n w.mine w.seen i h.seen) place (omega (arith, inside, long, ap length now-there)));
+      }
 
   seen-there : (x : ℕ) (ev : Event) (there : get_elem? l.history x ≡ some ev)
       → IsSeenBy (IsNumberOrCell g) (parties_of g) (owner x) (front_of (turn_of g i) (each (owner x) (owner-party x ev there)).party.own.seen) x

@@ -40,7 +40,6 @@ use Rattle.trace_run.proofs.callers.AfterEnds.{crew-long, same-long}
 use Rattle.trace_run.proofs.CellLemmas.{all-cells-of, by-parties, cell-of, done-is, ends-one, entries-are, events-same, opened-so}
 use Rattle.trace_run.proofs.theorem.EndLemmas.{shown-at}
 use Rattle.trace_run.proofs.theorem.KeptEnds.{IsSeenWhole, ended-so}
-use Rattle.trace_run.proofs.deeds.MadeLemmas.{listed-none, made-none}
 
 -- ---- cells with any history
 
@@ -94,13 +93,6 @@ module _ (cache : Cache) (ps : List PartyPlace) (e : Ended OnHeap) (ends : Ends 
 -- lines of which none is of a cell are seen, whatever was
 none-seen : (g : Config) (n : ℕ) (mines : List Mine) (seen : List (List Line)) → AreNoEntries g mines → AreEntriesSeen g n mines seen
 none-seen g n mines seen none i j a in_range at is = absurd (none j a at (subst (IsCell g) (sym is) in_range))
-
-none-made : (g : Config) (mines : List Mine) (seen : List (List Line)) → AreNoEntries g mines → (i : ℕ) → IsCell g i → made_from i 0 mines (front_of i seen) ≡ []
-none-made g mines seen none i in_range = made-none i 0 mines (front_of i seen) (λ y below. listed-none i (0 + y) mines (λ j a at turn place. none j a at (subst (IsCell g) (sym turn) in_range)))
-
--- a party that made nothing of a cell
-pub none-noted : (g : Config) (s : List (List Line)) (k : ℕ) (v : Known OnHeap) → AreNoEntries g v.mine → HasNoted g s k v []
-none-noted g s k v none = record { seen = none-seen g k v.mine s none; own = none-seen g k v.mine v.seen none; made = none-made g v.mine v.seen none }
 
 -- one caller's run
 pub ends-idle : (cache : Cache) (openings : List (List ℕ)) (p q : PartyPlace) → HasSeenEnds cache openings p q → AreNoEntries cache.config p.own.mine → (shard : ℕ) → seen_of cache.config shard q ≡ seen_of cache.config shard p

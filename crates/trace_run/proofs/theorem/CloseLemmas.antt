@@ -15,10 +15,8 @@ use Rattle.turn_table.specs.Places.{AllHeld, AllOnce, Apart, Place, Shows}
 use Rattle.arc_table.specs.declared.item.Item.{Item}
 use Rattle.arc_table.specs.declared.item.Item.TheVariants as item
 use Rattle.arc_table.specs.declared.view.Known.{Known}
-use Rattle.arc_table.specs.declared.view.Line.TheVariants as line
 use Rattle.arc_table.specs.Cache.{Cache}
 use Rattle.arc_table.specs.Ended.{Ended, Ends}
-use Rattle.arc_table.specs.Fronts.{StartsWith, front_of}
 use Rattle.arc_table.specs.Geometry.{parties_of}
 use Rattle.arc_table.specs.Items.{Meanings}
 use Rattle.arc_table.specs.pact.Logged.{IsSoundItem, IsSoundLog}
@@ -70,9 +68,6 @@ module _ {C : Type 0} (m : Meanings C) (cache : Cache) (ps : List (Place (Known 
     module _ {May : (n number : ℕ) → Type 0} (config : p.own.about.config ≡ g) (seen : HasSeenBy May g p) where
       pub closed-finds : Finds g i p l.history
       closed-finds = finds-then m g p i l last seen config
-
-      pub closed-starts : StartsWith (map line.Event l.history) (front_of (turn_of g i) p.own.seen)
-      closed-starts = closed-finds.starts
 
       pub closed-sound : IsSoundLog g l
       closed-sound = subst (λ (c : Config). IsSoundLog c l) (config_then m p (turn_of g i) l last ∙ config)

@@ -1,20 +1,18 @@
 -- What a run made of the cache device, once it is handed back.
-use Rattle.std.proofs.Common.{◌≡◌, ◌≤◌, ℕ, List, [], ◌∷◌, ◌++◌, Option, None, Some, refl, sym, ap, ◌∙◌, subst, inl, arith}
+use Rattle.std.proofs.Common.{◌≡◌, ◌≤◌, ℕ, List, [], ◌∷◌, ◌++◌, Option, None, Some, refl, sym, ap, ◌∙◌, subst, arith}
 use Rattle.std.specs.Prelude.{filter}
 use Rattle.blk_ptr.specs.declared.ptr.Ptr.{Ptr}
 use Rattle.l2_dev.specs.Cursor.{CursorState}
 use Rattle.vdev_io.specs.declared.device.CacheDev.{Ghosts}
-use Rattle.vdev_io.specs.declared.pool.Pool.{Ghosts as Pools}
 use Rattle.trace_text.specs.declared.rebuilt.Rebuilt.{Rebuilt}
 use Rattle.trace_text.specs.declared.trace.Trace.{Trace}
 use Rattle.trace_run.specs.declared.device.Device.{Device}
 use Rattle.trace_run.specs.declared.device.Device.TheVariants as device
 use Rattle.trace_run.specs.declared.ran.Ending.{Ending}
 use Rattle.trace_run.specs.callers.Beside.{HasItsKind}
-use Rattle.trace_run.specs.callers.Group.{LeavesDeclared, LeavesPool}
 use Rattle.trace_run.specs.callers.DeviceForks.{GivesFork, GivesForks, TakesForkBack, TakesForksBack, UsedAtOnce, UsedInGroups}
 use Rattle.trace_run.specs.callers.Together.{GroupLines, groups_done}
-use Rattle.trace_run.specs.Devices.{Finds, IsHandedBack, IsRightKind, MayLose, MayLoseUnfed, WasLent, WasOnlyRead, device_of, lent_in, usable}
+use Rattle.trace_run.specs.Devices.{Finds, IsHandedBack, IsRightKind, MayLose, MayLoseUnfed, WasLent, device_of, lent_in, usable}
 use Rattle.trace_run.specs.DeviceUse.{WasUsed}
 use Rattle.trace_run.specs.Feeds.{AreFedReplies, AsksOfFeeds, FeedDone, is_feed}
 use Rattle.trace_run.specs.Lines.{replies_where}
@@ -186,9 +184,3 @@ module _ {D : Type 0} (devices : Ghosts D) where
     back = λ none. all-back begun ended used (unfed none);
     short = λ none. unlent-same begun ended used (sym (usable-lent devices begun kind) ∙ none);
   })
-
--- ---- the pool beside it
-
--- one that tells what it told leaves declared blocks alone
-pub leaves-declared : {P : Type 0} (pools : Pools P) (blocks : List Ptr) (old new : P) → LeavesPool pools old new → LeavesDeclared pools blocks old new
-leaves-declared pools blocks old new leaves = record { size = leaves.size; told = inl leaves.told; faults = leaves.faults }

@@ -6,15 +6,12 @@ use Rattle.std.proofs.lemmas.Bool.Decides.{nat_tests}
 use mathlib.Core.Option.{some, some-injective, some-ne-none}
 use lib.ListN.{get_elem?}
 use Rattle.blk_ptr.specs.declared.key.Key.{Key}
-use Rattle.blk_ptr.specs.declared.ptr.Ptr.{Ptr}
 use Rattle.arc_lists.proofs.Standing.{and_left, and_right, both}
 use Rattle.arc_lists.proofs.Tables.{cases_true}
 use Rattle.arc_core.specs.declared.event.Event.{Event}
 use Rattle.arc_core.specs.declared.event.Event.TheVariants.{Pass, Hit, Miss, Arrive, Fail, Drop, Past, Hand, Insert, Release, Pick, FeedEnd, Set, Leave, Clear, Restore, Resize}
-use Rattle.arc_core.specs.declared.served.Served.{Served}
-use Rattle.arc_core.specs.declared.served.Served.TheVariants as served
 use Rattle.arc_core.specs.Changing.{gained, hold_for}
-use Rattle.arc_core.specs.Operations.{Act, AreEvents, Fails, GivesBack, IsServed, Keeps, Loads, MakesPrivate, Moment, Reads, RunsOut, RunsOutAtDbuf, Tell, Writes, has_its_number, is_of_feed, is_pass, moments, number_of, own_moments}
+use Rattle.arc_core.specs.Operations.{Moment, has_its_number, is_of_feed, is_pass, moments, number_of, own_moments}
 use Rattle.arc_core.specs.PlainShard.{PlainShard, count_of, numbers}
 use Rattle.arc_core.specs.Replay.{is_legal_history, replay}
 use Rattle.arc_core.specs.Sound.{IsSound}
@@ -25,7 +22,7 @@ use Rattle.arc_core.proofs.Others.{frame-kept}
 use Rattle.arc_core.proofs.Frames.{frame-fitted}
 use Rattle.arc_core.proofs.Soundness.{IsSound-after}
 use Rattle.arc_table.specs.Seen.{pass_owner}
-use Rattle.trace_run.proofs.one_caller.TellLemmas.{IsReadAct, all-append, caller-number, is_given, is_of_reads}
+use Rattle.trace_run.proofs.one_caller.TellLemmas.{caller-number, is_given, is_of_reads}
 
 -- an event of a caller's reads; or a pass of a caller or the feeder that names another; or a capacity that the feeder gives, or a key that it restores
 abbrev pub IsReadEvent : (callers : ℕ) → Event → Type 0
@@ -202,35 +199,9 @@ read-number callers cells (Pass n k owner) (inr (inr cap)) = absurd (false≢tru
 
 -- ---- the events of acts of reads
 
-served-events : (n t : ℕ) (ptr : Ptr) (from : Served) (rest es : List Event) → AllByRecursion (λ e. is_of_reads e ≡ true) rest → IsServed n t ptr from rest es → AllByRecursion (λ e. is_of_reads e ≡ true) es
-served-events n t ptr served.Hit rest es all is = subst (AllByRecursion (λ e. is_of_reads e ≡ true)) (sym is) (refl, all)
-served-events n t ptr served.Pool rest es all is = subst (AllByRecursion (λ e. is_of_reads e ≡ true)) (sym is) (refl, (refl, all))
-served-events n t ptr served.L2 rest es all is = subst (AllByRecursion (λ e. is_of_reads e ≡ true)) (sym is) (refl, (refl, all))
-served-events n t ptr served.Past rest es all is = subst (AllByRecursion (λ e. is_of_reads e ≡ true)) (sym is.1) (refl, tt)
-
-act-events : (act : Act) (es : List Event) → IsReadAct act → AreEvents act es → AllByRecursion (λ e. is_of_reads e ≡ true) es
-act-events (Reads n t ptr from) es of is = served-events n t ptr from (Drop n ptr.key ∷ []) es (refl, tt) is
-act-events (Keeps n t ptr from) es of is = served-events n t ptr from [] es tt is
-act-events (GivesBack n k) es of is = subst (AllByRecursion (λ e. is_of_reads e ≡ true)) (sym is) (refl, tt)
-act-events (Fails n t ptr) es of (inl is) = subst (AllByRecursion (λ e. is_of_reads e ≡ true)) (sym is) (refl, (refl, tt))
-act-events (Fails n t ptr) es of (inr is) = subst (AllByRecursion (λ e. is_of_reads e ≡ true)) (sym is.1) (refl, tt)
-act-events (Loads n t ptr from cell) es of is = absurd of
-act-events (RunsOut n t ptr) es of is = absurd of
-act-events (RunsOutAtDbuf n t ptr cell) es of is = absurd of
-act-events (MakesPrivate cell k) es of is = absurd of
-act-events (Writes cell t ptr) es of is = absurd of
-
 pub all-events : (P : Event → Type 0) (ms : List Moment) → AllByRecursion P (map (λ m. m.event) ms) → AllByRecursion (λ m. P m.event) ms
 all-events P [] all = tt
 all-events P (m ∷ ms) all = (all.0, all-events P ms all.1)
-
-pub told-reads : (acts : List Act) (ms : List Moment) → AllByRecursion IsReadAct acts → Tell acts ms → AllByRecursion (λ m. is_of_reads m.event ≡ true) ms
-told-reads [] ms of told = subst (AllByRecursion (λ m. is_of_reads m.event ≡ true)) (sym told) tt
-told-reads (act ∷ acts) ms of told =
-    subst (AllByRecursion (λ m. is_of_reads m.event ≡ true)) (sym told.2)
-    (all-append (λ m. is_of_reads m.event ≡ true) told.0 told.1
-    (all-events (λ e. is_of_reads e ≡ true) told.0 (act-events act (map (λ m. m.event) told.0) of.0 told.3.events))
-    (told-reads acts told.1 of.1 told.4))
 
 -- ---- what is so of a number's own moments is so of its events that are no passes
 

@@ -125,7 +125,7 @@ module _ {P D : Type 0} (pools : Ghosts P) (devices : DeviceGhosts D) (before af
 
   -- one caller's run with any lines
   pub turn-has-run : (ending : Ending) (work : RunWork) → trace.config.callers ≡ 1 → has_further trace.ops ≡ true → (ran : RanTogether pools devices before after lent back trace ending (found_keys rebuilt) replies work closed)
-      → RunsInTurn pools devices before after lent back ran.place trace ending work closed.cells (report_of_closed ending rebuilt replies closed)
+      → RunsInTurn pools devices before after lent back ran.place trace ending work ran.explained.owner closed.cells (report_of_closed ending rebuilt replies closed)
       → (run : HasRun pools devices before after lent back trace ending closed (report_of_closed ending rebuilt replies closed)) × (run.work ≡ work)
   turn-has-run ending work one further ran runs = (
     record {
@@ -198,7 +198,7 @@ module _ {P D : Type 0} (pools : Ghosts P) (devices : DeviceGhosts D) (before af
     refl,
   )
     where
-      told : RunsTogether pools before after ran.place ran.told trace ending work closed.cells (report_of_closed ending rebuilt replies closed)
+      told : RunsTogether pools before after ran.place ran.told trace ending work ran.explained.owner closed.cells (report_of_closed ending rebuilt replies closed)
       told = ran.together two rebuilt refl
 
       -- without a line nothing stops

@@ -25,8 +25,7 @@ use Rattle.arc_core.specs.Sound.{IsSound, IsSoundEntry, fits_phase}
 use Rattle.arc_core.specs.Keeps.{holds_on}
 use Rattle.arc_core.specs.ShardLog.{ShardLog}
 use Rattle.turn_table.specs.Board.{free}
-use Rattle.turn_table.specs.declared.standing.Kept.{Kept}
-use Rattle.turn_table.specs.Places.{AllShow, IsIn, Place, ShowAll, SomeHas}
+use Rattle.turn_table.specs.Places.{Place}
 use Rattle.arc_table.specs.declared.item.Item.{Item}
 use Rattle.arc_table.specs.declared.item.Item.TheVariants as item
 use Rattle.arc_table.specs.declared.view.Known.{Known}
@@ -86,28 +85,6 @@ rests-where-none s sound none counts = record {
 -- a shard at its start is sound
 opening-sound : (g : Config) → IsConfig g → IsSound (opening_of g)
 opening-sound g valid = opening_sound g.c g.mintime g.bounds valid.amounts.c
-
-module _ {C : Type 0} where
-  -- so has each that another party keeps by a join
-  abbrev AllIdle : List (Kept (Known C)) → Type 0
-  AllIdle [] = Unit {0}
-  AllIdle (k ∷ ks) = IsIdle k.view.ledger × AllIdle ks
-
-  -- these parties have given all back, and those that they keep by a join
-  abbrev pub AreIdle : List (Place (Known C)) → Type 0
-  AreIdle [] = Unit {0}
-  AreIdle (p ∷ ps) = IsIdle p.own.ledger × AllIdle p.joined × AreIdle ps
-
-  kept-idle : (views : List (Known C)) (n : ℕ) (ks : List (Kept (Known C))) → IsIn n ks → AllShow views ks → AllIdle ks → (w : Known C) × (get_elem? views n ≡ some w) × IsIdle w.ledger
-  kept-idle views n [] among shown idle = absurd among
-  kept-idle views n (k ∷ ks) (inl is) shown idle = (k.view, subst (λ (x : ℕ). get_elem? views x ≡ some k.view) is shown.0, idle.0)
-  kept-idle views n (k ∷ ks) (inr among) shown idle = kept-idle views n ks among shown.1 idle.1
-
-  pub party-idle : (views : List (Known C)) (n : ℕ) (ps : List (Place (Known C))) → SomeHas n ps → ShowAll views ps → AreIdle ps → (w : Known C) × (get_elem? views n ≡ some w) × IsIdle w.ledger
-  party-idle views n [] among shown idle = absurd among
-  party-idle views n (p ∷ ps) (inl (inl is)) shown idle = (p.own, subst (λ (x : ℕ). get_elem? views x ≡ some p.own) is shown.0.0, idle.0)
-  party-idle views n (p ∷ ps) (inl (inr among)) shown idle = kept-idle views n p.joined among shown.0.1 idle.1
-  party-idle views n (p ∷ ps) (inr among) shown idle = party-idle views n ps among shown.1 idle.2
 
 -- a shard of a closed cache
 module _ {C : Type 0} (m : Meanings C) (cache : Cache) (ps : List (Place (Known C))) (e : Ended C) (ends : Ends m cache ps e) (i : ℕ) (l : ShardLog) (at : get_elem? e.shards i ≡ some l)

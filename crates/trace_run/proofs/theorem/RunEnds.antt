@@ -55,7 +55,7 @@ use Rattle.trace_run.specs.Openings.{Knows, openings_of}
 use Rattle.trace_run.specs.Restores.{events_by_feeder, restores_in}
 use Rattle.trace_run.specs.RunWork.{IsRunWork, RunWork, acts_by, acts_of_caller_lines, acts_of_syncs, kept_after_lines, lines_of_caller, noted_by, noted_of_syncs}
 use Rattle.trace_run.specs.callers.GroupRun.{HaveClosed, HaveStopped}
-use Rattle.trace_run.specs.callers.Groups.{HaveCome}
+use Rattle.trace_run.specs.callers.Groups.{HaveCome, AreMakers}
 use Rattle.trace_run.specs.Syncing.{inserts_noted}
 use Rattle.trace_run.specs.callers.Together.{AreCut, IsCut, IsCutLast, events_at_end, over_callers, reads_of_caller}
 use Rattle.trace_run.specs.callers.WorkLines.{AnswersLines, AreLinesOf, calls_of_lines, noted_of_work}
@@ -73,6 +73,9 @@ use Rattle.trace_run.proofs.theorem.AnsweredCells.{EndsFrom, all-by-cells, goes-
 use Rattle.trace_run.proofs.theorem.EndLemmas.{shown-at}
 use Rattle.trace_run.proofs.theorem.LineAnswers.{IsOfOne, lines-answered, own-lines-of}
 use Rattle.trace_run.proofs.theorem.WorkEnds.{HasEndedWork, IsCallersAct, acts-same, own-told, reads-counted, work-explains, work-level}
+use Rattle.trace_run.proofs.deeds.MakesLemmas.{later-then}
+use Rattle.trace_run.specs.MadeLines.{IsMaker}
+use Rattle.trace_run.proofs.callers.MakerLemmas.{maker-before}
 
 -- ---- lines that are not answered add nothing
 
@@ -140,15 +143,16 @@ drops-are g blocks shard n (k ∷ ks) os rs each =
 
 -- ---- cuts of a front are cuts of the whole
 
-pub one-cut-more : (g : Config) (restored : List Restored) (blocks : List Ptr) (shard : ℕ) (lines : List Line) (fs : List FeedDone) (acts : List Act) (here : List Event → List Event) (front history : List Event) → StartsWith history front
-    → IsCut g restored blocks shard lines fs acts here front → IsCut g restored blocks shard lines fs acts here history
-one-cut-more g restored blocks shard lines fs acts here front history starts c = record {
+pub one-cut-more : (g : Config) (restored : List Restored) (blocks : List Ptr) (shard : ℕ) (owner : (place : ℕ) → ℕ) (lines : List Line) (fs : List FeedDone) (acts : List Act) (here : List Event → List Event) (front history : List Event) → StartsWith history front
+    → IsCut g restored blocks shard owner lines fs acts here front → IsCut g restored blocks shard owner lines fs acts here history
+one-cut-more g restored blocks shard owner lines fs acts here front history starts c = record {
   front = c.front;
   rest = c.rest ++ starts.0;
   whole = starts.1 ∙ (ap (λ (es : List Event). es ++ starts.0) c.whole
       ∙ (append_assoc c.front (here c.front ++ c.rest) starts.0 ∙ ap (λ (es : List Event). c.front ++ es) (append_assoc (here c.front) c.rest starts.0)));
   callers = c.callers;
   feeder = c.feeder;
+  cells = c.cells;
   inserted = c.inserted;
 }
 
@@ -338,6 +342,10 @@ module _ (cache : Cache) (valid : IsConfig cache.config) (restored : List Restor
   pub did-work : IsRunWork g os rs ended-work
   did-work = record { lines = come.did.lines; fits = come.did.fits; stopped = come.did.stopped; fed = come.did.fed; ended = c.ended.are }
 
+  -- each party that closed the cache made what it is the owner of
+  abbrev pub HaveMade : ((shard place : ℕ) → ℕ) → Type 0
+  HaveMade owner = (i : ℕ) (l : ShardLog) → get_elem? closed.shards i ≡ some l → (n : ℕ) (p : PartyPlace) → get_elem? h.closing n ≡ some p → IsMaker g i (owner i) n p
+
   -- ---- the cells
 
   module _ (trace : Trace) (config : g ≡ trace.config) (knows : Knows (openings_of trace) crew.feeder) where
@@ -366,8 +374,8 @@ module _ (cache : Cache) (valid : IsConfig cache.config) (restored : List Restor
     emptied : (j : ℕ) (x : OnHeap) → get_elem? closed.cells j ≡ some x → dbuf_meanings.holds x ≡ []
     emptied = all-empty cache h.closing closed h.ends trace noted run-cells
 
-    -- The histories explain the replies and the work.
-    pub run-explains : Explain (record { config = g; blocks = blocks; objects = []; ops = os ++ more }) restored ended-work rs (ends_in closed) (histories_of closed)
+    -- The histories explain the replies and the work, where each party that closed the cache made what it is the owner of.
+    pub run-explains : (x : Explain (record { config = g; blocks = blocks; objects = []; ops = os ++ more }) restored ended-work rs (ends_in closed) (histories_of closed)) × HaveMade (λ i. x.owner i)
     run-explains = work-explains dbuf_meanings cache restored blocks (os ++ more) ended-work rs h.closing closed h.ends count ended emptied begins-at ends-at
 
   -- ---- the reads of the pool
@@ -388,15 +396,7 @@ module _ (cache : Cache) (valid : IsConfig cache.config) (restored : List Restor
       (own-told dbuf_meanings cache restored blocks (os ++ more) ended-work rs h.closing closed h.ends count ended n below i es at)) in
       sym (ap (λ (l : List Act). sum_by reads_of_act (filter (λ act. actor_of act == n) l)) (caller-acts n below) ∙ (caller-owns n below).count) ∙ all
 
-  -- ---- cuts, and answers
-
-  pub run-cut : (i : ℕ) (l : ShardLog) → get_elem? closed.shards i ≡ some l → AreCut g restored blocks i ended-work l.history
-  run-cut i l at =
-      let inside : i < g.shards = subst (λ (k : ℕ). i < k) h.ends.shards (within closed.shards i l at) in
-      λ k x there_is ends. one-cut-more g restored blocks i (take k work.lines) work.feeds x.work.acts (events_at_end g i x.op x.work.noted) (seen_of g i crew.feeder) l.history (since i l at) (come.cut i inside k x there_is ends)
-
-  pub run-cut-last : (i t : ℕ) (l : ShardLog) → get_elem? closed.shards i ≡ some l → IsCutLast g restored blocks i t work (seen_of g i crew.feeder) → IsCutLast g restored blocks i t ended-work l.history
-  run-cut-last i t l at last = one-cut-more g restored blocks i work.lines work.feeds work.stopped.acts (inserts_noted g t work.stopped.noted i) (seen_of g i crew.feeder) l.history (since i l at) last
+  -- ---- answers
 
   pub run-answers : ((k : ℕ) (op : Op) → slice_get os k ≡ Some op → (n : ℕ) → caller_of op ≡ Some n → n < g.callers) → AnswersAll len image blocks os rs
   run-answers below = lines-answered g len image place blocks (λ n. (party-at n).own.about.openings) (λ n. (party-at n).own.seen) (λ n. n < g.callers) os rs work.lines come.did.lines below come.ended line-answers
@@ -408,6 +408,7 @@ module _ (cache : Cache) (valid : IsConfig cache.config) (restored : List Restor
     about = second.about ∙ first.about;
     fronts = λ i range. starts-then (front_of i r.own.seen) (front_of i q.own.seen) (front_of i p.own.seen) (second.fronts i range) (first.fronts i range);
     shards = λ shard. starts-then (front_of (turn_of g shard) r.own.seen) (front_of (turn_of g shard) q.own.seen) (front_of (turn_of g shard) p.own.seen) (second.shards shard) (first.shards shard);
+    older = later-then g p q r first.shards first.older second.older;
   }
 
   kept-cells : (olds news : List PartyPlace) (n : ℕ) (p : PartyPlace) → AllKeepCells g olds news → get_elem? olds n ≡ some p → (q : PartyPlace) × (get_elem? news n ≡ some q) × KeepsCells g p q
@@ -424,6 +425,39 @@ module _ (cache : Cache) (valid : IsConfig cache.config) (restored : List Restor
   parted-cells (o ∷ os) [] n p parted stand at = absurd parted
   parted-cells (o ∷ os) (x ∷ xs) zero p parted stand at = (x, refl, subst (λ (y : PartyPlace). KeepsCells g y x) (some-injective o p at) (parted.0.same [] (stand 0 o refl)).keeps)
   parted-cells (o ∷ os) (x ∷ xs) (suc n) p parted stand at = parted-cells os xs n p parted.1 (λ k q is. stand (suc k) q is) at
+
+  -- ---- cuts
+
+  last-at : get_elem? h.closing g.callers ≡ some c.last
+  last-at = ap (λ (l : List PartyPlace). get_elem? l g.callers) c.then ∙ (ap (get_elem? (c.parted ++ c.last ∷ [])) (sym many-parted) ∙ get_last c.parted c.last)
+    where
+      many-parted : length c.parted ≡ g.callers
+      many-parted = same-long cache c.ended.lines c.callers c.parted c.ended.parted ∙ many
+
+  -- what a party that closed the cache made of what it had seen between the groups it had made by then
+  makers-then : (owner : (shard place : ℕ) → ℕ) → HaveMade owner → (i : ℕ) (l : ShardLog) → get_elem? closed.shards i ≡ some l → AreMakers g i (owner i) crew
+  makers-then owner made i l at = record {
+    callers = λ n p is.
+        let q = kept-cells crew.parties.items gave.callers n p gave.cells is in
+        let there_is : get_elem? c.callers n ≡ some q.0 = ap (λ (l : List PartyPlace). get_elem? l n) same-parties.0 ∙ q.1 in
+        let r = parted-cells c.callers c.parted n q.0 c.ended.parted (λ k o at. (caller-waits k o at).1.stands) there_is in
+        let last : get_elem? h.closing n ≡ some r.0 = ap (λ (l : List PartyPlace). get_elem? l n) c.then ∙ get_front c.parted (c.last ∷ []) n r.0 r.1 in
+        maker-before g i (owner i) n p r.0 (starts-cells p q.0 r.0 q.2 r.2) (made i l at n r.0 last);
+    feeder =
+        let keeps : KeepsCells g crew.feeder c.feeder = subst (KeepsCells g crew.feeder) (sym same-parties.1) gave.fed_cells in
+        maker-before g i (owner i) g.callers crew.feeder c.last (starts-cells crew.feeder c.feeder c.last keeps c.ended.keeps) (made i l at g.callers c.last last-at);
+  }
+
+  pub run-cut : (owner : (shard place : ℕ) → ℕ) → HaveMade owner → (i : ℕ) (l : ShardLog) → get_elem? closed.shards i ≡ some l → AreCut g restored blocks i (owner i) ended-work l.history
+  run-cut owner made i l at =
+      let inside : i < g.shards = subst (λ (k : ℕ). i < k) h.ends.shards (within closed.shards i l at) in
+      λ k x there_is ends. one-cut-more g restored blocks i (owner i) (take k work.lines) work.feeds x.work.acts (events_at_end g i x.op x.work.noted) (seen_of g i crew.feeder) l.history (since i l at)
+      (come.cut i inside (owner i) (makers-then owner made i l at) k x there_is ends)
+
+  pub run-cut-last : (owner : (shard place : ℕ) → ℕ) → HaveMade owner → (i t : ℕ) (l : ShardLog) → get_elem? closed.shards i ≡ some l → (AreMakers g i (owner i) crew → IsCutLast g restored blocks i (owner i) t work (seen_of g i crew.feeder))
+      → IsCutLast g restored blocks i (owner i) t ended-work l.history
+  run-cut-last owner made i t l at last =
+      one-cut-more g restored blocks i (owner i) work.lines work.feeds work.stopped.acts (inserts_noted g t work.stopped.noted i) (seen_of g i crew.feeder) l.history (since i l at) (last (makers-then owner made i l at))
 
   -- the cache was closed with parties that have seen of cells at least what callers had
   caller-ends : (n : ℕ) → n < g.callers → (w : Known OnHeap) × (get_elem? h.ends.views n ≡ some w) × EndsFrom g (party-at n).own.about.openings (party-at n).own.seen w
@@ -457,11 +491,7 @@ module _ (cache : Cache) (valid : IsConfig cache.config) (restored : List Restor
   pub feeder-begins : (i : ℕ) (x : OnHeap) → slice_get closed.cells i ≡ Some x → StartsWith (map line.Entry (map event_numbers x.value.history)) (front_of i crew.feeder.own.seen)
   feeder-begins i x at =
       let range : IsCell g i = subst (λ (k : ℕ). i < k) h.ends.cells (slice_get_within closed.cells i x at) in
-      let last_at : get_elem? h.closing g.callers ≡ some c.last = ap (λ (l : List PartyPlace). get_elem? l g.callers) c.then ∙ (ap (get_elem? (c.parted ++ c.last ∷ [])) (sym many-parted) ∙ get_last c.parted c.last) in
-      let shown : get_elem? h.ends.views g.callers ≡ some c.last.own = subst (λ (k : ℕ). get_elem? h.ends.views k ≡ some c.last.own) (ended g.callers c.last last_at).number (shown-at h.ends.views h.closing g.callers c.last last_at h.ends.shown) in
+      let shown : get_elem? h.ends.views g.callers ≡ some c.last.own = subst (λ (k : ℕ). get_elem? h.ends.views k ≡ some c.last.own) (ended g.callers c.last last-at).number (shown-at h.ends.views h.closing g.callers c.last last-at h.ends.shown) in
       let feeder_front : StartsWith (front_of i c.feeder.own.seen) (front_of i crew.feeder.own.seen) = subst (λ (p : PartyPlace). StartsWith (front_of i p.own.seen) (front_of i crew.feeder.own.seen)) (sym same-parties.1) (gave.fed_cells.fronts i range) in
       starts-then (map line.Entry (map event_numbers x.value.history)) (front_of i c.last.own.seen) (front_of i crew.feeder.own.seen) (goes-on cache valid h.closing closed h.ends i x (get-of closed.cells i x at) g.callers c.last.own shown)
-      (starts-then (front_of i c.last.own.seen) (front_of i c.feeder.own.seen) (front_of i crew.feeder.own.seen) (c.ended.grows i range) feeder_front)
-    where
-      many-parted : length c.parted ≡ g.callers
-      many-parted = same-long cache c.ended.lines c.callers c.parted c.ended.parted ∙ many
+      (starts-then (front_of i c.last.own.seen) (front_of i c.feeder.own.seen) (front_of i crew.feeder.own.seen) (c.ended.keeps.fronts i range) feeder_front)

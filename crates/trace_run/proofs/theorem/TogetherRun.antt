@@ -63,7 +63,7 @@ use Rattle.trace_run.proofs.callers.GroupCounts.{over-add, over-one, over-same, 
 use Rattle.trace_run.proofs.callers.GroupRunLemmas.{all-callers}
 use Rattle.trace_run.proofs.callers.SyncRun.{in-groups-as, stood-then, stops-sync-as}
 use Rattle.trace_run.proofs.theorem.LineAnswers.{EndsWell, IsOfOne, end-lines, lines-replies, own-lines-of}
-use Rattle.trace_run.proofs.theorem.RunEnds.{did-work, ended-work, feeder-begins, feeder-lines, lines-long, run-answers, run-cells, run-counted, run-cut, run-cut-last, run-explains, run-kept, run-objects, run-reads, since}
+use Rattle.trace_run.proofs.theorem.RunEnds.{did-work, ended-work, feeder-begins, feeder-lines, lines-long, run-answers, run-cells, run-counted, run-cut, run-cut-last, run-explains, run-kept, run-objects, run-reads, since, HaveMade}
 
 -- ---- what the callers' replies tell is what all replies tell
 
@@ -154,8 +154,8 @@ index-history (x ∷ xs) zero l at = ap (λ (log : ShardLog). log.history) (some
 index-history (x ∷ xs) (suc i) l at = index-history xs i l at
 
 -- the mappings of a trace are not looked at
-mapped : (trace : Trace) (restored : List Restored) (work : RunWork) (rs : List Reply) (closed : Ended OnHeap) → Explain (record trace { objects = [] }) restored work rs (ends_in closed) (histories_of closed) → Explain trace restored work rs (ends_in closed) (histories_of closed)
-mapped trace restored work rs closed e = record { shards = e.shards; legal = e.legal; ends = e.ends; at_rest = e.at_rest; begins = e.begins; every_call = e.every_call; made = e.made; ending = e.ending }
+abbrev mapped : (trace : Trace) (restored : List Restored) (work : RunWork) (rs : List Reply) (closed : Ended OnHeap) → Explain (record trace { objects = [] }) restored work rs (ends_in closed) (histories_of closed) → Explain trace restored work rs (ends_in closed) (histories_of closed)
+mapped trace restored work rs closed e = record { shards = e.shards; legal = e.legal; ends = e.ends; at_rest = e.at_rest; begins = e.begins; every_call = e.every_call; owner = e.owner; made = e.made; ending = e.ending }
 
 module _ {P D : Type 0} (cache : Cache) (pools : Ghosts P) (devices : Devices D) (before after : P) (place : ℕ) (trace : Trace) (formed : IsFormed trace) (config : cache.config ≡ trace.config) (valid : IsConfig cache.config)
     (was is : Device D) (ending : Ending) (restored : List Restored) (rs : List Reply) (work : RunWork) (crew : Crew OnHeap) (d : AreDone cache restored pools devices trace (between_groups before 1 place) after was is ending rs work crew)
@@ -200,10 +200,18 @@ module _ {P D : Type 0} (cache : Cache) (pools : Ghosts P) (devices : Devices D)
   kept-are : AreEndedSo trace.config 0 closed.cells done-work.ended
   kept-are = subst (λ (g : Config). AreEndedSo g 0 closed.cells done-work.ended) config (run-kept cache valid restored (pools.size before) (pools.told before) place trace.blocks os more rs work crew come closed h trace config d.reached.knows)
 
-  explained : Explain trace restored done-work rs (ends_in closed) (histories_of closed)
-  explained = mapped trace restored done-work rs closed
-      (subst (λ (x : Config × List Op). Explain (record { config = x.0; blocks = trace.blocks; objects = []; ops = x.1 }) restored done-work rs (ends_in closed) (histories_of closed)) (λ i. (config i, whole-ops i))
-      (run-explains cache valid restored (pools.size before) (pools.told before) place trace.blocks os more rs work crew come closed h trace config d.reached.knows))
+  abbrev Made : ((shard place : ℕ) → ℕ) → Type 0
+  Made owner = HaveMade cache valid restored (pools.size before) (pools.told before) place trace.blocks os more rs work crew come closed h owner
+
+  -- each party that closed the cache made what it is the owner of
+  pub explained-made : (x : Explain trace restored done-work rs (ends_in closed) (histories_of closed)) × Made x.owner
+  explained-made =
+      let is = subst (λ (x : Config × List Op). (y : Explain (record { config = x.0; blocks = trace.blocks; objects = []; ops = x.1 }) restored done-work rs (ends_in closed) (histories_of closed)) × Made y.owner) (λ i. (config i, whole-ops i))
+      (run-explains cache valid restored (pools.size before) (pools.told before) place trace.blocks os more rs work crew come closed h trace config d.reached.knows) in
+      (mapped trace restored done-work rs closed is.0, is.1)
+
+  abbrev pub explained : Explain trace restored done-work rs (ends_in closed) (histories_of closed)
+  explained = explained-made.0
 
   counted-at : (n : ℕ) → n < callers → length (calls_of_lines (lines_of_caller n work.lines)) ≡ reads_of_caller n (histories_of closed)
   counted-at = run-counted cache valid restored (pools.size before) (pools.told before) place trace.blocks os more rs work crew come closed h
@@ -300,14 +308,14 @@ module _ {P D : Type 0} (cache : Cache) (pools : Ghosts P) (devices : Devices D)
       cut = λ shard below.
           let l = there closed.shards shard (subst (λ (n : ℕ). shard < n) (length-map closed.shards (λ (log : ShardLog). log.history)) below) in
           let here : slice_index_or (histories_of closed) shard [] ≡ l.0.history = index-history closed.shards shard l.0 l.1 in
-          subst (λ (x : Config × List Event × List Restored). AreCut x.0 x.2 trace.blocks shard done-work x.1) (λ i. (config i, sym here i, sym found i))
-          (run-cut cache valid restored (pools.size before) (pools.told before) place trace.blocks os more rs work crew come closed h shard l.0 l.1);
+          subst (λ (x : Config × List Event × List Restored). AreCut x.0 x.2 trace.blocks shard (explained.owner shard) done-work x.1) (λ i. (config i, sym here i, sym found i))
+          (run-cut cache valid restored (pools.size before) (pools.told before) place trace.blocks os more rs work crew come closed h explained.owner explained-made.1 shard l.0 l.1);
       last = λ t stopped shard below.
           let l = there closed.shards shard (subst (λ (n : ℕ). shard < n) (length-map closed.shards (λ (log : ShardLog). log.history)) below) in
           let here : slice_index_or (histories_of closed) shard [] ≡ l.0.history = index-history closed.shards shard l.0 l.1 in
           let inside : shard < cache.config.shards = subst (λ (n : ℕ). shard < n) h.ends.shards (within closed.shards shard l.0 l.1) in
-          subst (λ (x : Config × List Event × List Restored). IsCutLast x.0 x.2 trace.blocks shard t done-work x.1) (λ i. (config i, sym here i, sym found i))
-          (run-cut-last cache valid restored (pools.size before) (pools.told before) place trace.blocks os more rs work crew come closed h shard t l.0 l.1 (d.last t stopped shard inside));
+          subst (λ (x : Config × List Event × List Restored). IsCutLast x.0 x.2 trace.blocks shard (explained.owner shard) t done-work x.1) (λ i. (config i, sym here i, sym found i))
+          (run-cut-last cache valid restored (pools.size before) (pools.told before) place trace.blocks os more rs work crew come closed h explained.owner explained-made.1 shard t l.0 l.1 (d.last t stopped shard inside (explained.owner shard)));
     };
     used = λ several. subst (λ (g : Config). UsedInGroups devices trace.blocks g.callers (groups_done ending work.lines) work.feeds (lent_in was) (lent_in is)) config (d.reached.used (subst (λ (g : Config). 2 ≤ g.callers) (sym config) several));
     stopped = stops ending d.ended;
@@ -336,3 +344,8 @@ module _ {P D : Type 0} (cache : Cache) (pools : Ghosts P) (devices : Devices D)
   pub place-is : group-together.place ≡ place
   unfolding group-together
   place-is = refl
+
+  -- and its owners
+  pub owner-is : group-together.explained.owner ≡ explained.owner
+  unfolding group-together
+  owner-is = refl

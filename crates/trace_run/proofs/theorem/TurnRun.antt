@@ -28,12 +28,12 @@ use Rattle.trace_run.specs.RunWork.{RunWork}
 use Rattle.trace_run.specs.callers.GroupRun.{HaveClosed}
 use Rattle.trace_run.specs.callers.Groups.{HaveCome}
 use Rattle.trace_run.specs.callers.Together.{report_of_closed, AreCut, IsCutLast, between_groups}
-use Rattle.trace_run.proofs.theorem.RunEnds.{ended-work, run-counted, run-cut, run-cut-last}
+use Rattle.trace_run.proofs.theorem.RunEnds.{ended-work, run-counted, run-cut, run-cut-last, HaveMade}
 use Rattle.trace_text.specs.declared.rebuilt.Rebuilt.{Rebuilt}
 use Rattle.trace_run.specs.one_caller.InTurn.{AreDoneInTurn, RunsInTurn}
 use Rattle.trace_run.specs.one_caller.Sequence.{AreInSequence, begins_so}
 use Rattle.trace_run.proofs.theorem.SequenceClose.{closes-there}
-use Rattle.trace_run.proofs.theorem.TogetherRun.{group-together, index-history, place-is}
+use Rattle.trace_run.proofs.theorem.TogetherRun.{group-together, index-history, place-is, explained, explained-made, owner-is}
 
 module _ {P D : Type 0} (cache : Cache) (pools : Ghosts P) (devices : Devices D) (before after : P) (place : ℕ) (trace : Trace) (formed : IsFormed trace) (config : cache.config ≡ trace.config) (valid : IsConfig cache.config) (one : cache.config.callers ≡ 1)
     (was is : Device D) (ending : Ending) (restored : List Restored) (rs : List Reply) (work : RunWork) (crew : Crew OnHeap) (d : AreDoneInTurn cache restored pools devices trace (between_groups before 1 place) after was is ending rs work crew)
@@ -50,7 +50,14 @@ module _ {P D : Type 0} (cache : Cache) (pools : Ghosts P) (devices : Devices D)
   abbrev pub done-work : RunWork
   done-work = ended-work cache valid restored (pools.size before) (pools.told before) place trace.blocks os more rs work crew come closed h
 
-  pub runs-in-turn : (rebuilt : Option Rebuilt) → found_keys rebuilt ≡ restored → RunsInTurn pools devices before after (lent_in was) (lent_in is) place trace ending done-work closed.cells (report_of_closed ending rebuilt rs closed)
+  -- the owners of events, and that each party made what it is the owner of
+  abbrev owner : (shard place : ℕ) → ℕ
+  owner = (explained cache pools devices before after place trace formed config valid was is ending restored rs work crew d.done closed h).owner
+
+  made : HaveMade cache valid restored (pools.size before) (pools.told before) place trace.blocks os more rs work crew come closed h owner
+  made = (explained-made cache pools devices before after place trace formed config valid was is ending restored rs work crew d.done closed h).1
+
+  pub runs-in-turn : (rebuilt : Option Rebuilt) → found_keys rebuilt ≡ restored → RunsInTurn pools devices before after (lent_in was) (lent_in is) place trace ending done-work owner closed.cells (report_of_closed ending rebuilt rs closed)
   runs-in-turn rebuilt found = record {
     reached = d.at;
     lines = subst (λ (l : List Restored). AreInSequence pools devices trace work.lines work.feeds (begins_so trace.config l (between_groups before 1 place) (lent_in was)) d.at) (sym found) d.lines;
@@ -63,18 +70,18 @@ module _ {P D : Type 0} (cache : Cache) (pools : Ghosts P) (devices : Devices D)
     cut = λ shard below.
         let l = there closed.shards shard (subst (λ (n : ℕ). shard < n) (length-map closed.shards (λ (log : ShardLog). log.history)) below) in
         let here : slice_index_or (histories_of closed) shard [] ≡ l.0.history = index-history closed.shards shard l.0 l.1 in
-        subst (λ (x : Config × List Event × List Restored). AreCut x.0 x.2 trace.blocks shard done-work x.1) (λ i. (config i, sym here i, sym found i))
-        (run-cut cache valid restored (pools.size before) (pools.told before) place trace.blocks os more rs work crew come closed h shard l.0 l.1);
+        subst (λ (x : Config × List Event × List Restored). AreCut x.0 x.2 trace.blocks shard (owner shard) done-work x.1) (λ i. (config i, sym here i, sym found i))
+        (run-cut cache valid restored (pools.size before) (pools.told before) place trace.blocks os more rs work crew come closed h owner made shard l.0 l.1);
     last = λ t stopped shard below.
         let l = there closed.shards shard (subst (λ (n : ℕ). shard < n) (length-map closed.shards (λ (log : ShardLog). log.history)) below) in
         let here : slice_index_or (histories_of closed) shard [] ≡ l.0.history = index-history closed.shards shard l.0 l.1 in
         let inside : shard < cache.config.shards = subst (λ (n : ℕ). shard < n) h.ends.shards (within closed.shards shard l.0 l.1) in
-        subst (λ (x : Config × List Event × List Restored). IsCutLast x.0 x.2 trace.blocks shard t done-work x.1) (λ i. (config i, sym here i, sym found i))
-        (run-cut-last cache valid restored (pools.size before) (pools.told before) place trace.blocks os more rs work crew come closed h shard t l.0 l.1 (d.done.last t stopped shard inside));
+        subst (λ (x : Config × List Event × List Restored). IsCutLast x.0 x.2 trace.blocks shard (owner shard) t done-work x.1) (λ i. (config i, sym here i, sym found i))
+        (run-cut-last cache valid restored (pools.size before) (pools.told before) place trace.blocks os more rs work crew come closed h owner made shard t l.0 l.1 (d.done.last t stopped shard inside (owner shard)));
   }
 
   -- with the place that the run names
   pub runs-at : (rebuilt : Option Rebuilt) → found_keys rebuilt ≡ restored
-      → RunsInTurn pools devices before after (lent_in was) (lent_in is) (group-together cache pools devices before after place trace formed config valid was is ending restored rs work crew d.done closed h).place trace ending done-work closed.cells (report_of_closed ending rebuilt rs closed)
-  runs-at rebuilt found = subst (λ (p : ℕ). RunsInTurn pools devices before after (lent_in was) (lent_in is) p trace ending done-work closed.cells (report_of_closed ending rebuilt rs closed))
-      (sym (place-is cache pools devices before after place trace formed config valid was is ending restored rs work crew d.done closed h)) (runs-in-turn rebuilt found)
+      → RunsInTurn pools devices before after (lent_in was) (lent_in is) (group-together cache pools devices before after place trace formed config valid was is ending restored rs work crew d.done closed h).place trace ending done-work (group-together cache pools devices before after place trace formed config valid was is ending restored rs work crew d.done closed h).explained.owner closed.cells (report_of_closed ending rebuilt rs closed)
+  runs-at rebuilt found = subst (λ (x : ℕ × ((shard place : ℕ) → ℕ)). RunsInTurn pools devices before after (lent_in was) (lent_in is) x.0 trace ending done-work x.1 closed.cells (report_of_closed ending rebuilt rs closed))
+      (λ i. (sym (place-is cache pools devices before after place trace formed config valid was is ending restored rs work crew d.done closed h) i, sym (owner-is cache pools devices before after place trace formed config valid was is ending restored rs work crew d.done closed h) i)) (runs-in-turn rebuilt found)

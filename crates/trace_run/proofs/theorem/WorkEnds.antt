@@ -31,7 +31,6 @@ use Rattle.arc_table.specs.declared.about.About.{About}
 use Rattle.arc_table.specs.declared.view.Known.{Known}
 use Rattle.arc_table.specs.Cache.{Cache}
 use Rattle.arc_table.specs.Ended.{Ended, Ends}
-use Rattle.arc_table.specs.Fronts.{StartsWith}
 use Rattle.arc_table.specs.Geometry.{numbers_of, parties_of}
 use Rattle.arc_table.specs.Items.{Meanings}
 use Rattle.arc_table.specs.pact.Logged.{IsSoundLog}
@@ -54,7 +53,7 @@ use Rattle.trace_run.specs.Restores.{events_by_feeder, restores_in}
 use Rattle.trace_run.specs.RunWork.{AreMadeBy, RunWork, acts_by, acts_of_cells, noted_by, own_acts}
 use Rattle.trace_run.proofs.one_caller.TellLemmas.{all-append, all-map}
 use Rattle.trace_run.proofs.deeds.DeedLemmas.{acts-append}
-use Rattle.trace_run.proofs.theorem.CellActs.{HasMade, acts-else, acts-here, acts-low, cell-tells, made-by, number-there, owner-party, owner-seen, pass-named, pass-own, pass-placed, stands-there}
+use Rattle.trace_run.proofs.theorem.CellActs.{HasMade, acts-else, acts-here, acts-low, cell-tells, made-by, number-there, owner-party, owner-seen, pass-named, pass-own, pass-placed, stands-there, maker-there}
 use Rattle.trace_run.proofs.theorem.CloseLemmas.{closed-finds, closed-legal, closed-now, closed-sound, closed-told}
 use Rattle.trace_run.specs.callers.Together.{over_callers, reads_of_caller}
 use Rattle.trace_run.proofs.callers.GroupCounts.{all-reads}
@@ -63,6 +62,7 @@ use Rattle.trace_run.proofs.theorem.FeederKinds.{feeder-kinds, is_of_feeder}
 use Rattle.trace_run.proofs.theorem.HistoryLemmas.{all-events, own-events}
 use Rattle.trace_run.proofs.theorem.PlacedLemmas.{all-by-place, placed-of}
 use Rattle.trace_run.proofs.theorem.RestLemmas.{closed-rests, settled-picked}
+use Rattle.trace_run.specs.MadeLines.{IsMaker}
 
 -- ---- which events may stand in a history
 
@@ -484,10 +484,6 @@ module _ {C : Type 0} (m : Meanings C) (cache : Cache) (restored : List Restored
       let log = history-of e.shards i h at in
       subst (λ (es : List Event). Tell (acts_in shard_is i n (did n)) (own_moments n (moments (opening_of settled) es))) log.2 (caller-told i log.0 log.1 n below)
 
-  -- A history begins with what a party has seen of it.
-  pub begins-seen : (i : ℕ) (l : ShardLog) → get_elem? e.shards i ≡ some l → (n : ℕ) (p : Place (Known C)) → get_elem? ps n ≡ some p → StartsWith l.history (seen_of settled i p)
-  begins-seen i l at n p is = let f = finds i l at n p is in (f.rest, f.whole)
-
   -- The callers' events stand for all reads of the pool.
   pub reads-counted : over_callers settled.callers (λ n. reads_of_caller n histories) ≡ sum_by pool_reads histories
   reads-counted = all-reads settled.callers histories
@@ -504,19 +500,35 @@ module _ {C : Type 0} (m : Meanings C) (cache : Cache) (restored : List Restored
     passes = all-logs (λ h. IsTrue (are_passes_placed h)) e.shards (λ i l at. placed i l at);
   }
 
-  -- The histories explain the replies and the work, where each begins with the restores and ends with the drops at the end of the run.
+  abbrev owner : (shard place : ℕ) → ℕ
+  owner shard place = ends.pact.scene.owner (turn_of settled shard) place
+
+  -- each party made what it is the owner of
+  maker-of : (i : ℕ) (l : ShardLog) → get_elem? e.shards i ≡ some l → (n : ℕ) (p : Place (Known C)) → get_elem? ps n ≡ some p → IsMaker settled i (owner i) n p
+  unfolding made party
+  maker-of i l at n p is =
+      let below : n < parties_of settled = subst (λ (x : ℕ). n < x) long (within ps n p is) in
+      subst (IsMaker settled i (owner i) n) (some-injective (party n below).0 p (sym (party n below).1 ∙ is)) (maker-there m cache ps e ends config did (noted_by settled work) made i l at n below)
+
+  -- The histories explain the replies and the work, where each begins with the restores and ends with the drops at the end of the run. The owners of events are those that
+  -- made them.
   pub work-explains : ((j : ℕ) (c : C) → get_elem? e.cells j ≡ some c → m.holds c ≡ []) → ((i : ℕ) (l : ShardLog) → get_elem? e.shards i ≡ some l → BeginsWith l.history (restores_in settled restored i))
       → ((i : ℕ) (l : ShardLog) → get_elem? e.shards i ≡ some l → EndsWith l.history (drops_at_end settled blocks i settled.callers ops replies ++ events_there settled i work.ended))
-      → Explain (record { config = settled; blocks = blocks; objects = []; ops = ops }) restored work replies (map (λ log. end_of log.now) e.shards) histories
-  work-explains emptied begun_so ends_so = record {
-    shards = length-map e.shards (λ (log : ShardLog). log.history) ∙ ends.shards;
-    legal = all-logs (λ h. IsTrue (is_legal_history (opening_of settled) h)) e.shards (λ i l at. legal i l at);
-    ends = ends-of-logs settled e.shards (λ i l at. now i l at);
-    at_rest = all-logs (λ h. IsAtRest (replay (opening_of settled) h)) e.shards (λ i l at. subst IsAtRest (sym (now i l at)) (rests i l at emptied));
-    begins = λ i inside. let h = log-at e.shards i inside in subst (λ (es : List Event). BeginsWith es (restores_in settled restored i)) (sym h.2) (begun_so i h.0 h.1);
-    every_call = every-call;
-    made = λ i inside. let h = log-at e.shards i inside in subst (AreMadeBy settled i did) (sym h.2) (made-by m cache ps e ends config did (noted_by settled work) made i h.0 h.1);
-    ending = λ i inside.
-        let h = log-at e.shards i inside in
-        subst (λ (es : List Event). EndsWith es (drops_at_end settled blocks i settled.callers ops replies ++ events_there settled i work.ended)) (sym h.2) (ends_so i h.0 h.1);
-  }
+      → (x : Explain (record { config = settled; blocks = blocks; objects = []; ops = ops }) restored work replies (map (λ log. end_of log.now) e.shards) histories)
+      × ((i : ℕ) (l : ShardLog) → get_elem? e.shards i ≡ some l → (n : ℕ) (p : Place (Known C)) → get_elem? ps n ≡ some p → IsMaker settled i (x.owner i) n p)
+  work-explains emptied begun_so ends_so = (
+    record {
+      shards = length-map e.shards (λ (log : ShardLog). log.history) ∙ ends.shards;
+      legal = all-logs (λ h. IsTrue (is_legal_history (opening_of settled) h)) e.shards (λ i l at. legal i l at);
+      ends = ends-of-logs settled e.shards (λ i l at. now i l at);
+      at_rest = all-logs (λ h. IsAtRest (replay (opening_of settled) h)) e.shards (λ i l at. subst IsAtRest (sym (now i l at)) (rests i l at emptied));
+      begins = λ i inside. let h = log-at e.shards i inside in subst (λ (es : List Event). BeginsWith es (restores_in settled restored i)) (sym h.2) (begun_so i h.0 h.1);
+      every_call = every-call;
+      owner = owner;
+      made = λ i inside. let h = log-at e.shards i inside in subst (AreMadeBy settled i (owner i) did) (sym h.2) (made-by m cache ps e ends config did (noted_by settled work) made i h.0 h.1);
+      ending = λ i inside.
+          let h = log-at e.shards i inside in
+          subst (λ (es : List Event). EndsWith es (drops_at_end settled blocks i settled.callers ops replies ++ events_there settled i work.ended)) (sym h.2) (ends_so i h.0 h.1);
+    },
+    maker-of,
+  )

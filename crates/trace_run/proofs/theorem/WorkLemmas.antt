@@ -1,5 +1,5 @@
 -- Where no line did anything to a cell, the histories of a run explain its replies with lines that did nothing beside them.
-use Rattle.std.proofs.Common.{◌≡◌, ◌≢◌, ◌⊎◌, ℕ, zero, suc, ◌+◌, ◌<◌, ◌≤◌, ◌==◌, nat_le, Bool, true, false, if◌then◌else◌, IsTrue, List, [], ◌∷◌, ◌++◌, length, take, None, Option, Some, refl, sym, ap, ◌∙◌, subst, inl, inr, arith, append-nil, eq-eqb, ne_eqb}
+use Rattle.std.proofs.Common.{◌≡◌, ◌≢◌, ◌⊎◌, ℕ, zero, suc, ◌+◌, ◌<◌, ◌≤◌, ◌==◌, nat_le, true, false, if◌then◌else◌, IsTrue, List, [], ◌∷◌, ◌++◌, length, None, Option, Some, refl, sym, ap, ◌∙◌, subst, inl, inr, arith, append-nil, eq-eqb, ne_eqb}
 use Rattle.std.specs.Prelude.{filter, slice_get, slice_index_or}
 use Rattle.std.specs.List.{AllByRecursion, list_any}
 use Rattle.std.specs.Option.{option_map_or}
@@ -25,15 +25,13 @@ use Rattle.trace_text.specs.declared.op.Op.{Op}
 use Rattle.trace_text.specs.declared.op.Op.TheVariants as ops
 use Rattle.trace_text.specs.declared.reply.Reply.{Reply}
 use Rattle.trace_text.specs.declared.trace.Trace.{Trace}
-use Rattle.trace_run.specs.declared.ran.Ending.{Ending}
-use Rattle.trace_run.specs.declared.ran.Ending.TheVariants.{Whole, Fork, Sync, Full}
 use Rattle.trace_run.proofs.FurtherLemmas.{first-done, off-objects}
 use Rattle.trace_run.specs.Acts.{acts_of, acts_of_all, acts_of_caller, acts_of_callers, acts_of_drops}
 use Rattle.trace_run.specs.CellEnds.{AreCellsOf, ends_from}
 use Rattle.trace_run.specs.Deeds.{Noted, acts_of_events, with_number}
 use Rattle.trace_run.specs.Explaining.{EndsWith, Explain, ExplainReads, drops_at_end}
 use Rattle.trace_run.specs.KeptReads.{KeptRead}
-use Rattle.trace_run.specs.Lines.{caller_of, has_further, is_of_caller, is_further, replies_where}
+use Rattle.trace_run.specs.Lines.{caller_of, is_of_caller, is_further, replies_where}
 use Rattle.trace_run.specs.MadeLines.{owned_from}
 use Rattle.trace_run.specs.ObjectLines.{on_object}
 use Rattle.trace_run.specs.Objects.{Line, no_work}
@@ -41,7 +39,6 @@ use Rattle.trace_run.specs.Restores.{events_by_feeder}
 use Rattle.trace_run.specs.FeedEvents.{is_fed}
 use Rattle.trace_run.specs.Feeds.{is_feed}
 use Rattle.trace_run.specs.RunWork.{AreMadeBy, FitsBy, IsRunWork, IsSyncWork, acts_by, acts_of_caller_lines, acts_of_cells, kept_after_lines, lines_of_caller, lines_of_feeder, noted_by, only_ended, own_acts, plain_lines, plain_work}
-use Rattle.trace_run.specs.callers.Together.{answered_ops}
 use Rattle.trace_run.specs.callers.WorkLines.{AreLinesOf, acts_of_work, acts_with_op, noted_of_work}
 use Rattle.trace_run.specs.one_caller.OneCaller.{kept_after, kept_after_all}
 use Rattle.trace_run.proofs.callers.CallerActLemmas.{callers-none, own-lines}
@@ -192,9 +189,8 @@ module _ (g : Config) where
   party-at (e ∷ h) zero all inside = all.0
   party-at (e ∷ h) (suc x) all inside = party-at h x all.1 (omega (arith, inside))
 
-  plain-made : (blocks : List Ptr) (os : List Op) (rs : List Reply) (shard : ℕ) (h : List Event) → AreOfParties h → AreMadeBy g shard (acts_by g blocks (plain_work os rs)) h
+  plain-made : (blocks : List Ptr) (os : List Op) (rs : List Reply) (shard : ℕ) (h : List Event) → AreOfParties h → AreMadeBy g shard (number-at h) (acts_by g blocks (plain_work os rs)) h
   plain-made blocks os rs shard h all = record {
-    owner = number-at h;
     party = λ x inside. party-at h x all inside;
     own = λ x e at below. ap (λ (o : Option Event). option_map_or number_of o 0) at;
     acts = λ n i below range. ap acts_of_events (none-owned (number-at h) n (cell_number g i) 0 h all (omega arith)) ∙ sym (no-acts n i (lower n below));
@@ -262,6 +258,7 @@ module _ (trace : Trace) (restored : List Restored) (replies : List Reply) (ends
     at_rest = e.at_rest;
     begins = e.begins;
     every_call = subst (λ (acts : List Act). HoldEveryCallOnce g (shard_of g.shards) (opening_of g) acts (events_by_feeder g restored trace.ops replies []) histories) acts-same e.every_call;
+    owner = λ shard. number-at g (slice_index_or histories shard []);
     made = λ shard inside. plain-made g trace.blocks trace.ops replies shard (slice_index_or histories shard []) (of-parties shard inside);
     ending = λ shard inside. subst (EndsWith (slice_index_or histories shard [])) (sym (append-nil (drops_at_end g trace.blocks shard g.callers trace.ops replies))) (e.ending shard inside);
   }
@@ -346,31 +343,6 @@ module _ (g : Config) where
     | inl feeder ↦ rw feeder (sym (ap (λ (l : List Noted). (l ++ []) ++ ends_from n 0 g.cells) (feeder-noted os rs)))
     | inr other ↦ rw other (sym (ap noted_of_work (lines-plain n os rs) ∙ noted-none n (filter (is_of_caller n) os) (replies_where (is_of_caller n) os rs)))
   ]
-
--- the lines that were answered are the first of all
-plain-front : (os : List Op) (rs : List Reply) → plain_lines os rs ≡ plain_lines (take (length rs) os) rs
-plain-front [] [] = refl
-plain-front [] (r ∷ rs) = refl
-plain-front (o ∷ os) [] = refl
-plain-front (o ∷ os) (r ∷ rs) = ap (λ (l : List Line). record { op = o; reply = r; work = no_work } ∷ l) (plain-front os rs)
-
--- and all of them are done where all lines are
-front-done : (test : Op → Bool) (k : ℕ) (os : List Op) → list_any test os ≡ false → list_any test (take k os) ≡ false
-front-done test zero os none = refl
-front-done test (suc k) [] none = refl
-front-done test (suc k) (o ∷ os) none = let h = first-done test o os none in rw h.0 (front-done test k os h.1)
-
-front-work : (trace : Trace) (rs : List Reply) → has_further trace.ops ≡ false → length rs ≡ length (take (length rs) trace.ops) → IsRunWork trace.config (take (length rs) trace.ops) rs (plain_work trace.ops rs)
-front-work trace rs done same =
-    subst (λ (ls : List Line). IsRunWork trace.config (take (length rs) trace.ops) rs (record { lines = ls; stopped = no_work; feeds = []; ended = [] })) (sym (plain-front trace.ops rs))
-    (plain-is trace.config (take (length rs) trace.ops) rs same (front-done is_further (length rs) trace.ops done))
-
-pub plain-work : (trace t : Trace) (ending : Ending) (rs : List Reply) → t.ops ≡ trace.ops → has_further trace.ops ≡ false → length rs ≡ length (answered_ops t ending rs)
-    → IsRunWork trace.config (answered_ops trace ending rs) rs (plain_work trace.ops rs)
-plain-work trace t Whole rs same done long = plain-is trace.config trace.ops rs (long ∙ ap length same) done
-plain-work trace t Fork rs same done long = front-work trace rs done (long ∙ ap (λ (os : List Op). length (take (length rs) os)) same)
-plain-work trace t Sync rs same done long = front-work trace rs done (long ∙ ap (λ (os : List Op). length (take (length rs) os)) same)
-plain-work trace t (Full need left) rs same done long = front-work trace rs done (long ∙ ap (λ (os : List Op). length (take (length rs) os)) same)
 
 -- nothing was done to the cells but their ends
 pub cells-plain : (trace : Trace) (g : Config) → g.callers ≡ trace.config.callers → g.cells ≡ trace.config.cells → (os : List Op) (rs : List Reply) (closed : Ended OnHeap)

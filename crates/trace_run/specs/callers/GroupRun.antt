@@ -65,6 +65,6 @@ pub record RanTogether {P D : Type 0} (pools : Ghosts P) (devices : Devices D) (
   pub kept : AreEndedSo trace.config 0 closed.cells work.ended
   pub reads : pools.reads before < 2 ^ 63 → pools.reads after ≡ pools.reads before + sum_by pool_reads (histories_of closed)
   pub faults : pools.faults before < 2 ^ 63 → pools.faults after ≡ pools.faults before + faults_told ending replies
-  pub together : 2 ≤ trace.config.callers → (rebuilt : Option Rebuilt) → found_keys rebuilt ≡ restored → RunsTogether pools before after place told trace ending work closed.cells (report_of_closed ending rebuilt replies closed)
+  pub together : 2 ≤ trace.config.callers → (rebuilt : Option Rebuilt) → found_keys rebuilt ≡ restored → RunsTogether pools before after place told trace ending work explained.owner closed.cells (report_of_closed ending rebuilt replies closed)
   pub used : 2 ≤ trace.config.callers → UsedInGroups devices trace.blocks trace.config.callers (groups_done ending work.lines) work.feeds was is
   pub stopped : StopsSo pools before after trace replies ending

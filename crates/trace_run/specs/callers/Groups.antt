@@ -53,6 +53,9 @@ use Rattle.trace_run.specs.callers.DeviceForks.{UsedInGroups}
 use Rattle.trace_run.specs.callers.Looking.{HaveLooked}
 use Rattle.trace_run.specs.callers.WorkLines.{AnswersLines, AreLinesOf, HasFront, acts_of_work, calls_of_lines, noted_of_work}
 use Rattle.trace_run.specs.callers.Together.{AreCut, BeginsGroup, BetweenGroups, IsCutLast, IsFirstPlace, StoppedAt, StopsSync, WorkInGroups, between_groups, groups_done, over_callers}
+use Rattle.trace_run.specs.MadeLines.{IsMaker}
+use mathlib.Core.Option.{some}
+use lib.ListN.{get_elem?}
 
 -- the line gave a capacity, and is answered so; or it is a sync that is answered; or it asked for a feed, and is answered by its report, or by none
 abbrev pub IsEndLine : Op → Reply → Type 0
@@ -85,6 +88,11 @@ module _ {C : Type 0} where
     pub at : IsAt n crew.kept.items crew.parties.items reads party
     pub come : HasCome cache pool_len image place blocks n lines reads party
 
+  -- each place of a shard's history, as far as the parties of a crew have seen it, has the one of them as its owner that made what stands there
+  pub record AreMakers (g : Config) (shard : ℕ) (owner : (place : ℕ) → ℕ) (crew : Crew C) : Type 0 where
+    pub callers : (n : ℕ) (p : Place (Known C)) → get_elem? crew.parties.items n ≡ some p → IsMaker g shard owner n p
+    pub feeder : IsMaker g shard owner g.callers crew.feeder
+
   -- All callers and the feeder have come to this by these lines, with this work beside their replies, where these keys were restored. What the feeder
   -- has seen of each shard begins with the restores, and is cut by the lines that end groups.
   pub record HaveCome (cache : Cache) (restored : List Restored) (pool_len : ℕ) (image : Option (List ℕ)) (place : ℕ) (blocks : List Ptr) (ops : List Op) (replies : List Reply) (work : RunWork) (crew : Crew C) : Type 0 where
@@ -97,7 +105,7 @@ module _ {C : Type 0} where
     pub feeder : IsFed cache crew.feeder.own.about.openings (events_by_feeder cache.config restored ops replies work.feeds) (λ shard. seen_of cache.config shard crew.feeder)
         (acts_of_syncs cache.config blocks work) (noted_of_syncs work) crew.feeder
     pub begun : (shard : ℕ) → shard < cache.config.shards → StartsWith (seen_of cache.config shard crew.feeder) (restores_in cache.config restored shard)
-    pub cut : (shard : ℕ) → shard < cache.config.shards → AreCut cache.config restored blocks shard work (seen_of cache.config shard crew.feeder)
+    pub cut : (shard : ℕ) → shard < cache.config.shards → (owner : (place : ℕ) → ℕ) → AreMakers cache.config shard owner crew → AreCut cache.config restored blocks shard owner work (seen_of cache.config shard crew.feeder)
 
 -- What the pool counts once the callers did these lines, group by group; it tells what it told up to the place from which syncs write.
 pub record HaveCounted {P : Type 0} (pools : Ghosts P) (place callers : ℕ) (lines : List Line) (before now : P) : Type 0 where
@@ -216,7 +224,8 @@ pub record AreDone {P D : Type 0} (cache : Cache) (restored : List Restored) (po
   pub reached : HaveReached cache restored pools devices trace before now was is ending replies work crew
   pub ended : EndsLines pools cache trace replies crew.feeder work ending now after
   -- a sync that stopped has its place behind all lines
-  pub last : (t : ℕ) → StoppedAt trace replies ending t → (shard : ℕ) → shard < cache.config.shards → IsCutLast cache.config restored trace.blocks shard t work (seen_of cache.config shard crew.feeder)
+  pub last : (t : ℕ) → StoppedAt trace replies ending t → (shard : ℕ) → shard < cache.config.shards → (owner : (place : ℕ) → ℕ) → AreMakers cache.config shard owner crew
+      → IsCutLast cache.config restored trace.blocks shard owner t work (seen_of cache.config shard crew.feeder)
 
 -- the lines go on behind a group that came to this
 abbrev pub goes_on : Ending → Bool

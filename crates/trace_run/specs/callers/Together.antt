@@ -9,7 +9,7 @@ use Rattle.arc_core.specs.declared.event.Event.{Event}
 use Rattle.arc_core.specs.declared.event.Event.TheVariants.{Resize}
 use Rattle.arc_core.specs.declared.served.Restored.{Restored}
 use Rattle.arc_core.specs.Operations.{Act, Tell, acts_in, is_pool_read, moments, number_of, own_events, own_moments}
-use Rattle.arc_table.specs.Geometry.{IsCell, cell_number}
+use Rattle.arc_table.specs.Geometry.{IsCell, cell_number, parties_of}
 use Rattle.arc_table.specs.Telling.{opening_of}
 use Rattle.arc_table.specs.Ended.{Ended}
 use Rattle.dbuf_cells.specs.Turns.{OnHeap}
@@ -37,14 +37,14 @@ use Rattle.trace_run.specs.Answers.{is_pool_fault}
 use Rattle.trace_run.specs.CellEnds.{done_by}
 use Rattle.trace_run.specs.Deeds.{Noted, acts_of_events, events_of_cell, with_number}
 use Rattle.trace_run.specs.Feeds.{FeedDone}
-use Rattle.trace_run.specs.Lines.{is_of_caller, replies_where}
 use Rattle.trace_run.specs.Objects.{Line, Work, no_work, ops_of, replies_of}
 use Rattle.trace_run.specs.one_caller.PlainRun.{status_of}
 use Rattle.trace_run.specs.Restores.{events_by_feeder, found_keys}
-use Rattle.trace_run.specs.RunWork.{RunWork, lines_of_caller, lines_of_feeder}
+use Rattle.trace_run.specs.RunWork.{RunWork, lines_of_caller, lines_of_feeder, lines_of_party}
 use Rattle.trace_run.specs.Syncing.{inserts_noted, noted_of}
 use Rattle.trace_run.specs.callers.WorkLines.{acts_of_work, calls_of_lines, noted_of_work}
 use Rattle.vdev_io.specs.Calls.{MakesCalls}
+use Rattle.trace_run.specs.MadeLines.{owned_from}
 
 -- The report tells what the closed cache had: the history of each shard, and what the shard ends with.
 pub record TellsClosed {C : Type 0} (closed : Ended C) (report : Report) : Type 0 where
@@ -83,10 +83,6 @@ report_of_closed ending rebuilt replies closed = record {
   status = report_status ending replies;
   short = false;
 }
-
--- the replies to a caller's own operations
-abbrev pub replies_of_caller : (n : ℕ) → List Op → List Reply → List Reply
-replies_of_caller n ops replies = replies_where (is_of_caller n) ops replies
 
 -- f of each of the first so many callers, added up
 abbrev pub over_callers : (callers : ℕ) → (ℕ → ℕ) → ℕ
@@ -283,26 +279,28 @@ events_at_end config shard (Pin n t at) noted history = []
 events_at_end config shard (Unpin n at) noted history = []
 
 -- At one place in the history of a shard stand these events, which go by what stands before. Before it stands all that these lines did there, by these feeds, and nothing else that a caller
--- or the feeder did with its own number. These acts of the feeder with the numbers of cells stand there.
-pub record IsCut (config : Config) (restored : List Restored) (blocks : List Ptr) (shard : ℕ) (lines : List Line) (feeds : List FeedDone) (acts : List Act) (here : List Event → List Event) (history : List Event) : Type 0 where
+-- or the feeder did, with its own number or with that of a cell. These acts of the feeder with the numbers of cells stand there.
+pub record IsCut (config : Config) (restored : List Restored) (blocks : List Ptr) (shard : ℕ) (owner : (place : ℕ) → ℕ) (lines : List Line) (feeds : List FeedDone) (acts : List Act) (here : List Event → List Event) (history : List Event) : Type 0 where
   pub front : List Event
   pub rest : List Event
   pub whole : history ≡ front ++ (here front ++ rest)
   pub callers : (n : ℕ) → n < config.callers
       → Tell (acts_in (shard_of config.shards) shard n (acts_of_work config blocks [] (lines_of_caller n lines))) (own_moments n (moments (opening_of config) front))
   pub feeder : own_events config.callers front ≡ events_by_feeder config restored (ops_of lines) (replies_of lines) feeds shard
+  pub cells : (n i : ℕ) → n < parties_of config → IsCell config i → acts_of_events (with_number (cell_number config i) (owned_from owner n 0 front))
+      ≡ acts_in (shard_of config.shards) shard (cell_number config i) (acts_of_work config blocks [] (lines_of_party config n lines))
   pub inserted : (i : ℕ) → IsCell config i → acts_in (shard_of config.shards) shard (cell_number config i) acts ≡ acts_of_events (with_number (cell_number config i) (here front))
 
 -- Each line of these that ends a group cuts the history of a shard behind the lines before it. There stands what the line asks of the feeder.
-abbrev pub AreCut : Config → List Restored → List Ptr → (shard : ℕ) → RunWork → (history : List Event) → Type 0
-AreCut config restored blocks shard work history =
+abbrev pub AreCut : Config → List Restored → List Ptr → (shard : ℕ) → (owner : (place : ℕ) → ℕ) → RunWork → (history : List Event) → Type 0
+AreCut config restored blocks shard owner work history =
     (k : ℕ) (l : Line) → slice_get work.lines k ≡ Some l → ends_group l.op ≡ true
-    → IsCut config restored blocks shard (take k work.lines) work.feeds l.work.acts (events_at_end config shard l.op l.work.noted) history
+    → IsCut config restored blocks shard owner (take k work.lines) work.feeds l.work.acts (events_at_end config shard l.op l.work.noted) history
 
 -- So it is behind all lines, where a sync stopped there at this tick.
-abbrev pub IsCutLast : Config → List Restored → List Ptr → (shard tick : ℕ) → RunWork → (history : List Event) → Type 0
-IsCutLast config restored blocks shard tick work history =
-    IsCut config restored blocks shard work.lines work.feeds work.stopped.acts (inserts_noted config tick work.stopped.noted shard) history
+abbrev pub IsCutLast : Config → List Restored → List Ptr → (shard : ℕ) → (owner : (place : ℕ) → ℕ) → (tick : ℕ) → RunWork → (history : List Event) → Type 0
+IsCutLast config restored blocks shard owner tick work history =
+    IsCut config restored blocks shard owner work.lines work.feeds work.stopped.acts (inserts_noted config tick work.stopped.noted shard) history
 
 -- ---- the cells at a sync
 
@@ -325,13 +323,13 @@ pub record StoodThen (trace : Trace) (closed : List OnHeap) (before : List Line)
 
 -- With two callers or more, each has a fork of the pool in each group, made as the group begins; the first sync writes from this place on. Where one fails, that group isn't begun, and the
 -- pool has only counted that. Where a sync stops, the lines of its group are done, and none behind it is begun. By the lines' places this is what the pool told as the group of each began.
-pub record RunsTogether {P : Type 0} (pool : Ghosts P) (before after : P) (place : ℕ) (told : (k : ℕ) → Option (List ℕ)) (trace : Trace) (ending : Ending) (work : RunWork) (closed : List OnHeap) (report : Report) : Type 0 where
+pub record RunsTogether {P : Type 0} (pool : Ghosts P) (before after : P) (place : ℕ) (told : (k : ℕ) → Option (List ℕ)) (trace : Trace) (ending : Ending) (work : RunWork) (owner : (shard place : ℕ) → ℕ) (closed : List OnHeap) (report : Report) : Type 0 where
   pub reached : BetweenGroups P
   pub groups : WorkInGroups pool trace.config (StoodThen trace closed) told [] (groups_done ending work.lines) (between_groups before 1 place) reached
   pub ended : EndsRun pool trace.config (StoodThen trace closed) trace report.replies work.lines work.stopped ending reached after
   -- each caller's reads of its forks are those that its events stand for
   pub counted : (n : ℕ) → n < trace.config.callers → length (calls_of_lines (lines_of_caller n work.lines)) ≡ reads_of_caller n report.histories
   -- a capacity is given to each shard, and a sync done, once all lines before it are done, and before any line behind it is begun
-  pub cut : (shard : ℕ) → shard < length report.histories → AreCut trace.config (found_keys report.rebuilt) trace.blocks shard work (slice_index_or report.histories shard [])
+  pub cut : (shard : ℕ) → shard < length report.histories → AreCut trace.config (found_keys report.rebuilt) trace.blocks shard (owner shard) work (slice_index_or report.histories shard [])
   -- and so is a sync that stopped
-  pub last : (t : ℕ) → StoppedAt trace report.replies ending t → (shard : ℕ) → shard < length report.histories → IsCutLast trace.config (found_keys report.rebuilt) trace.blocks shard t work (slice_index_or report.histories shard [])
+  pub last : (t : ℕ) → StoppedAt trace report.replies ending t → (shard : ℕ) → shard < length report.histories → IsCutLast trace.config (found_keys report.rebuilt) trace.blocks shard (owner shard) t work (slice_index_or report.histories shard [])

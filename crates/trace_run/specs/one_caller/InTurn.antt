@@ -148,7 +148,7 @@ DidOtherLine cache pools devices op from to was now old new came = ((op ≡ ops.
 -- ---- the run
 
 -- With one caller the lines are done in sequence, on the pool and the cache device that were handed in. Where a sync stops, none behind it is done. Behind them the histories are closed, and have no other events.
-pub record RunsInTurn {P D : Type 0} (pool : Ghosts P) (device : Devices D) (before after : P) (lent back : Option D) (place : ℕ) (trace : Trace) (ending : Ending) (work : RunWork) (closed : List OnHeap) (report : Report) : Type 0 where
+pub record RunsInTurn {P D : Type 0} (pool : Ghosts P) (device : Devices D) (before after : P) (lent back : Option D) (place : ℕ) (trace : Trace) (ending : Ending) (work : RunWork) (owner : (shard place : ℕ) → ℕ) (closed : List OnHeap) (report : Report) : Type 0 where
   pub reached : BetweenLines P D
   pub lines : AreInSequence pool device trace work.lines work.feeds (begins_so trace.config (found_keys report.rebuilt) (between_groups before 1 place) lent) reached
   pub last_line : BetweenLines P D
@@ -159,6 +159,6 @@ pub record RunsInTurn {P D : Type 0} (pool : Ghosts P) (device : Devices D) (bef
   -- the caller's reads of the pool are those that its events stand for
   pub counted : length (calls_of_lines (lines_of_caller 0 work.lines)) ≡ reads_of_caller 0 report.histories
   -- a capacity is given to each shard, and a sync done, once all lines before it are done, and before any line behind it is begun
-  pub cut : (shard : ℕ) → shard < length report.histories → AreCut trace.config (found_keys report.rebuilt) trace.blocks shard work (slice_index_or report.histories shard [])
+  pub cut : (shard : ℕ) → shard < length report.histories → AreCut trace.config (found_keys report.rebuilt) trace.blocks shard (owner shard) work (slice_index_or report.histories shard [])
   -- and so is a sync that stopped
-  pub last : (t : ℕ) → StoppedAt trace report.replies ending t → (shard : ℕ) → shard < length report.histories → IsCutLast trace.config (found_keys report.rebuilt) trace.blocks shard t work (slice_index_or report.histories shard [])
+  pub last : (t : ℕ) → StoppedAt trace report.replies ending t → (shard : ℕ) → shard < length report.histories → IsCutLast trace.config (found_keys report.rebuilt) trace.blocks shard (owner shard) t work (slice_index_or report.histories shard [])

@@ -1,4 +1,4 @@
-use Rattle.std.proofs.Common.{◌<◌, List, map, sym, ap, ◌∙◌, subst}
+use Rattle.std.proofs.Common.{◌≡◌, ◌<◌, List, [], map, sym, ap, ◌∙◌, subst}
 use Rattle.turn_table.specs.Places.{Place, SomeHas}
 use Rattle.arc_core.specs.declared.config.Config.{Config}
 use Rattle.arc_table.specs.declared.view.Known.{Known}
@@ -8,6 +8,8 @@ use Rattle.arc_table.specs.Geometry.{parties_of}
 use Rattle.trace_run.specs.declared.kept_blocks.KeptBlock.{KeptBlock}
 use Rattle.trace_run.specs.callers.CallerLines.{DidLines, at}
 use Rattle.trace_run.specs.KeptBlocks.{Stands, read_of}
+use Rattle.trace_run.specs.Making.{AreNoEntries}
+use Rattle.trace_run.specs.Meeting.{HasFeeder}
 use Rattle.trace_run.specs.Openings.{openings_of}
 use Rattle.trace_run.specs.one_caller.OverShards.{AreNamed}
 use Rattle.trace_run.proofs.one_caller.AloneLemmas.{end-there, ran-alone, still-0, still-joined, still-only, still-rows}
@@ -15,6 +17,8 @@ use Rattle.trace_run.proofs.CapLemmas.{feeder-still}
 use Rattle.trace_run.proofs.theorem.CellRun.{alone-cells, ends-idle}
 use Rattle.trace_run.proofs.OpenLemmas.{HeapCell}
 use Rattle.trace_run.proofs.one_caller.AskingLines.{asks-from, begun-alone}
+use Rattle.trace_run.proofs.alone.run_over.Given.{Over}
+use Rattle.trace_run.proofs.alone.run_over.Goals.{After-give_back_all}
 use Rattle.trace_run.proofs.alone.run_over.Goals as goal
 
 pub lines_alone-requires-clause-rows : goal.lines_alone-requires-clause-rows
@@ -38,118 +42,65 @@ lines_alone-requires-clause-joined g c κs within = c.in_ok-party.ensures.joined
 pub end_alone-requires-clause-one : goal.end_alone-requires-clause-one
 end_alone-requires-clause-one g c = ap (λ (x : Config). x.callers) c.in_ok-arcs.ensures.config ∙ c.requires.one
 
+-- ---- what is so once all was given back
+
+-- the lines, which began with nothing kept
+did : (g : Over) (c : After-give_back_all g) → DidLines c.in_ok-arcs.arcs.config g.P.Pool c.args.trace.now.blocks c.args.trace.now.ops c.in_ok-party-2.replies.items (at c.in_ok-party.party [] c.args.pool.now) (at c.in_ok-party-2.party (map read_of c.lines_alone.new.kept) c.lines_alone.new.pool)
+did g c = subst (λ (l : List KeptBlock). DidLines c.in_ok-arcs.arcs.config g.P.Pool c.args.trace.now.blocks c.args.trace.now.ops c.in_ok-party-2.replies.items (at c.in_ok-party.party (map read_of l) c.args.pool.now) (at c.in_ok-party-2.party (map read_of c.lines_alone.new.kept) c.lines_alone.new.pool))
+    c.new-kept.ensures c.in_ok-party-2.ensures.did
+
+number : (g : Over) (c : After-give_back_all g) → c.give_back_all.new.party.number ≡ 0
+number g c = still-0 _ c.in_ok-arcs.arcs g.P.Pool c.args.trace.now c.in_ok-party-2.replies.items c.args.pool.now c.lines_alone.new.pool c.in_ok-party.party c.in_ok-party-2.party c.give_back_all.new.party c.lines_alone.new.kept c.in_ok-arcs.ensures.config c.requires.formed c.requires.one
+    c.args.restored.now c.only_party-party.result c.only_party-party.ensures.joined c.in_ok-party.ensures.fed (did g c) c.in_ok-party-2.ensures.stands c.give_back_all.ensures.gives c.give_back_all.ensures.stands
+
+only : (g : Over) (c : After-give_back_all g) → AreNoEntries c.in_ok-arcs.arcs.config c.give_back_all.new.party.own.mine
+only g c = still-only _ c.in_ok-arcs.arcs g.P.Pool c.args.trace.now c.in_ok-party-2.replies.items c.args.pool.now c.lines_alone.new.pool c.in_ok-party.party c.in_ok-party-2.party c.give_back_all.new.party c.lines_alone.new.kept c.in_ok-arcs.ensures.config c.requires.formed c.requires.one
+    c.args.restored.now c.only_party-party.result c.only_party-party.ensures.joined c.in_ok-party.ensures.fed (did g c) c.in_ok-party-2.ensures.stands c.give_back_all.ensures.gives c.give_back_all.ensures.stands
+
+joined : (g : Over) (c : After-give_back_all g) → HasFeeder c.in_ok-arcs.arcs (openings_of c.args.trace.now) c.give_back_all.new.party
+joined g c = feeder-still c.in_ok-arcs.arcs (openings_of c.args.trace.now) c.in_ok-party-2.party c.give_back_all.new.party (still-joined _ c.in_ok-arcs.arcs g.P.Pool c.args.trace.now c.in_ok-party-2.replies.items c.args.pool.now c.lines_alone.new.pool c.in_ok-party.party c.in_ok-party-2.party c.give_back_all.new.party c.lines_alone.new.kept c.in_ok-arcs.ensures.config c.requires.formed c.requires.one
+    c.args.restored.now c.only_party-party.result c.only_party-party.ensures.joined c.in_ok-party.ensures.fed (did g c) c.in_ok-party-2.ensures.stands c.give_back_all.ensures.gives c.give_back_all.ensures.stands) c.in_ok-party-2.ensures.joined
+
 pub end_alone-requires-clause-number : goal.end_alone-requires-clause-number
-end_alone-requires-clause-number g c =
-    let cache : Cache = c.in_ok-arcs.arcs in
-    let new = c.only_party-party.result in
-    let p = c.in_ok-party.party in
-    let q = c.in_ok-party-2.party in
-    let r = c.give_back_all.new.party in
-    let kept : List KeptBlock = c.lines_alone.new.kept in
-    let did = subst (λ (l : List KeptBlock). DidLines cache.config g.P.Pool c.args.trace.now.blocks c.args.trace.now.ops c.in_ok-party-2.replies.items (at p (map read_of l) c.args.pool.now) (at q (map read_of kept) c.lines_alone.new.pool))
-    c.new-kept.ensures c.in_ok-party-2.ensures.did in
-    still-0 _ cache g.P.Pool c.args.trace.now c.in_ok-party-2.replies.items c.args.pool.now c.lines_alone.new.pool p q r kept c.in_ok-arcs.ensures.config c.requires.formed c.requires.one
-    c.args.restored.now new c.only_party-party.ensures.joined c.in_ok-party.ensures.fed did c.in_ok-party-2.ensures.stands c.give_back_all.ensures.gives c.give_back_all.ensures.stands
+end_alone-requires-clause-number g c = number g (goal.at.end_alone-requires-clause-number g c).After-give_back_all
 
 pub end_alone-requires-clause-joined : goal.end_alone-requires-clause-joined
-end_alone-requires-clause-joined g c =
-    let cache : Cache = c.in_ok-arcs.arcs in
-    let new = c.only_party-party.result in
-    let p = c.in_ok-party.party in
-    let q = c.in_ok-party-2.party in
-    let r = c.give_back_all.new.party in
-    let kept : List KeptBlock = c.lines_alone.new.kept in
-    let did = subst (λ (l : List KeptBlock). DidLines cache.config g.P.Pool c.args.trace.now.blocks c.args.trace.now.ops c.in_ok-party-2.replies.items (at p (map read_of l) c.args.pool.now) (at q (map read_of kept) c.lines_alone.new.pool))
-    c.new-kept.ensures c.in_ok-party-2.ensures.did in (
-      openings_of c.args.trace.now,
-      feeder-still cache (openings_of c.args.trace.now) q r (still-joined _ cache g.P.Pool c.args.trace.now c.in_ok-party-2.replies.items c.args.pool.now c.lines_alone.new.pool p q r kept c.in_ok-arcs.ensures.config c.requires.formed c.requires.one
-          c.args.restored.now new c.only_party-party.ensures.joined c.in_ok-party.ensures.fed did c.in_ok-party-2.ensures.stands c.give_back_all.ensures.gives c.give_back_all.ensures.stands) c.in_ok-party-2.ensures.joined,
-    )
+end_alone-requires-clause-joined g c = (openings_of c.args.trace.now, joined g (goal.at.end_alone-requires-clause-joined g c).After-give_back_all)
 
 pub end_alone-requires-clause-rows : goal.end_alone-requires-clause-rows
 end_alone-requires-clause-rows g c =
-    let cache : Cache = c.in_ok-arcs.arcs in
-    let new = c.only_party-party.result in
-    let p = c.in_ok-party.party in
-    let q = c.in_ok-party-2.party in
-    let r = c.give_back_all.new.party in
-    let kept : List KeptBlock = c.lines_alone.new.kept in
-    let did = subst (λ (l : List KeptBlock). DidLines cache.config g.P.Pool c.args.trace.now.blocks c.args.trace.now.ops c.in_ok-party-2.replies.items (at p (map read_of l) c.args.pool.now) (at q (map read_of kept) c.lines_alone.new.pool))
-    c.new-kept.ensures c.in_ok-party-2.ensures.did in
-    still-rows _ cache g.P.Pool c.args.trace.now c.in_ok-party-2.replies.items c.args.pool.now c.lines_alone.new.pool p q r kept c.in_ok-arcs.ensures.config c.requires.formed c.requires.one
-    c.args.restored.now new c.only_party-party.ensures.joined c.in_ok-party.ensures.fed did c.in_ok-party-2.ensures.stands c.give_back_all.ensures.gives c.give_back_all.ensures.stands
+    still-rows _ c.in_ok-arcs.arcs g.P.Pool c.args.trace.now c.in_ok-party-2.replies.items c.args.pool.now c.lines_alone.new.pool c.in_ok-party.party c.in_ok-party-2.party c.give_back_all.new.party c.lines_alone.new.kept c.in_ok-arcs.ensures.config c.requires.formed c.requires.one
+    c.args.restored.now c.only_party-party.result c.only_party-party.ensures.joined c.in_ok-party.ensures.fed (did g (goal.at.end_alone-requires-clause-rows g c).After-give_back_all) c.in_ok-party-2.ensures.stands c.give_back_all.ensures.gives c.give_back_all.ensures.stands
 
 pub close-requires-clause-rest : goal.close-requires-clause-rest
 close-requires-clause-rest g c =
-    let cache : Cache = c.in_ok-arcs.arcs in
-    let new = c.only_party-party.result in
-    let p = c.in_ok-party.party in
-    let q = c.in_ok-party-2.party in
-    let r = c.give_back_all.new.party in
-    let kept : List KeptBlock = c.lines_alone.new.kept in
-    let did = subst (λ (l : List KeptBlock). DidLines cache.config g.P.Pool c.args.trace.now.blocks c.args.trace.now.ops c.in_ok-party-2.replies.items (at p (map read_of l) c.args.pool.now) (at q (map read_of kept) c.lines_alone.new.pool))
-    c.new-kept.ensures c.in_ok-party-2.ensures.did in
-    let joined = feeder-still cache (openings_of c.args.trace.now) q r (still-joined _ cache g.P.Pool c.args.trace.now c.in_ok-party-2.replies.items c.args.pool.now c.lines_alone.new.pool p q r kept c.in_ok-arcs.ensures.config c.requires.formed c.requires.one
-    c.args.restored.now new c.only_party-party.ensures.joined c.in_ok-party.ensures.fed did c.in_ok-party-2.ensures.stands c.give_back_all.ensures.gives c.give_back_all.ensures.stands) c.in_ok-party-2.ensures.joined in
-    let h = c.in_ok-party-3.ensures (openings_of c.args.trace.now) joined in
+    let h = c.in_ok-party-3.ensures (openings_of c.args.trace.now) (joined g (goal.at.close-requires-clause-rest g c).After-give_back_all) in
     subst (λ (x : Cache × List (Place (Known HeapCell))). AreAtRest x.0 x.1) (λ i. (sym c.arcs.view_is i, sym c.in_ok-vec.ensures.items i)) (h.stands.of, h.stands.free, tt)
 
 pub close-requires-clause-all : goal.close-requires-clause-all
 close-requires-clause-all g c =
-    let cache : Cache = c.in_ok-arcs.arcs in
-    let new = c.only_party-party.result in
-    let p = c.in_ok-party.party in
-    let q = c.in_ok-party-2.party in
-    let r = c.give_back_all.new.party in
-    let kept : List KeptBlock = c.lines_alone.new.kept in
-    let did = subst (λ (l : List KeptBlock). DidLines cache.config g.P.Pool c.args.trace.now.blocks c.args.trace.now.ops c.in_ok-party-2.replies.items (at p (map read_of l) c.args.pool.now) (at q (map read_of kept) c.lines_alone.new.pool))
-    c.new-kept.ensures c.in_ok-party-2.ensures.did in
-    let joined = feeder-still cache (openings_of c.args.trace.now) q r (still-joined _ cache g.P.Pool c.args.trace.now c.in_ok-party-2.replies.items c.args.pool.now c.lines_alone.new.pool p q r kept c.in_ok-arcs.ensures.config c.requires.formed c.requires.one
-    c.args.restored.now new c.only_party-party.ensures.joined c.in_ok-party.ensures.fed did c.in_ok-party-2.ensures.stands c.give_back_all.ensures.gives c.give_back_all.ensures.stands) c.in_ok-party-2.ensures.joined in
-    let only = still-only _ cache g.P.Pool c.args.trace.now c.in_ok-party-2.replies.items c.args.pool.now c.lines_alone.new.pool p q r kept c.in_ok-arcs.ensures.config c.requires.formed c.requires.one
-    c.args.restored.now new c.only_party-party.ensures.joined c.in_ok-party.ensures.fed did c.in_ok-party-2.ensures.stands c.give_back_all.ensures.gives c.give_back_all.ensures.stands in
-    let h = c.in_ok-party-3.ensures (openings_of c.args.trace.now) joined in
-    let here = end-there _ cache g.P.Pool c.args.trace.now c.in_ok-party-2.replies.items c.args.pool.now c.lines_alone.new.pool p q r kept c.in_ok-arcs.ensures.config c.requires.formed c.requires.one
-    c.args.restored.now new c.only_party-party.ensures.joined c.in_ok-party.ensures.fed did c.in_ok-party-2.ensures.stands c.give_back_all.ensures.gives c.give_back_all.ensures.stands c.in_ok-party-3.party h.number h.parties h.stands h.all (ends-idle cache (openings_of c.args.trace.now) r c.in_ok-party-3.party h only) in
+    let before = (goal.at.close-requires-clause-all g c).After-give_back_all in
+    let h = c.in_ok-party-3.ensures (openings_of c.args.trace.now) (joined g before) in
+    let idle = ends-idle c.in_ok-arcs.arcs (openings_of c.args.trace.now) c.give_back_all.new.party c.in_ok-party-3.party h (only g before) in
+    let here = end-there _ c.in_ok-arcs.arcs g.P.Pool c.args.trace.now c.in_ok-party-2.replies.items c.args.pool.now c.lines_alone.new.pool c.in_ok-party.party c.in_ok-party-2.party c.give_back_all.new.party c.lines_alone.new.kept c.in_ok-arcs.ensures.config c.requires.formed c.requires.one
+    c.args.restored.now c.only_party-party.result c.only_party-party.ensures.joined c.in_ok-party.ensures.fed (did g before) c.in_ok-party-2.ensures.stands c.give_back_all.ensures.gives c.give_back_all.ensures.stands c.in_ok-party-3.party h.number h.parties h.stands h.all idle in
     λ n below. subst (λ (x : List (Place (Known HeapCell))). SomeHas n x) (sym c.in_ok-vec.ensures.items) (here n (subst (λ (x : Cache). n < parties_of x.config) c.arcs.view_is below))
 
 pub returns-clause-ran : goal.returns-clause-ran
 returns-clause-ran g c =
-    let cache : Cache = c.in_ok-arcs.arcs in
-    let new = c.only_party-party.result in
-    let p = c.in_ok-party.party in
-    let q = c.in_ok-party-2.party in
-    let r = c.give_back_all.new.party in
-    let kept : List KeptBlock = c.lines_alone.new.kept in
-    let did = subst (λ (l : List KeptBlock). DidLines cache.config g.P.Pool c.args.trace.now.blocks c.args.trace.now.ops c.in_ok-party-2.replies.items (at p (map read_of l) c.args.pool.now) (at q (map read_of kept) c.lines_alone.new.pool))
-    c.new-kept.ensures c.in_ok-party-2.ensures.did in
-    let joined = feeder-still cache (openings_of c.args.trace.now) q r (still-joined _ cache g.P.Pool c.args.trace.now c.in_ok-party-2.replies.items c.args.pool.now c.lines_alone.new.pool p q r kept c.in_ok-arcs.ensures.config c.requires.formed c.requires.one
-    c.args.restored.now new c.only_party-party.ensures.joined c.in_ok-party.ensures.fed did c.in_ok-party-2.ensures.stands c.give_back_all.ensures.gives c.give_back_all.ensures.stands) c.in_ok-party-2.ensures.joined in
-    let only = still-only _ cache g.P.Pool c.args.trace.now c.in_ok-party-2.replies.items c.args.pool.now c.lines_alone.new.pool p q r kept c.in_ok-arcs.ensures.config c.requires.formed c.requires.one
-    c.args.restored.now new c.only_party-party.ensures.joined c.in_ok-party.ensures.fed did c.in_ok-party-2.ensures.stands c.give_back_all.ensures.gives c.give_back_all.ensures.stands in
-    let h = c.in_ok-party-3.ensures (openings_of c.args.trace.now) joined in
-    ran-alone _ cache g.P.Pool c.args.trace.now c.in_ok-party-2.replies.items c.args.pool.now c.lines_alone.new.pool p q r kept c.in_ok-arcs.ensures.config c.requires.formed c.requires.one
-    c.args.restored.now new c.only_party-party.ensures.joined c.in_ok-party.ensures.fed did c.in_ok-party-2.ensures.stands c.give_back_all.ensures.gives c.give_back_all.ensures.stands c.in_ok-party-3.party h.number h.parties h.stands h.all (ends-idle cache (openings_of c.args.trace.now) r c.in_ok-party-3.party h only)
+    let before = (goal.at.returns-clause-ran g c).After-give_back_all in
+    let h = c.in_ok-party-3.ensures (openings_of c.args.trace.now) (joined g before) in
+    let idle = ends-idle c.in_ok-arcs.arcs (openings_of c.args.trace.now) c.give_back_all.new.party c.in_ok-party-3.party h (only g before) in
+    ran-alone _ c.in_ok-arcs.arcs g.P.Pool c.args.trace.now c.in_ok-party-2.replies.items c.args.pool.now c.lines_alone.new.pool c.in_ok-party.party c.in_ok-party-2.party c.give_back_all.new.party c.lines_alone.new.kept c.in_ok-arcs.ensures.config c.requires.formed c.requires.one
+    c.args.restored.now c.only_party-party.result c.only_party-party.ensures.joined c.in_ok-party.ensures.fed (did g before) c.in_ok-party-2.ensures.stands c.give_back_all.ensures.gives c.give_back_all.ensures.stands c.in_ok-party-3.party h.number h.parties h.stands h.all idle
     _ c.in_ok-vec.field-0.items c.in_ok-closed.closed c.arcs.view_is c.in_ok-vec.ensures.items c.in_ok-closed.ensures
 
 pub returns-clause-cells : goal.returns-clause-cells
 returns-clause-cells g c =
-    let cache : Cache = c.in_ok-arcs.arcs in
-    let new = c.only_party-party.result in
-    let p = c.in_ok-party.party in
-    let q = c.in_ok-party-2.party in
-    let r = c.give_back_all.new.party in
-    let kept : List KeptBlock = c.lines_alone.new.kept in
-    let did = subst (λ (l : List KeptBlock). DidLines cache.config g.P.Pool c.args.trace.now.blocks c.args.trace.now.ops c.in_ok-party-2.replies.items (at p (map read_of l) c.args.pool.now) (at q (map read_of kept) c.lines_alone.new.pool))
-    c.new-kept.ensures c.in_ok-party-2.ensures.did in
-    let joined = feeder-still cache (openings_of c.args.trace.now) q r (still-joined _ cache g.P.Pool c.args.trace.now c.in_ok-party-2.replies.items c.args.pool.now c.lines_alone.new.pool p q r kept c.in_ok-arcs.ensures.config c.requires.formed c.requires.one
-    c.args.restored.now new c.only_party-party.ensures.joined c.in_ok-party.ensures.fed did c.in_ok-party-2.ensures.stands c.give_back_all.ensures.gives c.give_back_all.ensures.stands) c.in_ok-party-2.ensures.joined in
-    let only = still-only _ cache g.P.Pool c.args.trace.now c.in_ok-party-2.replies.items c.args.pool.now c.lines_alone.new.pool p q r kept c.in_ok-arcs.ensures.config c.requires.formed c.requires.one
-    c.args.restored.now new c.only_party-party.ensures.joined c.in_ok-party.ensures.fed did c.in_ok-party-2.ensures.stands c.give_back_all.ensures.gives c.give_back_all.ensures.stands in
-    let h = c.in_ok-party-3.ensures (openings_of c.args.trace.now) joined in
-    alone-cells cache r c.in_ok-party-3.party _ c.in_ok-vec.field-0.items c.in_ok-closed.closed c.args.trace.now c.in_ok-arcs.ensures.config (ap (λ (x : Config). x.callers) c.in_ok-arcs.ensures.config ∙ c.requires.one)
-    c.arcs.view_is c.in_ok-vec.ensures.items c.in_ok-closed.ensures (still-0 _ cache g.P.Pool c.args.trace.now c.in_ok-party-2.replies.items c.args.pool.now c.lines_alone.new.pool p q r kept c.in_ok-arcs.ensures.config c.requires.formed c.requires.one
-    c.args.restored.now new c.only_party-party.ensures.joined c.in_ok-party.ensures.fed did c.in_ok-party-2.ensures.stands c.give_back_all.ensures.gives c.give_back_all.ensures.stands) h only
+    let before = (goal.at.returns-clause-cells g c).After-give_back_all in
+    let h = c.in_ok-party-3.ensures (openings_of c.args.trace.now) (joined g before) in
+    alone-cells c.in_ok-arcs.arcs c.give_back_all.new.party c.in_ok-party-3.party _ c.in_ok-vec.field-0.items c.in_ok-closed.closed c.args.trace.now c.in_ok-arcs.ensures.config (ap (λ (x : Config). x.callers) c.in_ok-arcs.ensures.config ∙ c.requires.one)
+    c.arcs.view_is c.in_ok-vec.ensures.items c.in_ok-closed.ensures (number g before) h (only g before)
 
 pub returns-clause-asks : goal.returns-clause-asks
 returns-clause-asks g c =

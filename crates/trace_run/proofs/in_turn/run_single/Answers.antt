@@ -22,7 +22,7 @@ returns-then-has_further-clause-ran g c = λ rebuilt found.
     let r = c.in_ok-ran.ensures.ran in
     let further : has_further trace.ops ≡ true = ap has_further (sym c.as_slice.ensures) ∙ (sym c.has_further.ensures ∙ c.if-has_further.true) in
     let both = subst (λ (l : List Restored). (t : RanTogether g.P.Pool g.D.CacheDev c.args.pool.now c.run_one.new.pool (lent_in c.args.device.now) back trace did.ending l did.replies.items r.0 did.closed)
-    × RunsInTurn g.P.Pool g.D.CacheDev c.args.pool.now c.run_one.new.pool (lent_in c.args.device.now) back t.place trace did.ending r.0 did.closed.cells (report_of_closed did.ending rebuilt did.replies.items did.closed)) (sym found)
+    × RunsInTurn g.P.Pool g.D.CacheDev c.args.pool.now c.run_one.new.pool (lent_in c.args.device.now) back t.place trace did.ending r.0 t.explained.owner did.closed.cells (report_of_closed did.ending rebuilt did.replies.items did.closed)) (sym found)
     (r.1, r.2 rebuilt found) in
     let has = turn-has-run g.P.Pool g.D.CacheDev c.args.pool.now c.run_one.new.pool (lent_in c.args.device.now) back trace rebuilt did.replies.items did.closed did.ending r.0 c.requires.one further both.0 both.1 in
     (has.0, subst (λ (w : RunWork). LeavesFed g.D.CacheDev trace.config c.args.restored.now w.feeds c.args.device.now c.run_one.new.device (histories_of did.closed)) (sym has.1) r.3)

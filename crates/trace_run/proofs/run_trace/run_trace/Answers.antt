@@ -1,20 +1,14 @@
-use Rattle.trace_run.proofs.callers.InUse.{lent-in-use}
-use Rattle.trace_run.specs.callers.Group.{LeavesDeclared}
-use Rattle.trace_run.specs.callers.Beside.{WasInUse}
-use Rattle.std.proofs.Common.{◌≡◌, List, sym, ap, subst, arith, refl, inl}
+use Rattle.std.proofs.Common.{List, sym, subst, arith}
 use Rattle.arc_core.specs.declared.served.Restored.{Restored}
-use Rattle.trace_run.specs.one_caller.Alone.{RanAlone, ends_in, histories_of}
+use Rattle.trace_run.specs.one_caller.Alone.{histories_of}
 use Rattle.trace_run.specs.FeedSeries.{LeavesFed}
 use Rattle.trace_run.specs.Restores.{found_keys}
 use Rattle.trace_run.specs.Devices.{lent_in}
-use Rattle.trace_run.specs.one_caller.Lent.{ReadsAlone}
 use Rattle.trace_run.specs.callers.GroupRun.{RanTogether}
 use Rattle.trace_run.specs.Outcome.{HasRun}
 use Rattle.trace_run.specs.RunWork.{RunWork}
 use Rattle.trace_run.specs.callers.Together.{report_of_closed}
-use Rattle.trace_run.proofs.feeds.LeftLemmas.{unfed-left}
-use Rattle.trace_run.proofs.theorem.DeviceUsed.{leaves-declared, lent-only}
-use Rattle.trace_run.proofs.theorem.RanLemmas.{alone-has-run, together-has-run}
+use Rattle.trace_run.proofs.theorem.RanLemmas.{together-has-run}
 use Rattle.trace_run.proofs.run_trace.run_trace.Goals as goal
 use Rattle.trace_run.proofs.run_trace.run_trace.Goals.{then-trace-eq1+in_ok-ran, else-trace-eq1+in_ok-ran-2}
 
