@@ -9,7 +9,7 @@ use Rattle.arc_lists.proofs.Tables.{cases_true}
 use Rattle.arc_core.specs.declared.entry.Entry.{Entry}
 use Rattle.arc_core.specs.PlainShard.{PlainShard, is_resident, resident_digest}
 use Rattle.trace_run.specs.one_caller.Access as access
-use Rattle.trace_run.specs.one_caller.Access.{access_of, found}
+use Rattle.trace_run.specs.one_caller.Access.{access_of, access_by}
 
 -- ---- what an access says of the shard
 
@@ -18,7 +18,7 @@ pub digest_eq-is : (a b : Digest) → digest_eq a b ≡ true → a ≡ b
 digest_eq-is a b same = ap (λ (bytes : List ℕ). record { 0 = bytes }) ((bytes_eq-Decides a.0 b.0).0 same)
 
 -- a hit found bytes of the digest that is asked for
-found-hit : (asked : Digest) (o : Option Digest) → found asked o ≡ access.Hit → o ≡ Some asked
+found-hit : (asked : Digest) (o : Option Digest) → access_by asked o ≡ access.Hit → o ≡ Some asked
 found-hit asked None is = cc
 found-hit asked (Some kept) is = elim (cases_true (digest_eq kept asked)) [
   | inl same ↦ ap (λ (d : Digest). Some d) (digest_eq-is kept asked same)

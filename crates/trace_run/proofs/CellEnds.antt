@@ -66,8 +66,8 @@ use Rattle.dbuf_state.specs.Soundness.{IsSound, plain_cell}
 use Rattle.dbuf_state.specs.declared.event.CellEvent.{CellEvent}
 use Rattle.dbuf_state.specs.declared.event.CellEvent.TheVariants.{End}
 use Rattle.dbuf_state.specs.declared.state.Mapping.{Mapping}
-use Rattle.trace_run.specs.CellEnds.{IsCellDrop, SeesEnd, SeesEnds, end_entry, ends_from}
-use Rattle.trace_run.specs.DbufTurns.{CellsDone}
+use Rattle.trace_run.specs.dbufs.CellEnds.{IsCellDrop, SeesEnd, SeesEnds, end_entry, noted_ends}
+use Rattle.trace_run.specs.dbufs.DbufTurns.{CellsDone}
 use Rattle.trace_run.specs.Deeds.{CellsGrow, HasToldOthers, MakesLater, Noted, acts_of_events, events_there, noted_in}
 use Rattle.trace_run.specs.Making.{HasSeenItsEvents}
 use Rattle.trace_run.proofs.deeds.CellFound.{turn-finds}
@@ -564,7 +564,7 @@ module _ (g : Config) (valid : IsConfig g) where
     pub drops : List Event
     pub are : AllByRecursion (IsCellDrop g) drops
     pub some_ended : HasEndedSome g drops p q
-    pub told : (did : List Act) (had : List Noted) → HasToldOthers g did had p → HasToldOthers g (did ++ acts_of_events drops) (had ++ ends_from p.number i count) q
+    pub told : (did : List Act) (had : List Noted) → HasToldOthers g did had p → HasToldOthers g (did ++ acts_of_events drops) (had ++ noted_ends p.number i count) q
     pub last : (j : ℕ) → IsCell g j → i ≤ j → j < i + count → front_of j q.own.seen ≡ front_of j p.own.seen ++ end_entry p.number j
     pub lower : (j : ℕ) → IsCell g j → j < i → front_of j q.own.seen ≡ front_of j p.own.seen
     pub kept : SeesEnds g p.own.about.openings q.own.seen p.number i count drops
@@ -640,7 +640,7 @@ module _ (g : Config) (valid : IsConfig g) where
             subst (λ (x : List Act × List Noted). HasToldOthers g x.0 x.1 q)
             (λ z. (
               (append_assoc did (acts_of_events ends.1.drops) (acts_of_events rest.drops) ∙ ap (λ (l : List Act). did ++ l) (sym (events-acts ends.1.drops rest.drops))) z,
-              (append_assoc had (now ∷ []) (ends_from r.number (suc i) count) ∙ ap (λ (n : ℕ). had ++ now ∷ ends_from n (suc i) count) a.number) z,
+              (append_assoc had (now ∷ []) (noted_ends r.number (suc i) count) ∙ ap (λ (n : ℕ). had ++ now ∷ noted_ends n (suc i) count) a.number) z,
             ))
             (rest.told (did ++ acts_of_events ends.1.drops) (had ++ now ∷ []) first);
         last = λ j range above below. dite (ℕ_discrete j i)

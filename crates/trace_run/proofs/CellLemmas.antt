@@ -35,7 +35,7 @@ use Rattle.dbuf_state.proofs.HandLemmas.{ended-keeps-nothing}
 use Rattle.dbuf_state.proofs.NumberLemmas.{events-numbered, events-read, mappings-read}
 use Rattle.trace_text.specs.declared.trace.Trace.{Trace}
 use Rattle.arc_core.specs.declared.config.Config.{Config}
-use Rattle.trace_run.specs.CellEnds.{AreCellsOf, IsCellOf, done_by, end_entry, ends_from}
+use Rattle.trace_run.specs.dbufs.CellEnds.{AreCellsOf, IsCellOf, done_by, end_entry, noted_ends}
 use Rattle.trace_run.specs.RunWork.{only_ended}
 use Rattle.trace_run.specs.Deeds.{Noted, events_of_cell}
 use Rattle.trace_run.specs.MadeLines.{made_from, owned_from}
@@ -117,11 +117,11 @@ by-number owner n place (e ∷ h) each = go (cases_true (number_of e == n)) (by-
         rw (other, none) rest
 
 -- of each cell that is ended one End is noted
-ends-none : (n i j count : ℕ) → i < j → events_of_cell i (ends_from n j count) ≡ []
+ends-none : (n i j count : ℕ) → i < j → events_of_cell i (noted_ends n j count) ≡ []
 ends-none n i j zero below = refl
 ends-none n i j (suc count) below = let other : (j == i) ≡ false = ne_eqb j i (λ is. omega (arith, is, below)) in rw other (ends-none n i (suc j) count (omega (arith, below)))
 
-pub ends-one : (n i j count : ℕ) → j ≤ i → i < j + count → events_of_cell i (ends_from n j count) ≡ End n ∷ []
+pub ends-one : (n i j count : ℕ) → j ≤ i → i < j + count → events_of_cell i (noted_ends n j count) ≡ End n ∷ []
 ends-one n i j zero above below = absurd (omega (arith, above, below))
 ends-one n i j (suc count) above below = dite (ℕ_discrete j i)
     (λ is. let here : (j == i) ≡ true = eq-eqb j i is in rw here (ap (λ (l : List CellEvent). End n ∷ l) (ends-none n i (suc j) count (omega (arith, is)))))
@@ -132,7 +132,7 @@ ends-one n i j (suc count) above below = dite (ℕ_discrete j i)
 
 -- What is noted of the parties where nobody but the feeder did anything to a cell.
 module _ (g : Config) where
-  pub feeder-notes : only_ended g g.callers ≡ ends_from g.callers 0 g.cells
+  pub feeder-notes : only_ended g g.callers ≡ noted_ends g.callers 0 g.cells
   feeder-notes = let here : (g.callers == g.callers) ≡ true = eq-eqb g.callers g.callers refl in rw here refl
 
   pub caller-notes : (n : ℕ) → n < g.callers → only_ended g n ≡ []

@@ -28,8 +28,8 @@ use Rattle.trace_text.specs.declared.reply.Reply.TheVariants as replies
 use Rattle.trace_run.specs.Answers.{AnswersDrop, IsDropRefusal}
 use Rattle.trace_run.specs.DeviceReads.{AsksFor, GetAsks, WasReadAtMostOnce, WasReadOnce, never, once}
 use Rattle.trace_run.specs.callers.WorkLines.{AllAsked, NoneFromDevice, effect_with, size_asked_by}
-use Rattle.trace_run.specs.ObjectLines.{on_object}
-use Rattle.trace_run.specs.Objects.{Line}
+use Rattle.trace_run.specs.dbufs.ObjectLines.{on_object}
+use Rattle.trace_run.specs.dbufs.Objects.{Line}
 use Rattle.trace_run.specs.Effects.{Effect, Answered, effect_of}
 use Rattle.trace_run.specs.Reads.{IsRefused}
 

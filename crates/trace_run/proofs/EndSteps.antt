@@ -20,7 +20,7 @@ use Rattle.arc_table.specs.Seen.{AreEntriesSeen, AreSeen, HasAll, events_in, see
 use Rattle.arc_table.specs.Telling.{opening_of}
 use Rattle.dbuf_cells.specs.Ending.{EndsFrom}
 use Rattle.dbuf_cells.specs.Turns.{KeepsClaims, OnHeap, PartyPlace, dbuf_meanings}
-use Rattle.trace_run.specs.CellEnds.{EndedCells, EndedIdle, SeesEnds, end_entry, ends_from}
+use Rattle.trace_run.specs.dbufs.CellEnds.{EndedCells, EndedIdle, SeesEnds, end_entry, noted_ends}
 use Rattle.trace_run.specs.Deeds.{HasToldOthers, Noted, acts_of_events, events_there, KeepsCells}
 use Rattle.trace_run.specs.KeptBlocks.{Stands, times}
 use Rattle.trace_run.specs.Making.{AreEventsSeen, AreNoEntries}
@@ -178,7 +178,7 @@ module _ (cache : Cache) (p : PartyPlace) (others : List PartyPlace) (stands : S
         told = λ did noted h.
             let q_told : HasToldOthers g did noted q = others-still g did noted p q (grown-same g p q have.number have.about have.mine have.self.starts have.self.cells stands.seen stands.cells) h in
             let r_told = ended.told did noted q_told in
-            let is : noted ++ ends_from q.number 0 g.cells ≡ noted ++ ends_from p.number 0 g.cells = ap (λ (n : ℕ). noted ++ ends_from n 0 g.cells) have.number in
+            let is : noted ++ noted_ends q.number 0 g.cells ≡ noted ++ noted_ends p.number 0 g.cells = ap (λ (n : ℕ). noted ++ noted_ends n 0 g.cells) have.number in
             subst (λ (l : List Noted). HasToldOthers g (did ++ acts_of_events ended.drops) l (left_alone r)) is record { cells = r_told.cells; kinds = r_told.kinds; entries = r_told.entries };
         ends = λ i range. (front_of i q.own.seen, ended.last i range (omega arith) (omega (arith, range)) ∙ ap (λ (n : ℕ). front_of i q.own.seen ++ end_entry n i) have.number);
         entries = all-entries others have.all apart;

@@ -8,7 +8,7 @@ use Rattle.arc_lists.proofs.Tables.{cases_true}
 use Rattle.trace_text.specs.declared.op.Op.{Op}
 use Rattle.trace_text.specs.declared.op.Op.TheVariants as ops
 use Rattle.trace_run.specs.Lines.{has_further, is_further}
-use Rattle.trace_run.specs.ObjectLines.{on_object}
+use Rattle.trace_run.specs.dbufs.ObjectLines.{on_object}
 
 -- none of these passes the test
 pub first-done : (test : Op → Bool) (o : Op) (os : List Op) → list_any test (o ∷ os) ≡ false → (test o ≡ false) × (list_any test os ≡ false)

@@ -18,7 +18,7 @@ use Rattle.trace_run.specs.KeptReads.{KeptRead}
 use Rattle.trace_run.specs.declared.kept_blocks.KeptBlock.{KeptBlock}
 use Rattle.trace_run.specs.one_caller.Access.{events_of_drop}
 use Rattle.trace_run.specs.Acts.{acts_of_drop, acts_of_drops}
-use Rattle.trace_run.specs.KeptBlocks.{DroppedAlone, Drops, GivesAll, GivesKeptBack, Stands, held_key, holds_in, read_of}
+use Rattle.trace_run.specs.KeptBlocks.{DroppedAlone, Drops, GivesAll, GivesKeptBack, Stands, held_key, held_in_shard, read_of}
 use Rattle.trace_run.specs.one_caller.OneCaller.{events_of_drops}
 use Rattle.arc_table.specs.Seen.{HasAll, seen_of, turn_of}
 use Rattle.trace_run.specs.Deeds.{HasToldAll, Noted, KeepsCells}
@@ -58,8 +58,8 @@ module _ {C : Type 0} (g : Config) (p q : Place (Known C)) where
 
 -- the drops of one read, and then of others, in a shard
 drops-cons : (g : Config) (n shard : ℕ) (read : KeptRead) (reads : List KeptRead)
-    → events_of_drops n (holds_in g shard (read ∷ reads))
-    ≡ (if option_map_or (λ k. shard_of g.shards k == shard) read.held false then events_of_drop n read.held else []) ++ events_of_drops n (holds_in g shard reads)
+    → events_of_drops n (held_in_shard g shard (read ∷ reads))
+    ≡ (if option_map_or (λ k. shard_of g.shards k == shard) read.held false then events_of_drop n read.held else []) ++ events_of_drops n (held_in_shard g shard reads)
 drops-cons g n shard read reads = elim (cases_true (option_map_or (λ k. shard_of g.shards k == shard) read.held false)) [
   | inl here ↦ rw here refl
   | inr out ↦ rw out refl
@@ -129,9 +129,9 @@ module _ {C : Type 0} (m : Meanings C) (cache : Cache) where
         all = rest.all;
         seen = λ shard.
             let here : List Event = if option_map_or (λ k. shard_of g.shards k == shard) (held_key b.kept) false then events_of_drop p.number (held_key b.kept) else [] in
-            let later : List Event = events_of_drops p.number (holds_in g shard (map read_of bs)) in
+            let later : List Event = events_of_drops p.number (held_in_shard g shard (map read_of bs)) in
             rest.seen shard
-            ∙ (ap (λ (n : ℕ). seen_of g shard r ++ events_of_drops n (holds_in g shard (map read_of bs))) number
+            ∙ (ap (λ (n : ℕ). seen_of g shard r ++ events_of_drops n (held_in_shard g shard (map read_of bs))) number
             ∙ (ap (λ (l : List Event). l ++ later) (drop-seen g p r (held_key b.kept) one.1 all shard)
             ∙ (append_assoc (seen_of g shard p) here later
             ∙ ap (λ (l : List Event). seen_of g shard p ++ l) (sym (drops-cons g p.number shard (read_of b) (map read_of bs))))));

@@ -47,7 +47,7 @@ use Rattle.trace_run.specs.Effects.{Effect, Answered, GivenBack, PoolRefused, No
 use Rattle.trace_run.specs.callers.CallerLines.{DidLine, DidThere, at}
 use Rattle.trace_run.specs.KeptBlocks.{Drops, GivesKeptBack, IsOwnedBy, held_key}
 use Rattle.trace_run.specs.Lines.{is_in_shard, shard_of_block}
-use Rattle.trace_run.specs.one_caller.OneCaller.{NamesSource, events_of, events_of_dropping, events_of_hold, events_of_read, events_there, is_of_block, kept_after, kept_after_drop, kept_after_hold, key_held_by, oldest_key, without_oldest}
+use Rattle.trace_run.specs.one_caller.OneCaller.{NamesSource, events_of_op, events_of_dropping, events_of_hold, events_of_read, events_of_op_in, is_of_block, kept_after, kept_after_drop, kept_after_hold, key_held_by, oldest_key, without_oldest}
 use Rattle.trace_run.specs.one_caller.OverShards.{AreNamed, IsNamed}
 use Rattle.trace_run.specs.Reads.{CameFromPool, DidAct, DidActs, DidAnswer, DidRead, IsRefused, access_now, now_of}
 use Rattle.arc_table.specs.Seen.{AddsAll, HasAll, seen_of}
@@ -255,17 +255,17 @@ module _ {C : Type 0} (g : Config) (blocks : List Ptr) (kept : List KeptRead) (o
   in-it : (shard : ℕ) → is_in_shard g.shards blocks shard op ≡ (its == shard)
   in-it shard = ap (λ (o : Option ℕ). option_map_or (λ (y : ℕ). shard_of_block g.shards blocks y == shard) o (nat_lt shard g.shards)) on
 
-  pub there-of : (acts : List Act) (es : List Event) → acts ≡ acts_of blocks kept op reply → es ≡ events_of blocks (now_of g its p) kept op reply → DidActs g its acts es p q → DidThere g blocks kept op reply p q
+  pub there-of : (acts : List Act) (es : List Event) → acts ≡ acts_of blocks kept op reply → es ≡ events_of_op blocks (now_of g its p) kept op reply → DidActs g its acts es p q → DidThere g blocks kept op reply p q
   there-of acts es same_acts same_events did = record {
     number = did.number;
     told = λ before noted told. subst (λ (l : List Act). HasToldAll g (before ++ l) noted q) same_acts (did.told before noted told);
     alone = λ alone shard.
         let adds = did.alone alone in
-        let there : Bool → List Event = λ b. if b then events_of blocks (now_of g shard p) kept op reply else [] in
+        let there : Bool → List Event = λ b. if b then events_of_op blocks (now_of g shard p) kept op reply else [] in
         dite (ℕ_discrete its shard)
         (λ is.
-        subst (λ (n : ℕ). seen_of g n q ≡ seen_of g n p ++ events_there g.shards blocks n (now_of g n p) kept op reply) is
-        (adds.here ∙ ap (λ (l : List Event). seen_of g its p ++ l) (same_events ∙ sym (ap (λ (b : Bool). if b then events_of blocks (now_of g its p) kept op reply else []) (in-it its ∙ eq-eqb its its refl)))))
+        subst (λ (n : ℕ). seen_of g n q ≡ seen_of g n p ++ events_of_op_in g.shards blocks n (now_of g n p) kept op reply) is
+        (adds.here ∙ ap (λ (l : List Event). seen_of g its p ++ l) (same_events ∙ sym (ap (λ (b : Bool). if b then events_of_op blocks (now_of g its p) kept op reply else []) (in-it its ∙ eq-eqb its its refl)))))
         (λ differs.
         adds.others shard (λ e. differs (sym e))
         ∙ (sym (append-nil (seen_of g shard p)) ∙ ap (λ (l : List Event). seen_of g shard p ++ l) (sym (ap there (in-it shard ∙ ne_eqb its shard differs)))));

@@ -22,8 +22,8 @@ use Rattle.trace_run.specs.callers.CallerLines.{At, DidLine, DidLines}
 use Rattle.trace_run.specs.Effects.{calls_of, calls_of_all, effect_of}
 use Rattle.arc_table.specs.Telling.{opening_of}
 use Rattle.trace_run.specs.Lines.{caller_of, is_of_caller}
-use Rattle.trace_run.specs.one_caller.OneCaller.{IsFoundAs, events_there, kept_after, kept_after_all}
-use Rattle.trace_run.specs.one_caller.OverShards.{AllLinesOver, AreNamed, events_over, shards_after}
+use Rattle.trace_run.specs.one_caller.OneCaller.{IsFoundAs, events_of_op_in, kept_after, kept_after_all}
+use Rattle.trace_run.specs.one_caller.OverShards.{AllLinesOver, AreNamed, events_over, shards_after_op}
 use Rattle.trace_run.specs.Reads.{now_of}
 use Rattle.arc_table.specs.Seen.{HasAll, seen_of}
 use Rattle.trace_run.specs.Tally.{AnswersNow, IsTally, kept_of_block}
@@ -116,9 +116,9 @@ module _ {C P : Type 0} (g : Config) (pools : Ghosts P) (blocks : List Ptr) wher
 
   -- what it finds after one line
   pub line-now : (o : Op) (r : Reply) (a b : At C P) → DidLine g pools blocks o r a b → HasAll a.party → (shard : ℕ)
-      → now_of g shard b.party ≡ shards_after g.shards blocks (λ i. now_of g i a.party) a.kept o r shard
+      → now_of g shard b.party ≡ shards_after_op g.shards blocks (λ i. now_of g i a.party) a.kept o r shard
   line-now o r a b did alone shard =
-      let es : List Event = events_there g.shards blocks shard (now_of g shard a.party) a.kept o r in
+      let es : List Event = events_of_op_in g.shards blocks shard (now_of g shard a.party) a.kept o r in
       ap (replay (opening_of g)) (did.did.alone alone shard) ∙ replay-append (opening_of g) (seen_of g shard a.party) es
 
   -- it has seen the events of its lines more, in each shard
@@ -132,12 +132,12 @@ module _ {C P : Type 0} (g : Config) (pools : Ghosts P) (blocks : List Ptr) wher
       let one = did.1 in
       let now : ℕ → PlainShard = λ i. now_of g i a.party in
       let rest = lines-seen os rs next b did.2 (one.did.all alone) shard in
-      let same : (λ (i : ℕ). now_of g i next.party) ≡ shards_after g.shards blocks now a.kept o r = λ h i. line-now o r a next one alone i h in
-      let more : List Event = events_there g.shards blocks shard (now shard) a.kept o r in
+      let same : (λ (i : ℕ). now_of g i next.party) ≡ shards_after_op g.shards blocks now a.kept o r = λ h i. line-now o r a next one alone i h in
+      let more : List Event = events_of_op_in g.shards blocks shard (now shard) a.kept o r in
       rest
       ∙ ((λ h. seen_of g shard next.party ++ events_over g.shards blocks (same h) (one.kept h) shard os rs)
-      ∙ (ap (λ (l : List Event). l ++ events_over g.shards blocks (shards_after g.shards blocks now a.kept o r) (kept_after blocks o r a.kept) shard os rs) (one.did.alone alone shard)
-      ∙ append_assoc (seen_of g shard a.party) more (events_over g.shards blocks (shards_after g.shards blocks now a.kept o r) (kept_after blocks o r a.kept) shard os rs)))
+      ∙ (ap (λ (l : List Event). l ++ events_over g.shards blocks (shards_after_op g.shards blocks now a.kept o r) (kept_after blocks o r a.kept) shard os rs) (one.did.alone alone shard)
+      ∙ append_assoc (seen_of g shard a.party) more (events_over g.shards blocks (shards_after_op g.shards blocks now a.kept o r) (kept_after blocks o r a.kept) shard os rs)))
 
   -- each answered read names where its access found the bytes
   pub lines-found : (os : List Op) (rs : List Reply) (a b : At C P) → DidLines g pools blocks os rs a b → HasAll a.party
@@ -149,7 +149,7 @@ module _ {C P : Type 0} (g : Config) (pools : Ghosts P) (blocks : List Ptr) wher
       let next = did.0 in
       let one = did.1 in
       let rest = lines-found os rs next b did.2 (one.did.all alone) in
-      let same : (λ (i : ℕ). now_of g i next.party) ≡ shards_after g.shards blocks (λ i. now_of g i a.party) a.kept o r = λ h i. line-now o r a next one alone i h in
+      let same : (λ (i : ℕ). now_of g i next.party) ≡ shards_after_op g.shards blocks (λ i. now_of g i a.party) a.kept o r = λ h i. line-now o r a next one alone i h in
       (one.found alone, subst (λ (x : (ℕ → PlainShard) × List KeptRead). AllLinesOver (λ s kept op reply. IsFoundAs blocks s op reply) g.shards blocks x.0 x.1 os rs) (λ h. (same h, one.kept h)) rest)
 
   -- ---- each has its answer

@@ -30,9 +30,9 @@ use Rattle.trace_run.specs.Effects.{calls_of}
 use Rattle.trace_run.specs.DeviceReads.{AsksFor, LineAsks, size_asked}
 use Rattle.trace_run.specs.KeptReads.{KeptRead}
 use Rattle.trace_run.specs.Lines.{caller_of, is_of_caller}
-use Rattle.trace_run.specs.ObjectLines.{DidObjectLine, OnObject, cell_lines, on_object}
-use Rattle.trace_run.specs.ObjectReplies.{AnswersFrom, LooksFrom}
-use Rattle.trace_run.specs.Objects.{Line, Work, no_work}
+use Rattle.trace_run.specs.dbufs.ObjectLines.{DidObjectLine, OnObject, cell_lines, on_object}
+use Rattle.trace_run.specs.dbufs.ObjectReplies.{AnswersFrom, LooksFrom}
+use Rattle.trace_run.specs.dbufs.Objects.{Line, Work, no_work}
 use Rattle.trace_run.specs.one_caller.OneCaller.{kept_after}
 use Rattle.trace_run.specs.RunWork.{kept_after_lines}
 use Rattle.trace_run.specs.one_caller.OverShards.{AreNamed}

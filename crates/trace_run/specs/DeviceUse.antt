@@ -6,7 +6,7 @@ use Rattle.trace_run.specs.declared.ran.Ending.{Ending}
 use Rattle.trace_run.specs.Devices.{IsHandedBack, usable}
 use Rattle.trace_run.specs.Feeds.{AreFedReplies, is_feed}
 use Rattle.trace_run.specs.Lines.{replies_where}
-use Rattle.trace_run.specs.Objects.{ops_of, replies_of}
+use Rattle.trace_run.specs.dbufs.Objects.{ops_of, replies_of}
 use Rattle.trace_run.specs.RunWork.{RunWork}
 use Rattle.trace_run.specs.callers.DeviceForks.{UsedInGroups}
 use Rattle.trace_run.specs.callers.Together.{groups_done}

@@ -22,12 +22,12 @@ use Rattle.trace_run.specs.Effects.{calls_of_all}
 use Rattle.trace_run.specs.RunWork.{AreMadeBy, RunWork, acts_by, acts_of_cells, own_acts}
 use Rattle.trace_run.specs.Ends.{ends_of}
 use Rattle.arc_table.specs.Telling.{opening_of}
-use Rattle.trace_run.specs.KeptBlocks.{holds_in}
+use Rattle.trace_run.specs.KeptBlocks.{held_in_shard}
 use Rattle.trace_run.specs.Lines.{is_in_shard, is_of_caller, replies_where}
 use Rattle.trace_run.specs.one_caller.Lent.{AsksLent, told_lent}
 use Rattle.trace_run.specs.one_caller.OneCaller.{AreFoundAs, events_of_drops, kept_after_all, one_caller_histories}
 use Rattle.trace_run.specs.one_caller.PlainReport.{IsPlainReport}
-use Rattle.trace_run.specs.one_caller.PlainRun.{images, report_of}
+use Rattle.trace_run.specs.one_caller.PlainRun.{images, plain_report}
 use Rattle.trace_run.specs.Restores.{events_by_feeder, found_keys, restored_shard, restores_in}
 use Rattle.vdev_io.specs.Calls.{MakesCalls, Call}
 
@@ -36,15 +36,15 @@ abbrev pub drops_at_end : Config → List Ptr → (shard callers : ℕ) → List
 drops_at_end config blocks shard zero ops replies = []
 drops_at_end config blocks shard (suc n) ops replies =
     drops_at_end config blocks shard n ops replies
-    ++ events_of_drops n (holds_in config shard (kept_after_all blocks [] (filter (is_of_caller n) ops) (replies_where (is_of_caller n) ops replies)))
+    ++ events_of_drops n (held_in_shard config shard (kept_after_all blocks [] (filter (is_of_caller n) ops) (replies_where (is_of_caller n) ops replies)))
 
 -- a history ends with these events
 abbrev pub EndsWith : List Event → List Event → Type 0
 EndsWith history es = (front : List Event) × (history ≡ front ++ es)
 
 -- and it begins with these
-abbrev pub BeginsWith : List Event → List Event → Type 0
-BeginsWith history es = (rest : List Event) × (history ≡ es ++ rest)
+abbrev pub BeginsWithEvents : List Event → List Event → Type 0
+BeginsWithEvents history es = (rest : List Event) × (history ≡ es ++ rest)
 
 -- The histories explain the replies where no line did anything to a cell, for any number of callers and shards, where these keys were found on the cache device.
 pub record ExplainReads (trace : Trace) (restored : List Restored) (replies : List Reply) (shard_ends : List ShardEnd) (histories : List (List Event)) : Type 0 where
@@ -55,7 +55,7 @@ pub record ExplainReads (trace : Trace) (restored : List Restored) (replies : Li
   pub ends : shard_ends ≡ ends_of trace.config histories
   pub at_rest : AllByRecursion (λ history. IsAtRest (replay (opening_of trace.config) history)) histories
   -- each begins with the restores of its keys, in the order in which they were found
-  pub begins : (shard : ℕ) → shard < length histories → BeginsWith (slice_index_or histories shard []) (restores_in trace.config restored shard)
+  pub begins : (shard : ℕ) → shard < length histories → BeginsWithEvents (slice_index_or histories shard []) (restores_in trace.config restored shard)
   -- each call of each caller stands once in the history of its key's shard, in the order of the lines; the feeder made these restores, then one
   -- Resize in each for each capacity that the trace gives, in the order of the lines, and nothing else
   pub every_call : HoldEveryCallOnce trace.config (shard_of trace.config.shards) (opening_of trace.config)
@@ -73,7 +73,7 @@ pub record Explain (trace : Trace) (restored : List Restored) (work : RunWork) (
   pub ends : shard_ends ≡ ends_of trace.config histories
   pub at_rest : AllByRecursion (λ history. IsAtRest (replay (opening_of trace.config) history)) histories
   -- each begins with the restores of its keys, in the order in which they were found
-  pub begins : (shard : ℕ) → shard < length histories → BeginsWith (slice_index_or histories shard []) (restores_in trace.config restored shard)
+  pub begins : (shard : ℕ) → shard < length histories → BeginsWithEvents (slice_index_or histories shard []) (restores_in trace.config restored shard)
   -- Each call of each caller stands once in the history of its key's shard, in the order of the lines; the feeder made these restores, then for each line
   -- that gives a capacity one Resize in each, and for each feed its own events, in the order of the lines, and nothing else with its own number. The events with the numbers of cells
   -- stand for acts, each for one.
@@ -107,4 +107,4 @@ pub record RunsAlone {P D : Type 0} (pool : Ghosts P) (device : DeviceGhosts D) 
   pub asked : AsksLent device trace (found_keys report.rebuilt) report.replies device_calls lent back
   -- over a pool and a device that tell their bytes the report is that of the plain run, but that a block which did not come from the pool may be another
   -- content of its digest
-  pub plain : IfSome (pool.told before) (λ image. IfSome (told_lent device lent) (λ bytes. IsPlainReport trace (report_of trace report.rebuilt (images image bytes) calls device_calls) report))
+  pub plain : IfSome (pool.told before) (λ image. IfSome (told_lent device lent) (λ bytes. IsPlainReport trace (plain_report trace report.rebuilt (images image bytes) calls device_calls) report))

@@ -132,8 +132,8 @@ module _ {C : Type 0} where
 -- ---- all that is kept is given back
 
 -- the kept reads that hold an entry of this shard
-abbrev pub holds_in : Config → (shard : ℕ) → List KeptRead → List KeptRead
-holds_in g shard = filter (λ (read : KeptRead). option_map_or (λ k. shard_of g.shards k == shard) read.held false)
+abbrev pub held_in_shard : Config → (shard : ℕ) → List KeptRead → List KeptRead
+held_in_shard g shard = filter (λ (read : KeptRead). option_map_or (λ k. shard_of g.shards k == shard) read.held false)
 
 module _ {C : Type 0} (m : Meanings C) where
   -- what is kept is given back, one read after another
@@ -145,4 +145,4 @@ module _ {C : Type 0} where
   -- A party that has every number has seen just the drops of these reads more, each in the shard of its entry.
   pub record DroppedAlone (g : Config) (reads : List KeptRead) (p q : Place (Known C)) : Type 0 where
     pub all : HasAll q
-    pub seen : (shard : ℕ) → seen_of g shard q ≡ seen_of g shard p ++ events_of_drops p.number (holds_in g shard reads)
+    pub seen : (shard : ℕ) → seen_of g shard q ≡ seen_of g shard p ++ events_of_drops p.number (held_in_shard g shard reads)

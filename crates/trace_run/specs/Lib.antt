@@ -2,9 +2,7 @@ pub mod Acts
 pub mod Answering
 pub mod Answers
 pub mod Bounded
-pub mod CellEnds
 pub mod CheckText
-pub mod DbufTurns
 pub mod Deeds
 pub mod DeviceReads
 pub mod DeviceUse
@@ -22,10 +20,6 @@ pub mod Lines
 pub mod MadeLines
 pub mod Making
 pub mod Meeting
-pub mod ObjectAnswers
-pub mod ObjectLines
-pub mod Objects
-pub mod ObjectReplies
 pub mod Opened
 pub mod Openings
 pub mod Outcome
@@ -39,4 +33,5 @@ pub mod Syncing
 pub mod Tally
 pub mod Words
 pub mod callers
+pub mod dbufs
 pub mod one_caller

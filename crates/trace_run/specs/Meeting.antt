@@ -23,7 +23,7 @@ use Rattle.trace_run.specs.Making.{AreEventsSeen, AreNoEntries, HasSeenItsEvents
 use Rattle.arc_table.specs.Views.{after_learned}
 use Rattle.trace_run.specs.declared.kept_blocks.KeptBlock.{KeptBlock}
 use Rattle.trace_run.specs.Acts.{acts_of_drops}
-use Rattle.trace_run.specs.KeptBlocks.{Stands, holds_in, read_of}
+use Rattle.trace_run.specs.KeptBlocks.{Stands, held_in_shard, read_of}
 use Rattle.trace_run.specs.one_caller.OneCaller.{events_of_drops}
 use Rattle.trace_run.specs.Openings.{Knows}
 
@@ -164,7 +164,7 @@ module _ {C : Type 0} where
     pub gave : (n : ℕ) (acts : List Act) (noted : List Noted) → Waits cache n acts noted kept p → Waits cache n (acts ++ acts_of_drops n (map read_of kept)) noted [] last
     pub fed : (openings : List (List ℕ)) (fed since : (shard : ℕ) → List Event) (acts : List Act) (noted : List Noted) → kept ≡ [] → IsFed cache openings fed since acts noted p → IsFed cache openings fed since acts noted last
     pub drops : (before : ℕ → List Line) → IsLevel cache.config before p → AllByRecursion (IsLevel cache.config before) others
-        → (shard : ℕ) → events_in (lines shard) ≡ events_in (before shard) ++ events_of_drops p.number (holds_in cache.config shard (map read_of kept))
+        → (shard : ℕ) → events_in (lines shard) ≡ events_in (before shard) ++ events_of_drops p.number (held_in_shard cache.config shard (map read_of kept))
     -- and of cells they have seen no more than before, where all had seen the same
     pub same_cells : (entries : ℕ → List Line) → SeesEntries cache.config entries p → AllByRecursion (SeesEntries cache.config entries) others → AllByRecursion (SeesEntries cache.config entries) news
 
@@ -192,7 +192,7 @@ module _ {C : Type 0} where
 -- the drops of kept reads in a shard: first those of the caller n, and then of those behind it
 abbrev pub drops_from : Config → (shard n : ℕ) → List (List KeptBlock) → List Event
 drops_from g shard n [] = []
-drops_from g shard n (k ∷ ks) = events_of_drops n (holds_in g shard (map read_of k)) ++ drops_from g shard (suc n) ks
+drops_from g shard n (k ∷ ks) = events_of_drops n (held_in_shard g shard (map read_of k)) ++ drops_from g shard (suc n) ks
 
 module _ {C : Type 0} where
   -- callers by their numbers from this one on, which keep these reads

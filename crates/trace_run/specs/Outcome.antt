@@ -32,7 +32,7 @@ use Rattle.dbuf_cells.specs.Turns.{OnHeap}
 use Rattle.trace_text.specs.Generator.{generated_block, generated_read, generated_sizes}
 use Rattle.trace_run.specs.Answers.{AnswersAll}
 use Rattle.trace_run.specs.Bounded.{device_len, with_bound}
-use Rattle.trace_run.specs.CellEnds.{AreCellsOf, AreEndedSo}
+use Rattle.trace_run.specs.dbufs.CellEnds.{AreCellsOf, AreEndedSo}
 use Rattle.trace_run.specs.RunWork.{IsRunWork, RunWork, noted_by, only_ended, plain_work}
 use Rattle.trace_run.specs.CheckText.{check_text}
 use Rattle.trace_run.specs.DeviceUse.{WasUsed}
@@ -42,9 +42,9 @@ use Rattle.trace_run.specs.Explaining.{Explain, RunsAlone}
 use Rattle.trace_run.specs.FeedSeries.{WasFedFrom}
 use Rattle.trace_run.specs.Feeds.{AreFedReplies, is_feed}
 use Rattle.trace_run.specs.Lines.{has_further, has_sync, replies_where}
-use Rattle.trace_run.specs.Objects.{ops_of, replies_of}
-use Rattle.trace_run.specs.ObjectAnswers.{AreAnsweredByCells}
-use Rattle.trace_run.specs.one_caller.PlainRun.{images, report_of}
+use Rattle.trace_run.specs.dbufs.Objects.{ops_of, replies_of}
+use Rattle.trace_run.specs.dbufs.ObjectAnswers.{AreAnsweredByCells}
+use Rattle.trace_run.specs.one_caller.PlainRun.{images, plain_report}
 use Rattle.l2_dev.specs.Cursor.{CursorState}
 use Rattle.trace_run.specs.Restores.{found_keys}
 use Rattle.trace_run.specs.States.{Handed}
@@ -176,7 +176,7 @@ zeros_of blocks = replicate (blocks * 512) 0
 -- The report is that of a made trace, whose zero bytes are a pool that doesn't fail: a plain function of the three numbers. No reply is
 -- a refusal, and none is printed.
 pub record IsGenReport (seed blocks ops : ℕ) (closed : Ended OnHeap) (report : Report) : Type 0 where
-  pub plain : report ≡ record (report_of (generated seed blocks ops) None (images (zeros_of blocks) []) [] []) { short = true }
+  pub plain : report ≡ record (plain_report (generated seed blocks ops) None (images (zeros_of blocks) []) [] []) { short = true }
   pub answers : AnswersAll (blocks * 512) (Some (zeros_of blocks)) (generated seed blocks ops).blocks (generated seed blocks ops).ops report.replies
   pub explained : Explain (generated seed blocks ops) [] (plain_work (generated seed blocks ops).ops report.replies) report.replies report.ends report.histories
   pub tells : TellsClosed closed report

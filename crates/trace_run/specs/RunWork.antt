@@ -14,14 +14,14 @@ use Rattle.trace_text.specs.declared.op.Op.{Op}
 use Rattle.trace_text.specs.declared.op.Op.TheVariants as ops
 use Rattle.trace_text.specs.declared.reply.Reply.{Reply}
 use Rattle.trace_run.specs.Acts.{acts_of_drops}
-use Rattle.trace_run.specs.CellEnds.{IsCellDrop, ends_from}
+use Rattle.trace_run.specs.dbufs.CellEnds.{IsCellDrop, noted_ends}
 use Rattle.trace_run.specs.Deeds.{Noted, acts_of_events, with_number}
 use Rattle.trace_run.specs.KeptReads.{KeptRead}
 use Rattle.trace_run.specs.Lines.{caller_of, is_of_caller}
 use Rattle.trace_run.specs.MadeLines.{owned_from}
 use Rattle.trace_run.specs.FeedEvents.{AreFeedsTold}
 use Rattle.trace_run.specs.Feeds.{FeedDone}
-use Rattle.trace_run.specs.Objects.{Line, Nothing, Work, no_work}
+use Rattle.trace_run.specs.dbufs.Objects.{Line, Nothing, Work, no_work}
 use Rattle.trace_run.specs.callers.WorkLines.{AreLinesOf, IsWorkOf, acts_of_work, noted_of_work}
 use Rattle.trace_run.specs.one_caller.OneCaller.{kept_after}
 
@@ -128,11 +128,11 @@ acts_by g blocks work n = if n == g.callers then (acts_of_syncs g blocks work ++
 
 -- to cells: the feeder ended them, behind all that it synced
 abbrev pub noted_by : Config → RunWork → (n : ℕ) → List Noted
-noted_by g work n = if n == g.callers then (noted_of_syncs work ++ ends_from n 0 g.cells) else noted_of_work (lines_of_caller n work.lines)
+noted_by g work n = if n == g.callers then (noted_of_syncs work ++ noted_ends n 0 g.cells) else noted_of_work (lines_of_caller n work.lines)
 
 -- the same where no line did anything to a cell
 abbrev pub only_ended : Config → (n : ℕ) → List Noted
-only_ended g n = if n == g.callers then ends_from n 0 g.cells else []
+only_ended g n = if n == g.callers then noted_ends n 0 g.cells else []
 
 -- ---- acts with the callers' own numbers, and with those of cells
 

@@ -9,7 +9,7 @@ use Rattle.trace_text.specs.declared.reply.Reply.TheVariants.{Capped}
 use Rattle.trace_run.specs.KeptReads.{KeptRead}
 use Rattle.trace_run.specs.Answers.{AnswersRead, AnswersHold, AnswersDrop, kept_reads, dropped_reads}
 use Rattle.trace_run.specs.Lines.{caller_of}
-use Rattle.trace_run.specs.ObjectLines.{IsSized}
+use Rattle.trace_run.specs.dbufs.ObjectLines.{IsSized}
 use Rattle.trace_run.specs.one_caller.OneCaller.{is_of_block, kept_after}
 
 -- how many of the kept reads are of the block

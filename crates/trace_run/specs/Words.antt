@@ -12,15 +12,15 @@ words_of (Paper c) = codes "paper" ∷ decimal c ∷ []
 words_of Check = codes "check" ∷ []
 
 -- the numbers of a command are in their ranges
-abbrev pub IsInRange : Command → Type 0
-IsInRange (Run events) = Unit {0}
-IsInRange (Gen seed blocks ops) = (seed < 2 ^ 31) × (1 ≤ blocks) × (blocks ≤ 32768) × (ops ≤ 1000000)
-IsInRange (Paper c) = (1 ≤ c) × (c ≤ 65536)
-IsInRange Check = Unit {0}
+abbrev pub IsCommandInRange : Command → Type 0
+IsCommandInRange (Run events) = Unit {0}
+IsCommandInRange (Gen seed blocks ops) = (seed < 2 ^ 31) × (1 ≤ blocks) × (blocks ≤ 32768) × (ops ≤ 1000000)
+IsCommandInRange (Paper c) = (1 ≤ c) × (c ≤ 65536)
+IsCommandInRange Check = Unit {0}
 
 -- these words are the command
 abbrev pub IsCommand : List (List ℕ) → Command → Type 0
-IsCommand words command = (words ≡ words_of command) × IsInRange command
+IsCommand words command = (words ≡ words_of command) × IsCommandInRange command
 
 -- some command begins with these words
 pub record Begins (words : List (List ℕ)) : Type 0 where

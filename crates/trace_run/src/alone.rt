@@ -11,7 +11,7 @@ ghost use Rattle.trace_run.specs.declared.kept_blocks.KeptBlock.{KeptBlock};
 ghost use Rattle.trace_run.specs.one_caller.Alone.{RanAlone};
 ghost use Rattle.trace_run.specs.callers.CallerLines.{DidLines, HasFed, HasResized, at};
 ghost use Rattle.trace_run.specs.RunWork.{only_ended};
-ghost use Rattle.trace_run.specs.CellEnds.{AreCellsOf, HasSeenEnds};
+ghost use Rattle.trace_run.specs.dbufs.CellEnds.{AreCellsOf, HasSeenEnds};
 ghost use Rattle.trace_run.specs.KeptBlocks.{Stands, read_of};
 ghost use Rattle.trace_run.specs.Lines.{caller_of, has_further, is_further};
 ghost use Rattle.trace_run.specs.Meeting.{HasFeeder};

@@ -3,7 +3,7 @@ ghost use Rattle.std.specs.Prelude.{◌≡◌, ◌<◌, ◌++◌, ◌∷◌, [],
 ghost use Rattle.arc_table.specs.declared.view.Known.{Known};
 ghost use Rattle.dbuf_cells.specs.Turns.{OnHeap};
 ghost use Rattle.turn_table.specs.Places.{Place};
-ghost use Rattle.trace_run.specs.CellEnds.{EndedCells, EndedCrew};
+ghost use Rattle.trace_run.specs.dbufs.CellEnds.{EndedCells, EndedCrew};
 ghost use Rattle.trace_run.specs.Meeting.{MayGoOn};
 
 use crate::ending::{join_all, numbers_of, part_all};

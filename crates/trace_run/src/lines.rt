@@ -10,7 +10,7 @@ ghost use Rattle.trace_run.specs.Answering.{KeepsImage, ReadsImage};
 ghost use Rattle.trace_run.specs.Answers.{AnswersDrop, AnswersHold, AnswersRead, IsInside};
 ghost use Rattle.trace_run.specs.callers.WorkLines.{DidOps, DidWith, at_work};
 ghost use Rattle.trace_run.specs.DeviceReads.{AsksFor};
-ghost use Rattle.trace_run.specs.ObjectLines.{IsSized};
+ghost use Rattle.trace_run.specs.dbufs.ObjectLines.{IsSized};
 ghost use Rattle.trace_run.specs.Effects.{calls_of, effect_of};
 ghost use Rattle.trace_run.specs.KeptBlocks.{Drops, Stands, read_of};
 ghost use Rattle.trace_run.specs.Lines.{caller_of, is_of_caller};

@@ -4,7 +4,7 @@ ghost use Rattle.arc_table.specs.Reading.{KeepsDevice, outside};
 ghost use Rattle.blk_ptr.specs.Size.{IsBlockSize};
 ghost use Rattle.vdev_io.specs.Calls.{KeepsPool};
 ghost use Rattle.trace_run.specs.KeptBlocks.{Stands};
-ghost use Rattle.trace_run.specs.ObjectLines.{DidGet, DidObjectLine, DidPatch, DidPin, DidPut, DidUnpin, IsSized, TellsFault, on_object};
+ghost use Rattle.trace_run.specs.dbufs.ObjectLines.{DidGet, DidObjectLine, DidPatch, DidPin, DidPut, DidUnpin, IsSized, TellsFault, on_object};
 ghost use Rattle.trace_run.specs.declared.kept_blocks.KeptBlock.{KeptBlock};
 
 use crate::lines::refusal_of as refusal_of_read;

@@ -11,7 +11,7 @@ ghost use Rattle.trace_run.specs.callers.Beside.{WasInUse};
 ghost use Rattle.trace_run.specs.callers.Group.{LeavesDeclared};
 ghost use Rattle.trace_run.specs.callers.Together.{report_status};
 ghost use Rattle.trace_run.specs.Restores.{found_keys};
-ghost use Rattle.trace_run.specs.Words.{IsInRange};
+ghost use Rattle.trace_run.specs.Words.{IsCommandInRange};
 ghost use Rattle.trace_run.specs.declared.words.Command.TheVariants as command;
 
 use crate::device::Device;
@@ -77,7 +77,7 @@ pub(crate) fn run_generated_trace<R: Threads + Wait + Sync, G: Gate>(
     ops: u32,
     gate: &G,
 ) -> Result<Reported, NoMemory>
-    requires { IsInRange (command.Gen seed blocks ops) }
+    requires { IsCommandInRange (command.Gen seed blocks ops) }
     ensures generated { IfOk result (λ told. IsGenReport seed blocks ops told.closed told.report) }
     ensures status { IfOk result (λ told. told.report.status ≡ report_status told.ending told.report.replies) }
 {

@@ -7,7 +7,7 @@ ghost use Rattle.trace_run.specs.callers.Group.{StaysPool};
 ghost use Rattle.trace_run.specs.callers.Together.{report_status};
 ghost use Rattle.trace_run.specs.States.{handed};
 ghost use Rattle.vdev_io.specs.Streams.{sink_state, source_state};
-ghost use Rattle.trace_run.specs.Words.{IsInRange, texts};
+ghost use Rattle.trace_run.specs.Words.{IsCommandInRange, texts};
 ghost use Rattle.trace_run.specs.declared.words.Command.TheVariants as command;
 
 use crate::bounded::with_bound;
@@ -127,7 +127,7 @@ fn run_generated<R: Threads + Wait + Sync, K: Sink, G: Gate>(
     sink: &mut K,
     gate: &G,
 ) -> Outcome
-    requires { IsInRange (command.Gen seed blocks ops) }
+    requires { IsCommandInRange (command.Gen seed blocks ops) }
     ensures past_words { IfUsage result.status ⊥ }
     ensures fair { IsGenStatus result.status }
     ensures reported { IfReported result.report result.closed (IsGenReport seed blocks ops) }

@@ -9,7 +9,7 @@ use Rattle.arc_table.specs.Cache.{Cache}
 use Rattle.arc_table.specs.TableLaws.{get_front}
 use Rattle.arc_table.proofs.TableLaws.{get_last, get_more}
 use Rattle.dbuf_cells.specs.Turns.{PartyPlace}
-use Rattle.trace_run.specs.CellEnds.{EndedCells, EndedCrew}
+use Rattle.trace_run.specs.dbufs.CellEnds.{EndedCells, EndedCrew}
 use Rattle.trace_run.specs.callers.GroupRun.{HaveStopped}
 use Rattle.trace_run.specs.KeptBlocks.{Stands}
 use Rattle.trace_run.specs.Meeting.{HaveParted}

@@ -25,7 +25,7 @@ use Rattle.trace_run.specs.Feeds.{AreFedReplies, DoesFeeds, FeedDone, IsIdleFeed
 use Rattle.trace_run.specs.Meeting.{IsFed}
 use Rattle.trace_run.specs.callers.Beside.{TriesBeside, WorksBeside}
 use Rattle.trace_run.specs.callers.DeviceForks.{HaveRead}
-use Rattle.trace_run.specs.Objects.{Line}
+use Rattle.trace_run.specs.dbufs.Objects.{Line}
 use Rattle.trace_run.proofs.DeviceLemmas.{lent-same}
 use Rattle.trace_run.proofs.feeds.FeedLemmas.{made-none, none-done}
 

@@ -21,7 +21,7 @@ use Rattle.trace_run.specs.declared.ran.Ending.{Ending}
 use Rattle.trace_run.specs.declared.ran.Ending.TheVariants.{Fork, Full, Sync, Whole}
 use Rattle.trace_run.specs.Deeds.{HasToldOthers, acts_of_events}
 use Rattle.trace_run.specs.Meeting.{resizes_in}
-use Rattle.trace_run.specs.Objects.{Line, Work, no_work}
+use Rattle.trace_run.specs.dbufs.Objects.{Line, Work, no_work}
 use Rattle.trace_run.specs.Openings.{Knows, openings_of}
 use Rattle.trace_run.specs.RunWork.{RunWork}
 use Rattle.trace_run.specs.Syncing.{SyncedJoined, SyncsJoined, inserts_in, noted_of}

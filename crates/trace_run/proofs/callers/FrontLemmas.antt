@@ -22,8 +22,8 @@ use Rattle.trace_text.specs.declared.reply.Reply.TheVariants as replies
 use Rattle.trace_run.specs.Answers.{AnswersHold, AnswersRead, IsReadRefusal, IsWindowRefusal}
 use Rattle.trace_run.specs.Deeds.{Noted}
 use Rattle.trace_run.specs.KeptReads.{KeptRead}
-use Rattle.trace_run.specs.ObjectLines.{OnObject, on_object}
-use Rattle.trace_run.specs.Objects.{Line}
+use Rattle.trace_run.specs.dbufs.ObjectLines.{OnObject, on_object}
+use Rattle.trace_run.specs.dbufs.Objects.{Line}
 use Rattle.trace_run.specs.Read.{IsMismatch, IsReadOf}
 use Rattle.trace_run.specs.Tally.{AnswersNow}
 use Rattle.trace_run.specs.one_caller.OneCaller.{kept_after}

@@ -27,7 +27,7 @@ use Rattle.trace_run.specs.callers.Group.{HasWorked, HaveWorked, IsFork, Replied
 use Rattle.trace_run.specs.callers.WorkLines.{AnswersLines, AreLinesOf, AsksGiven, IsWorkOf, LooksLines}
 use Rattle.trace_run.specs.KeptBlocks.{Stands, read_of}
 use Rattle.trace_run.specs.Lines.{is_of_caller}
-use Rattle.trace_run.specs.Objects.{Line}
+use Rattle.trace_run.specs.dbufs.Objects.{Line}
 use Rattle.trace_run.specs.one_caller.OverShards.{AreNamed}
 use Rattle.trace_run.specs.Tally.{AreAnswered}
 use Rattle.trace_run.specs.callers.Together.{over_callers}

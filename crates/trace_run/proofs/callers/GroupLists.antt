@@ -12,7 +12,7 @@ use Rattle.trace_text.specs.declared.op.Op.{Op}
 use Rattle.arc_core.specs.Operations.{Act}
 use Rattle.trace_run.specs.FeedEvents.{feeds_told}
 use Rattle.trace_run.specs.Feeds.{FeedDone}
-use Rattle.trace_run.specs.Objects.{Line, ops_of, replies_of}
+use Rattle.trace_run.specs.dbufs.Objects.{Line, ops_of, replies_of}
 use Rattle.trace_run.specs.Restores.{restores_in}
 use Rattle.trace_run.specs.callers.Together.{BeginsGroup, GroupLines, IsCut, ends_group, events_at_end, groups_begun, groups_of, with_first}
 use Rattle.trace_run.proofs.callers.LineLists.{AreInside}

@@ -24,7 +24,7 @@ use Rattle.trace_run.specs.declared.groups.Crew.{Crew}
 use Rattle.trace_run.specs.declared.kept_blocks.KeptBlock.{KeptBlock}
 use Rattle.trace_run.specs.callers.Groups.{ComesAt, HaveCome, KeepNothing}
 use Rattle.trace_run.specs.Meeting.{HasParted, HaveParted, IsLevel, MadeJoined}
-use Rattle.trace_run.specs.Objects.{Line as AnsweredLine}
+use Rattle.trace_run.specs.dbufs.Objects.{Line as AnsweredLine}
 use Rattle.trace_run.specs.Opened.{AreOpened, IsOpened}
 use Rattle.trace_run.specs.Restores.{restores_in}
 use Rattle.trace_run.specs.RunWork.{IsRunWork, plain_work}

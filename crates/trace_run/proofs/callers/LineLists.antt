@@ -23,8 +23,8 @@ use Rattle.trace_run.specs.Effects.{Answered, calls_of, effect_of}
 use Rattle.trace_run.specs.Feeds.{is_feed}
 use Rattle.trace_run.specs.KeptReads.{KeptRead}
 use Rattle.trace_run.specs.Lines.{caller_of, is_of_caller}
-use Rattle.trace_run.specs.Objects.{Brought, GoesTogether, IsDoneWith, IsGotWith, IsRefusedWith, Line, Loaded, Nothing, Refused, replies_of}
-use Rattle.trace_run.specs.ObjectLines.{on_object}
+use Rattle.trace_run.specs.dbufs.Objects.{Brought, GoesTogether, IsDoneWith, IsGotWith, IsRefusedWith, Line, Loaded, Nothing, Refused, replies_of}
+use Rattle.trace_run.specs.dbufs.ObjectLines.{on_object}
 use Rattle.trace_run.specs.one_caller.OneCaller.{kept_after}
 use Rattle.trace_run.specs.RunWork.{kept_after_lines}
 use Rattle.trace_run.specs.callers.InOrder.{AreInGroup}

@@ -20,7 +20,7 @@ use Rattle.trace_text.specs.declared.reply.Reply.{Reply}
 use Rattle.trace_run.specs.declared.groups.Crew.{Crew}
 use Rattle.trace_run.specs.Deeds.{HasToldAll}
 use Rattle.trace_run.specs.Lines.{caller_of}
-use Rattle.trace_run.specs.Objects.{Line, Work}
+use Rattle.trace_run.specs.dbufs.Objects.{Line, Work}
 use Rattle.trace_run.specs.RunWork.{RunWork, lines_of_caller}
 use Rattle.trace_run.specs.callers.Group.{AllWorked}
 use Rattle.trace_run.specs.callers.Groups.{ComesAt, HaveCome}

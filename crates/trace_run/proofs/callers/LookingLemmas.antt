@@ -24,9 +24,9 @@ use Rattle.dbuf_state.specs.declared.oid.Oid.{Oid}
 use Rattle.trace_run.specs.Deeds.{KeepsCells, events_of_cell, lines_of_cell}
 use Rattle.trace_run.specs.Lines.{caller_of, is_of_caller}
 use Rattle.trace_run.specs.Meeting.{HaveMet}
-use Rattle.trace_run.specs.ObjectLines.{OnObject, cell_lines, on_object}
-use Rattle.trace_run.specs.ObjectReplies.{AnswersObject}
-use Rattle.trace_run.specs.Objects.{Line}
+use Rattle.trace_run.specs.dbufs.ObjectLines.{OnObject, cell_lines, on_object}
+use Rattle.trace_run.specs.dbufs.ObjectReplies.{AnswersObject}
+use Rattle.trace_run.specs.dbufs.Objects.{Line}
 use Rattle.trace_run.specs.RunWork.{lines_of_caller}
 use Rattle.trace_run.specs.callers.Looking.{HaveLooked, LooksCut}
 use Rattle.trace_run.specs.callers.Together.{ends_group}

@@ -20,7 +20,7 @@ use Rattle.trace_run.specs.declared.kept_blocks.KeptBlock.{KeptBlock}
 use Rattle.trace_run.specs.Devices.{lent_in}
 use Rattle.trace_run.specs.Feeds.{AreFedReplies, is_feed}
 use Rattle.trace_run.specs.Lines.{caller_of, is_of_caller, replies_where}
-use Rattle.trace_run.specs.Objects.{Line, no_work}
+use Rattle.trace_run.specs.dbufs.Objects.{Line, no_work}
 use Rattle.trace_run.specs.RunWork.{AllFit, FitsBy, FitsFeeder, lines_of_caller}
 use Rattle.trace_run.specs.callers.Beside.{WorksBeside}
 use Rattle.trace_run.specs.callers.DeviceForks.{AllAsk, HaveRead}

@@ -29,13 +29,13 @@ use Rattle.trace_run.specs.KeptBlocks.{read_of}
 use Rattle.trace_run.specs.KeptReads.{KeptRead}
 use Rattle.trace_run.specs.Lines.{caller_of, replies_where}
 use Rattle.trace_run.specs.Meeting.{IsFed, Waits}
-use Rattle.trace_run.specs.ObjectLines.{on_object}
-use Rattle.trace_run.specs.Objects.{Line, Work, no_work, ops_of, replies_of}
+use Rattle.trace_run.specs.dbufs.ObjectLines.{on_object}
+use Rattle.trace_run.specs.dbufs.Objects.{Line, Work, no_work, ops_of, replies_of}
 use Rattle.trace_run.specs.Restores.{events_by_feeder, restores_in}
 use Rattle.trace_run.specs.RunWork.{AllFit, FitsBy, IsSyncWork, RunWork, acts_of_syncs, kept_after_lines, lines_of_caller, lines_of_feeder, noted_of_syncs}
 use Rattle.trace_run.specs.callers.Beside.{FeedsBeside}
 use Rattle.trace_run.specs.callers.Group.{AllWorked, HasWorked}
-use Rattle.trace_run.specs.callers.Groups.{AreEndLines, ComesAt, DidLines, DidLinesAtOnce, HaveCome, AreMakers}
+use Rattle.trace_run.specs.callers.Groups.{AreEndLines, ComesAt, DidLinesOfAll, DidLinesAtOnce, HaveCome, AreMakers}
 use Rattle.trace_run.specs.callers.InOrder.{AreInGroup}
 use Rattle.trace_run.specs.callers.Together.{AreCut, IsFirstPlace, ends_group}
 use Rattle.trace_run.specs.callers.WorkLines.{AnswersLines, HasFront, acts_of_work, noted_of_work, AreLinesOf}
@@ -96,7 +96,7 @@ fed-about m devices cache qs callers ss a b p q works idle again = (fed-beside m
 
 -- what callers and the feeder did at once, without what it cost the pool and the device
 abbrev pub lines-of : {P D : Type 0} (m : Meanings OnHeap) (cache : Cache) (pools : Ghosts P) (devices : Devices D) (blocks : List Ptr) (qs : List Op) (from to : P) (a b : Device D) (old new : Crew OnHeap) (ss : List Reply) → DidLinesAtOnce m cache pools devices blocks qs from to a b old new ss
-    → DidLines m cache pools devices blocks qs from a b old new ss
+    → DidLinesOfAll m cache pools devices blocks qs from a b old new ss
 lines-of m cache pools devices blocks qs from to a b old new ss did = record {
   lines = did.lines;
   are = did.are;
@@ -260,7 +260,7 @@ module _ {P D : Type 0} (cache : Cache) (restored : List Restored) (pools : Ghos
 
 -- the lines of a group, beside which the feeder did its own alone
 module _ {P D : Type 0} (m : Meanings OnHeap) (cache : Cache) (restored : List Restored) (pools : Ghosts P) (devices : Devices D) (len : ℕ) (image : Option (List ℕ)) (place : ℕ) (blocks : List Ptr) (os qs : List Op) (rs ss : List Reply) (w : RunWork)
-    (from : P) (a b : Device D) (old new : Crew OnHeap) (before : HaveCome cache restored len image place blocks os rs w old) (goes_on : w.stopped ≡ no_work) (did : DidLines m cache pools devices blocks qs from a b old new ss)
+    (from : P) (a b : Device D) (old new : Crew OnHeap) (before : HaveCome cache restored len image place blocks os rs w old) (goes_on : w.stopped ≡ no_work) (did : DidLinesOfAll m cache pools devices blocks qs from a b old new ss)
     (own : AreInGroup cache.config.callers qs) (again : IsIdleFeeder cache new.feeder) (first : IsFirstPlace len blocks place) (size : pools.size from ≡ len) (front : HasFront place image (pools.told from)) where
   pub have-come-more : HaveCome cache restored len image place blocks (os ++ qs) (rs ++ ss) (with_lines w did.lines did.beside.feeds) new
   have-come-more =

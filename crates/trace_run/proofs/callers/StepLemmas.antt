@@ -36,7 +36,7 @@ use Rattle.trace_run.specs.FeedSeries.{AreMadeSoFar}
 use Rattle.trace_run.specs.Feeds.{AreFedReplies, IsIdleFeeder, is_feed}
 use Rattle.trace_run.specs.Lines.{caller_of, is_of_caller, replies_where, has_sync, is_sync}
 use Rattle.trace_run.specs.Meeting.{MadeJoined, MayGoOn}
-use Rattle.trace_run.specs.Objects.{Line, ops_of, replies_of, Work, no_work}
+use Rattle.trace_run.specs.dbufs.Objects.{Line, ops_of, replies_of, Work, no_work}
 use Rattle.trace_run.specs.Opened.{AreOpened}
 use Rattle.trace_run.specs.Openings.{Knows, openings_of}
 use Rattle.trace_run.specs.Restores.{restores_in}
@@ -45,7 +45,7 @@ use Rattle.trace_run.specs.Tally.{AreDeclared}
 use Rattle.trace_run.specs.callers.Beside.{WorksBeside}
 use Rattle.trace_run.specs.callers.DeviceForks.{HaveRead, UsedAtOnce, UsedInGroups}
 use Rattle.trace_run.specs.callers.Group.{AllWorked, HaveWorked, LeavesFront, LeavesPool}
-use Rattle.trace_run.specs.callers.Groups.{AreBetween, AreDone, DidEndLine, DidLines, DidLinesAtOnce, ForkFailed, HaveCome, HaveCounted, HaveReached, KeepNothing, MaySync, StepsOn, StoodSo, goes_on}
+use Rattle.trace_run.specs.callers.Groups.{AreBetween, AreDone, DidEndLine, DidLinesOfAll, DidLinesAtOnce, ForkFailed, HaveCome, HaveCounted, HaveReached, KeepNothing, MaySync, StepsOn, StoodSo, goes_on}
 use Rattle.trace_run.specs.callers.InOrder.{AreInGroup}
 use Rattle.trace_run.specs.callers.Looking.{HaveLooked}
 use Rattle.trace_run.specs.callers.Together.{BeginsGroup, EndsGroup, GroupLines, IsFirstPlace, OfCells, BetweenGroups, ToldAsBegun, WorkAtOnce, WorkInGroups, between_groups, ends_group, groups_done, groups_of, over_callers, IsCutLast, lines_with_end, with_first}
@@ -375,7 +375,7 @@ module _ {P D : Type 0} (cache : Cache) (restored : List Restored) (pools : Ghos
       (group-reads cache pools trace.blocks callers was.pool from to ms old.kept.items old.parties.items new.kept.items new.parties.items unused worked some_callers.0 few-here some_callers.1)
       (group-faults cache pools trace.blocks callers was.pool from to ms old.kept.items old.parties.items new.kept.items new.parties.items unused worked some_callers.0 few-here some_callers.1)
 
-  abbrev did-lines : DidLines dbuf_meanings cache pools devices trace.blocks qs from a b old new ss
+  abbrev did-lines : DidLinesOfAll dbuf_meanings cache pools devices trace.blocks qs from a b old new ss
   did-lines = lines-of dbuf_meanings cache pools devices trace.blocks qs from to a b old new ss did
 
   pub come-lines : HaveCome cache restored (pools.size start.pool) (pools.told start.pool) start.next trace.blocks (os ++ qs) (rs ++ ss) done new

@@ -21,9 +21,9 @@ use Rattle.trace_text.specs.declared.op.Op.TheVariants as ops
 use Rattle.trace_text.specs.declared.reply.Reply.{Reply}
 use Rattle.trace_text.specs.declared.trace.Trace.{Trace}
 use Rattle.vdev_io.specs.declared.pool.Pool.{Ghosts}
-use Rattle.trace_run.specs.CellEnds.{AreCellsOf, IsCellOf}
+use Rattle.trace_run.specs.dbufs.CellEnds.{AreCellsOf, IsCellOf}
 use Rattle.trace_run.specs.Deeds.{Noted}
-use Rattle.trace_run.specs.Objects.{Line, Work}
+use Rattle.trace_run.specs.dbufs.Objects.{Line, Work}
 use Rattle.trace_run.specs.callers.Groups.{StoodSo}
 use Rattle.trace_run.specs.callers.Together.{BetweenGroups, EndsBy, EndsGroup, GroupLines, HadThen, OfCells, StoodThen, StopsSync, SyncsGroup, WorkInGroups, lines_with_end}
 use Rattle.trace_run.specs.Openings.{opening_map, openings_of}

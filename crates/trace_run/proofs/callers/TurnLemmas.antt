@@ -26,7 +26,7 @@ use Rattle.trace_run.proofs.deeds.MakesLemmas.{grown-same, keeps-then, later-sam
 use Rattle.arc_table.proofs.OwnLemmas.{no-own-moments, own-append}
 use Rattle.trace_run.specs.declared.kept_blocks.KeptBlock.{KeptBlock}
 use Rattle.trace_run.specs.Acts.{acts_of_drops}
-use Rattle.trace_run.specs.KeptBlocks.{AllQuiet, GivesAll, IsOwnedBy, Stands, holds_in, read_of, times}
+use Rattle.trace_run.specs.KeptBlocks.{AllQuiet, GivesAll, IsOwnedBy, Stands, held_in_shard, read_of, times}
 use Rattle.trace_run.specs.KeptReads.{KeptRead}
 use Rattle.trace_run.specs.Meeting.{AreLast, GaveBackJoined, HasLearned, HaveParted, IsApart, IsFed, IsLevel, JoinAll, MayJoin, PartAll, SeesEntries, Waits}
 use Rattle.trace_run.specs.one_caller.OneCaller.{events_of_drops}
@@ -160,8 +160,8 @@ module _ {C : Type 0} (m : Meanings C) (cache : Cache) (p : Place (Known C)) (ke
     abbrev reads : List KeptRead
     reads = map read_of kept
 
-    drops : (shard : ℕ) → seen_of gk shard r ≡ seen_of gk shard q ++ events_of_drops p.number (holds_in gk shard reads)
-    drops shard = (all-alone m cache kept q r q-stands gives q-all).seen shard ∙ ap (λ (n : ℕ). seen_of gk shard q ++ events_of_drops n (holds_in gk shard reads)) have.number
+    drops : (shard : ℕ) → seen_of gk shard r ≡ seen_of gk shard q ++ events_of_drops p.number (held_in_shard gk shard reads)
+    drops shard = (all-alone m cache kept q r q-stands gives q-all).seen shard ∙ ap (λ (n : ℕ). seen_of gk shard q ++ events_of_drops n (held_in_shard gk shard reads)) have.number
 
     abbrev lines : ℕ → List Line
     lines shard = front_of (turn_of gk shard) r.own.seen
@@ -171,7 +171,7 @@ module _ {C : Type 0} (m : Meanings C) (cache : Cache) (p : Place (Known C)) (ke
         → own_moments o.number (moments (opening_of gk) (seen_of gk shard r)) ≡ own_moments o.number (moments (opening_of gk) (seen_of gk shard q))
     unmade o other shard =
         ap (λ (es : List Event). own_moments o.number (moments (opening_of gk) es)) (drops shard)
-        ∙ other-drops p.number o.number (opening_of gk) (seen_of gk shard q) (holds_in gk shard reads) (λ is. other (sym is))
+        ∙ other-drops p.number o.number (opening_of gk) (seen_of gk shard q) (held_in_shard gk shard reads) (λ is. other (sym is))
 
     all-parted-from : (os : List (Place (Known C))) → AllByRecursion (λ o. HasLearned gk o q) os → AllByRecursion (λ o. o.number ≢ p.number) os → HaveParted cache lines os (map (parted_from r) os)
     all-parted-from [] learned others_differ = tt
@@ -198,7 +198,7 @@ module _ {C : Type 0} (m : Meanings C) (cache : Cache) (p : Place (Known C)) (ke
       knows = ap (λ (a : About). a.openings) about ∙ is.knows;
       fed = λ shard below.
           ap (λ (k : ℕ). own_events k (seen_of gk shard r)) number
-          ∙ (ap (own_events p.number) (drops shard ∙ (ap (λ (l : List KeptBlock). seen_of gk shard q ++ events_of_drops p.number (holds_in gk shard (map read_of l))) none ∙ append-nil (seen_of gk shard q)))
+          ∙ (ap (own_events p.number) (drops shard ∙ (ap (λ (l : List KeptBlock). seen_of gk shard q ++ events_of_drops p.number (held_in_shard gk shard (map read_of l))) none ∙ append-nil (seen_of gk shard q)))
           ∙ (same-own-events gk p.number (seen_of gk shard p) (seen_of gk shard q) (have.self.own shard) ∙ is.fed shard below));
       since = λ shard.
           starts-then (seen_of gk shard r) (seen_of gk shard p) (since shard)
@@ -244,7 +244,7 @@ module _ {C : Type 0} (m : Meanings C) (cache : Cache) (p : Place (Known C)) (ke
         cells = subst (KeepsCells gk p) (sym parted.1) last-cells;
         gave = λ n acts noted waits. subst (Waits cache n (acts ++ acts_of_drops n reads) noted []) (sym parted.1) (last-waits n acts noted waits);
         fed = λ openings fed since acts noted none is. subst (IsFed cache openings fed since acts noted) (sym parted.1) (last-fed openings fed since acts noted none is);
-        drops = λ before own rest shard. drops shard ∙ ap (λ (l : List Line). events_in l ++ events_of_drops p.number (holds_in gk shard reads)) (have.level before own rest shard);
+        drops = λ before own rest shard. drops shard ∙ ap (λ (l : List Line). events_in l ++ events_of_drops p.number (held_in_shard gk shard reads)) (have.level before own rest shard);
         same_cells = λ entries own rest.
             let sees : SeesEntries gk entries r = λ i in_range. left.fronts i in_range ∙ have.level_cells entries own rest i in_range in
             all-append (SeesEntries gk entries) xs (z ∷ []) (subst (AllByRecursion (SeesEntries gk entries)) (sym parted.0) (all-level cache q r (leaves-grow gk q r left) entries sees others have.all)) (subst (SeesEntries gk entries) (sym parted.1) sees, tt);

@@ -13,7 +13,7 @@ use Rattle.arc_table.specs.Geometry.{parties_of}
 use Rattle.arc_table.specs.Seen.{events_in}
 use Rattle.trace_run.specs.declared.kept_blocks.KeptBlock.{KeptBlock}
 use Rattle.trace_run.specs.Acts.{acts_of_drops}
-use Rattle.trace_run.specs.KeptBlocks.{holds_in, read_of}
+use Rattle.trace_run.specs.KeptBlocks.{held_in_shard, read_of}
 use Rattle.trace_run.specs.Deeds.{KeepsCells, Noted}
 use Rattle.trace_run.specs.Meeting.{AllGave, AllKeepCells, AreWaiting, FirstGaveBack, FirstMayGoOn, GaveBackJoined, HasParted, HaveGivenBack, HaveParted, IsApart, IsFed, IsLevel, MayGoOn, SeesEntries, Waits, drops_from}
 use Rattle.trace_run.specs.one_caller.OneCaller.{events_of_drops}
@@ -55,11 +55,11 @@ module _ {C : Type 0} where
 
 -- ---- the drops
 
-drops-last : (g : Config) (shard n m : ℕ) (ks : List (List KeptBlock)) (k : List KeptBlock) → m ≡ n + length ks → drops_from g shard n (ks ++ k ∷ []) ≡ drops_from g shard n ks ++ events_of_drops m (holds_in g shard (map read_of k))
-drops-last g shard n m [] k is = append-nil (events_of_drops n (holds_in g shard (map read_of k))) ∙ ap (λ (x : ℕ). events_of_drops x (holds_in g shard (map read_of k))) (let same : n ≡ m = omega (arith, is) in same)
+drops-last : (g : Config) (shard n m : ℕ) (ks : List (List KeptBlock)) (k : List KeptBlock) → m ≡ n + length ks → drops_from g shard n (ks ++ k ∷ []) ≡ drops_from g shard n ks ++ events_of_drops m (held_in_shard g shard (map read_of k))
+drops-last g shard n m [] k is = append-nil (events_of_drops n (held_in_shard g shard (map read_of k))) ∙ ap (λ (x : ℕ). events_of_drops x (held_in_shard g shard (map read_of k))) (let same : n ≡ m = omega (arith, is) in same)
 drops-last g shard n m (j ∷ ks) k is =
-    let mine : List Event = events_of_drops n (holds_in g shard (map read_of j)) in
-    ap (λ (l : List Event). mine ++ l) (drops-last g shard (suc n) m ks k (is ∙ omega arith)) ∙ sym (append_assoc mine (drops_from g shard (suc n) ks) (events_of_drops m (holds_in g shard (map read_of k))))
+    let mine : List Event = events_of_drops n (held_in_shard g shard (map read_of j)) in
+    ap (λ (l : List Event). mine ++ l) (drops-last g shard (suc n) m ks k (is ∙ omega arith)) ∙ sym (append_assoc mine (drops_from g shard (suc n) ks) (events_of_drops m (held_in_shard g shard (map read_of k))))
 
 -- how many there are, where one more is left
 number-there : (all gone : List (List KeptBlock)) (k : List KeptBlock) (ks : List (List KeptBlock)) → all ≡ gone ++ k ∷ ks → length all ≡ length gone + suc (length ks)
@@ -341,9 +341,9 @@ module _ {C : Type 0} (cache : Cache) (acts : ℕ → List Act) (noted : ℕ →
             lines = b.lines;
             level = subst (AllByRecursion (IsLevel cache.config b.lines)) (sym b.are) (all-append (IsLevel cache.config b.lines) b.rest (b.last ∷ []) (parted-level cache b.lines (waiting ++ feeder ∷ done) b.rest b.parted) (b.level, tt));
             drops = λ shard.
-                let mine : List Event = events_of_drops number (holds_in cache.config shard (map read_of k)) in
+                let mine : List Event = events_of_drops number (held_in_shard cache.config shard (map read_of k)) in
                 b.drops lines own_level level shard
-                ∙ ((λ i. drops shard i ++ events_of_drops (one.number i) (holds_in cache.config shard (map read_of k)))
+                ∙ ((λ i. drops shard i ++ events_of_drops (one.number i) (held_in_shard cache.config shard (map read_of k)))
                 ∙ (append_assoc (first shard) (drops_from cache.config shard 0 gone) mine ∙ ap (λ (l : List Event). first shard ++ l) (sym (drops-last cache.config shard 0 number gone k (omega arith)))));
             same = same;
             same_cells = λ entries own rest. let each = sees entries own rest in b.same_cells entries each.0 each.1;

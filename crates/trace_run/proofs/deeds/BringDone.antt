@@ -32,11 +32,11 @@ use Rattle.arc_table.specs.Told.{IsTold}
 use Rattle.arc_table.proofs.Tells.{Tell-append, Tell-one}
 use Rattle.dbuf_cells.specs.Bringing.{handed}
 use Rattle.dbuf_cells.specs.Turns.{PartyPlace, dbuf_meanings}
-use Rattle.trace_run.specs.DbufTurns.{CellsDone, held_through}
+use Rattle.trace_run.specs.dbufs.DbufTurns.{CellsDone, held_through}
 use Rattle.trace_run.specs.Deeds.{SameMade, events_there, with_number}
 use Rattle.trace_run.specs.MadeLines.{made_in, made_of}
-use Rattle.trace_run.specs.ObjectLines.{CameFrom, brought_there, events_of_bringing, events_of_hand}
-use Rattle.trace_run.specs.Objects.{Brought, Nothing, Loaded, Refused, acts_of_bringing}
+use Rattle.trace_run.specs.dbufs.ObjectLines.{CameFrom, brought_there, events_of_bringing, events_of_hand}
+use Rattle.trace_run.specs.dbufs.Objects.{Brought, Nothing, Loaded, Refused, acts_of_bringing}
 use Rattle.trace_run.specs.one_caller.Access as access
 use Rattle.trace_run.specs.one_caller.Access.{Access, AsksPool, MayComeFrom, access_of, events_of_answered, events_of_refused, held_by_access}
 use Rattle.trace_run.specs.Reads.{access_now, now_of}

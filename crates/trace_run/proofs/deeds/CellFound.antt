@@ -23,11 +23,11 @@ use Rattle.arc_table.proofs.Reached.{SameButNotes, Took, loses_same, took_is}
 use Rattle.dbuf_cells.specs.Turns.{CellTurn, OnHeap, PartyPlace, dbuf_meanings}
 use Rattle.dbuf_state.specs.Numbers.{event_numbers}
 use Rattle.dbuf_state.specs.declared.event.CellEvent.{CellEvent}
-use Rattle.trace_run.specs.CellEnds.{done_by}
-use Rattle.trace_run.specs.DbufTurns.{CellsDone}
+use Rattle.trace_run.specs.dbufs.CellEnds.{done_by}
+use Rattle.trace_run.specs.dbufs.DbufTurns.{CellsDone}
 use Rattle.trace_run.specs.Deeds.{lines_of_cell, noted_in}
 use Rattle.trace_run.specs.MadeLines.{made_from, made_of}
-use Rattle.trace_run.specs.ObjectLines.{FindsCell, cell_lines}
+use Rattle.trace_run.specs.dbufs.ObjectLines.{FindsCell, cell_lines}
 use Rattle.trace_run.proofs.CellsLeft.{LeavesCells}
 use Rattle.trace_run.proofs.deeds.CellsDone.{noted-here, turn-found, turn-front}
 use Rattle.trace_run.proofs.deeds.OwnFound.{found-own}

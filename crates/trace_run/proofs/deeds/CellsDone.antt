@@ -31,7 +31,7 @@ use Rattle.dbuf_cells.specs.Turns.{CellTurn, OnHeap, PartyPlace, WaitsForDbuf, d
 use Rattle.dbuf_state.specs.Numbers.{event_numbers}
 use Rattle.dbuf_state.specs.declared.event.CellEvent.{CellEvent}
 use Rattle.dbuf_state.specs.declared.oid.Oid.{Oid}
-use Rattle.trace_run.specs.DbufTurns.{CellsDone, held_through}
+use Rattle.trace_run.specs.dbufs.DbufTurns.{CellsDone, held_through}
 use Rattle.trace_run.specs.Deeds.{Noted, events_of_cell, events_there, lines_of_cell, noted_in, MakesLater}
 use Rattle.trace_run.specs.MadeLines.{made_of, is_listed}
 use Rattle.trace_run.proofs.CellsLeft.{leaves-seen}

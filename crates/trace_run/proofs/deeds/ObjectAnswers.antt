@@ -55,13 +55,13 @@ use Rattle.trace_text.specs.declared.reply.Refusal.TheVariants as refusals
 use Rattle.trace_text.specs.declared.reply.Reply.{Reply}
 use Rattle.trace_text.specs.declared.reply.Reply.TheVariants as replies
 use Rattle.trace_run.specs.declared.kept_blocks.KeptBlock.{KeptBlock}
-use Rattle.trace_run.specs.DbufTurns.{CellsDone}
+use Rattle.trace_run.specs.dbufs.DbufTurns.{CellsDone}
 use Rattle.trace_run.specs.Answers.{IsReadRefusal}
 use Rattle.trace_run.specs.Deeds.{lines_of_cell, noted_in}
 use Rattle.trace_run.specs.Effects.{Answered, PoolRefused}
 use Rattle.trace_run.specs.KeptBlocks.{AllQuiet, IsOwnedBy, Stands, times}
-use Rattle.trace_run.specs.ObjectLines.{Brings as BringsLine, Did, DidGet, DidNot, DidPatch, DidPin, DidPut, DidUnpin, DidWork, EndsInside, FailsToBring, FindsCell, IsBrought, RefusesBlock, RefusesBytes, ReleasesFor, SpentOn, SpentOnRead, TellsFault, WasToBring, cell_lines}
-use Rattle.trace_run.specs.Objects.{Brought, Nothing, Loaded, Refused, loads_of}
+use Rattle.trace_run.specs.dbufs.ObjectLines.{Brings as BringsLine, Did, DidGet, DidNot, DidPatch, DidPin, DidPut, DidUnpin, DidWork, EndsInside, FailsToBring, FindsCell, IsBrought, RefusesBlock, RefusesBytes, ReleasesFor, SpentOn, SpentOnRead, TellsFault, WasToBring, cell_lines}
+use Rattle.trace_run.specs.dbufs.Objects.{Brought, Nothing, Loaded, Refused, loads_of}
 use Rattle.trace_run.specs.Reads.{IsRefused, now_of}
 use Rattle.trace_run.proofs.DeviceReadLemmas.{DeviceDid}
 use Rattle.trace_run.proofs.DeviceReadLemmas as device

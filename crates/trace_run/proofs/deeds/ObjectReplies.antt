@@ -28,11 +28,11 @@ use Rattle.trace_text.specs.declared.op.Op.{Op}
 use Rattle.trace_text.specs.declared.reply.Refusal.TheVariants as refusals
 use Rattle.trace_text.specs.declared.reply.Reply.{Reply}
 use Rattle.trace_run.specs.callers.WorkLines.{AsksBrought, DidAlone}
-use Rattle.trace_run.specs.CellEnds.{done_by}
+use Rattle.trace_run.specs.dbufs.CellEnds.{done_by}
 use Rattle.trace_run.specs.Deeds.{HasAct, HasToldAll, Noted, acts_of_events, events_of_cell, noted_in}
-use Rattle.trace_run.specs.ObjectLines.{Did, DidNot, EndsInside, FindsCell, IsBrought, ReleasesFor, SpentOn, WasToBring, cell_lines}
-use Rattle.trace_run.specs.ObjectReplies.{ActsAt, ActsFor, AnswersObject, BringsAt, LooksFrom}
-use Rattle.trace_run.specs.Objects.{AnswersKey, AnswersNoBlock, AnswersRange, Brought, Line, Loaded, NotesNothing, Nothing, Refused, Work, loads_of, own_event}
+use Rattle.trace_run.specs.dbufs.ObjectLines.{Did, DidNot, EndsInside, FindsCell, IsBrought, ReleasesFor, SpentOn, WasToBring, cell_lines}
+use Rattle.trace_run.specs.dbufs.ObjectReplies.{ActsAt, ActsFor, AnswersObject, BringsAt, LooksFrom}
+use Rattle.trace_run.specs.dbufs.Objects.{AnswersKey, AnswersNoBlock, AnswersRange, Brought, Line, Loaded, NotesNothing, Nothing, Refused, Work, loads_of, own_event}
 use Rattle.trace_run.specs.Reads.{now_of}
 use Rattle.trace_run.proofs.deeds.ClosedDeeds.{entries-read}
 use Rattle.trace_run.proofs.deeds.OperatesDone.{AreOfCell, both-of, cell-there, evictions-of, release-of}

@@ -32,9 +32,9 @@ use Rattle.trace_run.specs.DeviceReads.{AsksFor}
 use Rattle.trace_run.specs.Effects.{Effect, NoEffect, calls_of, effect_of}
 use Rattle.trace_run.specs.KeptReads.{KeptRead}
 use Rattle.trace_run.specs.Lines.{is_of_caller}
-use Rattle.trace_run.specs.ObjectLines.{Did, DidGet, DidNot, DidObjectLine, DidPatch, DidPin, DidPut, DidUnpin, DidWork, IsBrought, RefusesBlock, RefusesBytes, RefusesUnpin, SpentOn, TellsBrought, its_number, on_object}
-use Rattle.trace_run.specs.ObjectReplies.{ActsFor, BringsAt, LooksFrom, RefusesAt}
-use Rattle.trace_run.specs.Objects.{Brought, IsAnswered, IsRefusedWith, Loaded, NotesNothing, NotesOwn, Nothing, Refused, Work, own_event}
+use Rattle.trace_run.specs.dbufs.ObjectLines.{Did, DidGet, DidNot, DidObjectLine, DidPatch, DidPin, DidPut, DidUnpin, DidWork, IsBrought, RefusesBlock, RefusesBytes, RefusesUnpin, SpentOn, TellsBrought, its_number, on_object}
+use Rattle.trace_run.specs.dbufs.ObjectReplies.{ActsFor, BringsAt, LooksFrom, RefusesAt}
+use Rattle.trace_run.specs.dbufs.Objects.{Brought, IsAnswered, IsRefusedWith, Loaded, NotesNothing, NotesOwn, Nothing, Refused, Work, own_event}
 use Rattle.trace_run.proofs.deeds.ObjectReplies.{By, From, bad-key, brings-so, dbufs-so, did-work, found_outline, from-done, from-not, inside-it, made-of, no-block, past-it, same-pin, to-bring, tried}
 use Rattle.trace_run.proofs.deeds.WorkDone.{of-acts}
 

@@ -16,7 +16,7 @@ use Rattle.dbuf_state.specs.Outline.{Outline, after}
 use Rattle.dbuf_state.specs.declared.event.CellEvent.{CellEvent}
 use Rattle.dbuf_state.specs.declared.oid.Oid.{Oid}
 use Rattle.trace_run.proofs.deeds.CellsDone.{turn-done}
-use Rattle.trace_run.specs.DbufTurns.{CellsDone, held_through}
+use Rattle.trace_run.specs.dbufs.DbufTurns.{CellsDone, held_through}
 use Rattle.trace_run.specs.Deeds.{noted_in}
 use Rattle.trace_run.proofs.deeds.TurnMakes.{AreTurnEvents, IsTurnEvent}
 

@@ -14,7 +14,7 @@ use Rattle.dbuf_state.specs.Soundness.{plain_cell}
 use Rattle.dbuf_state.specs.declared.event.CellEvent.{CellEvent}
 use Rattle.dbuf_state.specs.declared.event.CellEvent.TheVariants as events
 use Rattle.dbuf_state.specs.declared.oid.Oid.{Oid}
-use Rattle.trace_run.specs.ObjectLines.{ReleasesFor}
+use Rattle.trace_run.specs.dbufs.ObjectLines.{ReleasesFor}
 
 -- the outline, where evictions are due or not
 abbrev pub with_evicting : Evicting → Outline → Outline

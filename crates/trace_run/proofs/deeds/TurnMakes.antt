@@ -35,7 +35,7 @@ use Rattle.arc_table.proofs.MadeLemmas.{does-made}
 use Rattle.arc_table.proofs.OwnLemmas.{grows, made-all, made-alone, made-own, made-sees}
 use Rattle.arc_table.proofs.reads.ReadMoments.{own-single-by}
 use Rattle.dbuf_cells.specs.Turns.{LooksTimes, MakesAll, PartyPlace, dbuf_meanings}
-use Rattle.trace_run.specs.DbufTurns.{held_after, held_through}
+use Rattle.trace_run.specs.dbufs.DbufTurns.{held_after, held_through}
 use Rattle.trace_run.specs.Deeds.{MakesLater, events_there}
 use Rattle.trace_run.specs.MadeLines.{made_of}
 use Rattle.trace_run.specs.Making.{HasSeenItsEvents}

@@ -15,11 +15,11 @@ use Rattle.arc_table.specs.Seen.{seen_of}
 use Rattle.arc_table.specs.Telling.{opening_of}
 use Rattle.arc_table.specs.Told.{IsTold}
 use Rattle.dbuf_cells.specs.Turns.{PartyPlace}
-use Rattle.trace_run.specs.DbufTurns.{CellsDone, held_through}
+use Rattle.trace_run.specs.dbufs.DbufTurns.{CellsDone, held_through}
 use Rattle.trace_run.specs.Deeds.{HasAct, HasToldAll, Noted, act_of_event, acts_of_events, events_there, lines_of_cell, with_number}
 use Rattle.trace_run.specs.MadeLines.{made_in}
-use Rattle.trace_run.specs.ObjectLines.{DidWork, brought_there, events_of_bringing}
-use Rattle.trace_run.specs.Objects.{Brought, Nothing, Loaded, Refused, acts_of_bringing}
+use Rattle.trace_run.specs.dbufs.ObjectLines.{DidWork, brought_there, events_of_bringing}
+use Rattle.trace_run.specs.dbufs.Objects.{Brought, Nothing, Loaded, Refused, acts_of_bringing}
 use Rattle.trace_run.specs.Reads.{now_of}
 use Rattle.trace_run.proofs.deeds.BringDone.{BringDone, MakesOwn}
 use Rattle.trace_run.proofs.deeds.CellsDone.{lines-append}

@@ -42,7 +42,7 @@ use Rattle.trace_run.specs.Feeds.{AreFedReplies, AsksForFeeds, AsksOfFeeds, Feed
 use Rattle.trace_run.specs.KeptBlocks.{Stands}
 use Rattle.trace_run.specs.Lines.{caller_of, replies_where}
 use Rattle.trace_run.specs.Meeting.{IsFed}
-use Rattle.trace_run.specs.Objects.{Line, no_work, ops_of, replies_of}
+use Rattle.trace_run.specs.dbufs.Objects.{Line, no_work, ops_of, replies_of}
 use Rattle.trace_run.specs.Restores.{events_by_feeder, restores_in}
 use Rattle.trace_run.specs.RunWork.{AllFit, FitsBy, lines_of_caller, lines_of_feeder}
 use Rattle.trace_run.specs.KeptReads.{KeptRead}

@@ -22,7 +22,7 @@ use Rattle.trace_run.specs.declared.ran.Ending.TheVariants.{Fork, Full, Sync, Wh
 use Rattle.trace_run.specs.Devices.{WasLent}
 use Rattle.trace_run.specs.Feeds.{AreFedReplies, AsksOfFeeds, FeedDone, MadeFeedsOf, is_feed}
 use Rattle.trace_run.specs.Lines.{is_further, replies_where}
-use Rattle.trace_run.specs.Objects.{Line, ops_of, replies_of}
+use Rattle.trace_run.specs.dbufs.Objects.{Line, ops_of, replies_of}
 use Rattle.trace_run.specs.RunWork.{plain_lines}
 use Rattle.trace_run.specs.callers.Beside.{TriesBeside}
 use Rattle.trace_run.specs.callers.DeviceForks.{GivesFork, GivesForks, TakesForkBack, TakesForksBack, UsedAtOnce, UsedInGroups}

@@ -17,7 +17,7 @@ use Rattle.arc_core.specs.Step.{is_missing, is_without_bytes}
 use Rattle.arc_table.specs.pact.Standing.{IsCachedWith}
 use Rattle.arc_table.specs.Reading.{ptr_with}
 use Rattle.trace_run.specs.one_caller.Access as access
-use Rattle.trace_run.specs.one_caller.Access.{access_of, found}
+use Rattle.trace_run.specs.one_caller.Access.{access_of, access_by}
 use Rattle.trace_run.proofs.CacheLemmas.{digest_eq-is, digest_of_resident}
 use Rattle.trace_run.proofs.one_caller.TellLemmas.{digest_eq-same}
 
@@ -45,10 +45,10 @@ missing-in : (o : Option Entry) → IsTrue (option_map_or (λ e. is_without_byte
 missing-in None is = refl
 missing-in (Some e) is = rw (without-cached e.state is) refl
 
-found-same : (asked : Digest) (o : Option Digest) → o ≡ Some asked → found asked o ≡ access.Hit
+found-same : (asked : Digest) (o : Option Digest) → o ≡ Some asked → access_by asked o ≡ access.Hit
 found-same asked o is = rw is (rw (digest_eq-same asked) refl)
 
-found-other : (asked kept : Digest) (o : Option Digest) → kept ≢ asked → o ≡ Some kept → found asked o ≡ access.Past kept
+found-other : (asked kept : Digest) (o : Option Digest) → kept ≢ asked → o ≡ Some kept → access_by asked o ≡ access.Past kept
 found-other asked kept o other is = rw is (elim (cases_true (digest_eq kept asked)) [
   | inl same ↦ absurd (other (digest_eq-is kept asked same))
   | inr differs ↦ rw differs refl
@@ -61,4 +61,4 @@ pub access-other : (ptr : Ptr) (kept : Digest) (s : PlainShard) → kept ≢ ptr
 access-other ptr kept s other cached = found-other ptr.digest kept _ other (resident-in kept (entry_of ptr.key s) cached)
 
 pub access-missed : (ptr : Ptr) (s : PlainShard) → IsTrue (is_missing ptr.key s) → access_of s ptr ≡ access.Miss
-access-missed ptr s missing = ap (found ptr.digest) (missing-in (entry_of ptr.key s) missing)
+access-missed ptr s missing = ap (access_by ptr.digest) (missing-in (entry_of ptr.key s) missing)

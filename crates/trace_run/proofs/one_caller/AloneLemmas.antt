@@ -41,12 +41,12 @@ use Rattle.trace_run.specs.callers.CallerLines.{At, DidLines, HasFed, at}
 use Rattle.trace_run.specs.Effects.{calls_of_all}
 use Rattle.trace_run.specs.Ends.{ends_of}
 use Rattle.arc_table.specs.Telling.{opening_of}
-use Rattle.trace_run.specs.Explaining.{BeginsWith, EndsWith, ExplainReads, drops_at_end}
-use Rattle.trace_run.specs.KeptBlocks.{DroppedAlone, GivesAll, Stands, holds_in, read_of}
+use Rattle.trace_run.specs.Explaining.{BeginsWithEvents, EndsWith, ExplainReads, drops_at_end}
+use Rattle.trace_run.specs.KeptBlocks.{DroppedAlone, GivesAll, Stands, held_in_shard, read_of}
 use Rattle.trace_run.specs.Lines.{caller_of, is_in_shard, is_of_caller, replies_where, shard_of_block, shard_of_line}
 use Rattle.trace_run.specs.one_caller.OneCaller.{AreFoundAs, IsFoundAs, events_of_drops, kept_after, kept_after_all, one_caller_history, only_feeder}
 use Rattle.trace_run.specs.Opened.{HasJoined}
-use Rattle.trace_run.specs.one_caller.OverShards.{AllLinesOver, AreNamed, events_over, kept_in_shard, shards_after}
+use Rattle.trace_run.specs.one_caller.OverShards.{AllLinesOver, AreNamed, events_over, kept_in_shard, shards_after_op}
 use Rattle.trace_run.specs.Reads.{now_of}
 use Rattle.trace_run.specs.Restores.{events_by_feeder, restored_shard, restores_in}
 use Rattle.arc_table.specs.Seen.{HasAll, seen_of}
@@ -166,7 +166,7 @@ module _ (shards : ℕ) (blocks : List Ptr) (i : ℕ) where
   found-over s kept [] replies all = tt
   found-over s kept (op ∷ os) [] all = no-lines (s i) (kept_in_shard shards blocks i kept) (filter (is_in_shard shards blocks i) (op ∷ os))
   found-over s kept (op ∷ os) (reply ∷ replies) all =
-      let rest = found-over (shards_after shards blocks s kept op reply) (kept_after blocks op reply kept) os replies all.1 in
+      let rest = found-over (shards_after_op shards blocks s kept op reply) (kept_after blocks op reply kept) os replies all.1 in
       let later : PlainShard × List KeptRead → Type 0 = λ x. AreFoundAs blocks x.0 x.1 (filter (is_in_shard shards blocks i) os) (replies_where (is_in_shard shards blocks i) os replies) in
       elim (cases_true (is_in_shard shards blocks i op)) [
         | inl in_it ↦
@@ -294,8 +294,8 @@ module _ {C P : Type 0} (m : Meanings C) (cache : Cache) (pools : Ghosts P) (blo
       let from : seen_of g shard q ≡ begun shard ++ over =
       lines ∙ (λ h. seen-first shard h ++ events_over g.shards blocks (λ i. opens i h) [] shard os replies) in
       let end : List Event = events_of_drops 0 (kept_in_shard g.shards blocks shard (kept_after_all blocks [] os replies)) in
-      let drops : events_of_drops q.number (holds_in g shard (map read_of kept)) ≡ events_of_drops 0 (kept_in_shard g.shards blocks shard (kept_after_all blocks [] os replies)) =
-      ap (λ (n : ℕ). events_of_drops n (holds_in g shard (map read_of kept))) number-q
+      let drops : events_of_drops q.number (held_in_shard g shard (map read_of kept)) ≡ events_of_drops 0 (kept_in_shard g.shards blocks shard (kept_after_all blocks [] os replies)) =
+      ap (λ (n : ℕ). events_of_drops n (held_in_shard g shard (map read_of kept))) number-q
       ∙ (named-drops g blocks 0 shard (map read_of kept) named ∙ ap (λ (l : List KeptRead). events_of_drops 0 (kept_in_shard g.shards blocks shard l)) kept-is) in
       dropped.seen shard ∙ ((λ h. from h ++ drops h) ∙ (append_assoc (begun shard) over end ∙ ap (λ (es : List Event). begun shard ++ es) (history-over g.shards blocks 0 shard start os replies)))
 
@@ -424,16 +424,16 @@ module _ {C P : Type 0} (m : Meanings C) (cache : Cache) (pools : Ghosts P) (blo
     trace = record { config = cache.config; blocks = blocks; objects = []; ops = os }
 
     -- each history ends with the drops of what is kept
-    drops-are : (i : ℕ) → events_of_drops q.number (holds_in g i (map read_of kept)) ≡ drops_at_end g blocks i g.callers os replies
+    drops-are : (i : ℕ) → events_of_drops q.number (held_in_shard g i (map read_of kept)) ≡ drops_at_end g blocks i g.callers os replies
     drops-are i =
-        (λ h. events_of_drops (number-q h) (holds_in g i ((kept-is ∙ sole-kept blocks [] os replies same-count all-his) h)))
+        (λ h. events_of_drops (number-q h) (held_in_shard g i ((kept-is ∙ sole-kept blocks [] os replies same-count all-his) h)))
         ∙ ap (λ (n : ℕ). drops_at_end g blocks i n os replies) (sym one)
 
     ends-at : (i : ℕ) (l : ShardLog) → get_elem? closed.shards i ≡ some l → EndsWith l.history (drops_at_end g blocks i g.callers os replies)
     ends-at i l at_i =
         (seen_of g i q, alone-history m cache z closed ends parties-z stands-z all-z i l at_i ∙ (seen-z i ∙ (dropped.seen i ∙ ap (λ (es : List Event). seen_of g i q ++ es) (drops-are i))))
 
-    begins-at : (i : ℕ) (l : ShardLog) → get_elem? closed.shards i ≡ some l → BeginsWith l.history (begun i)
+    begins-at : (i : ℕ) (l : ShardLog) → get_elem? closed.shards i ≡ some l → BeginsWithEvents l.history (begun i)
     begins-at i l at_i = (_, the-history i l at_i)
 
     explained : ExplainReads trace restored replies (ends_in closed) (histories_of closed)
@@ -442,7 +442,7 @@ module _ {C P : Type 0} (m : Meanings C) (cache : Cache) (pools : Ghosts P) (blo
       legal = all-mapped (λ (log : ShardLog). log.history) (λ history. IsTrue (is_legal_history opening history)) closed.shards (alone-legal m cache z closed ends parties-z stands-z all-z);
       ends = ends-are closed.shards (λ i l at_l. ap end_of (sym (now-is i l at_l)));
       at_rest = all-mapped (λ (log : ShardLog). log.history) (λ history. IsAtRest (replay opening history)) closed.shards rests;
-      begins = λ shard below. let l = some-log shard below in subst (λ (h : List Event). BeginsWith h (begun shard)) (sym (index-is shard l.0 l.1)) (begins-at shard l.0 l.1);
+      begins = λ shard below. let l = some-log shard below in subst (λ (h : List Event). BeginsWithEvents h (begun shard)) (sym (index-is shard l.0 l.1)) (begins-at shard l.0 l.1);
       every_call = every-call;
       ending = λ shard below. let l = some-log shard below in subst (λ (h : List Event). EndsWith h (drops_at_end g blocks shard g.callers os replies)) (sym (index-is shard l.0 l.1)) (ends-at shard l.0 l.1);
     }

@@ -38,8 +38,8 @@ use Rattle.trace_run.specs.Answers.{AnswersHold, AnswersRead, IsReadRefusal, IsW
 use Rattle.trace_run.specs.callers.CallerLines.{At, DidLine, DidLines}
 use Rattle.trace_run.specs.Effects.{Effect, Answered, GivenBack, PoolRefused, NoEffect, calls_of, calls_of_all, effect_of, effect_of_refusal}
 use Rattle.trace_run.specs.Lines.{is_in_shard, shard_of_block, shard_of_line}
-use Rattle.trace_run.specs.one_caller.OneCaller.{IsFoundAs, NamesSource, events_of, kept_after}
-use Rattle.trace_run.specs.one_caller.OverShards.{shards_after}
+use Rattle.trace_run.specs.one_caller.OneCaller.{IsFoundAs, NamesSource, events_of_op, kept_after}
+use Rattle.trace_run.specs.one_caller.OverShards.{shards_after_op}
 use Rattle.trace_run.specs.one_caller.PlainReport.{ArePlainReplies, IsPlainReply}
 use Rattle.trace_run.specs.one_caller.PlainRun.{Contents, Images, contents_after, contents_with, images, no_contents, replies_to, reply_to}
 use Rattle.trace_run.specs.Read.{IsFromPool}
@@ -155,7 +155,7 @@ AllServed from shards blocks s kept (o ∷ os) [] calls = ⊥
 AllServed from shards blocks s kept (o ∷ os) (r ∷ rs) calls =
     (own rest : List Call) × (calls ≡ own ++ rest) × (length own ≡ length (asked_by (length from.device) blocks (s (shard_of_line shards blocks o)) o r))
     × IsPlainlyServed from blocks (s (shard_of_line shards blocks o)) kept o r (next_call calls)
-    × AllServed from shards blocks (shards_after shards blocks s kept o r) (kept_after blocks o r kept) os rs rest
+    × AllServed from shards blocks (shards_after_op shards blocks s kept o r) (kept_after blocks o r kept) os rs rest
 
 module _ {C P D : Type 0} (g : Config) (pools : Ghosts P) (devices : DeviceGhosts D) (blocks : List Ptr) (from : Images) where
   line-served : (o : Op) (r : Reply) (a b : At C P) (own rest calls : List Call) (x y : D) → calls ≡ own ++ rest → DidLine g pools blocks o r a b → pools.size a.pool ≡ length from.pool → pools.told a.pool ≡ Some from.pool
@@ -184,7 +184,7 @@ module _ {C P D : Type 0} (g : Config) (pools : Ghosts P) (devices : DeviceGhost
       let own = asks.0 in
       let rest = asks.1 in
       let here = line-served o r a next own rest calls x asks.2 asks.3 one size told there asks.4 in
-      let same : (λ (i : ℕ). now_of g i next.party) ≡ shards_after g.shards blocks (λ i. now_of g i a.party) a.kept o r = λ h i. line-now g pools blocks o r a next one alone i h in
+      let same : (λ (i : ℕ). now_of g i next.party) ≡ shards_after_op g.shards blocks (λ i. now_of g i a.party) a.kept o r = λ h i. line-now g pools blocks o r a next one alone i h in
       let goes = lines-served os rs next b rest asks.2 y did.2 (one.did.all alone) (one.keeps.size ∙ size) (one.keeps.told ∙ told)
       (line-told devices from blocks (now_of g (shard_of_line g.shards blocks o) a.party) o r own x asks.2 there asks.4)
       (subst (λ (z : (ℕ → PlainShard) × List KeptRead). AsksLines devices g.shards blocks z.0 z.1 os rs rest asks.2 y) (λ h. (sym same h, sym one.kept h)) asks.5) in
@@ -322,7 +322,7 @@ module _ {C P D : Type 0} (g : Config) (pools : Ghosts P) (devices : DeviceGhost
       let s = now_of g (shard_of_line g.shards blocks o) a.party in
       let answer : AnswersNow (length pool) (Some pool) blocks a.kept o r = subst (λ (x : ℕ × Option (List ℕ)). AnswersNow x.0 x.1 blocks a.kept o r) (λ h. (size h, told h)) one.answer in
       let here = line-unlent devices blocks pool s a.kept o r asks.0 x asks.2 short answer (one.found alone) asks.4 in
-      let same : (λ (i : ℕ). now_of g i next.party) ≡ shards_after g.shards blocks (λ i. now_of g i a.party) a.kept o r = λ h i. line-now g pools blocks o r a next one alone i h in
+      let same : (λ (i : ℕ). now_of g i next.party) ≡ shards_after_op g.shards blocks (λ i. now_of g i a.party) a.kept o r = λ h i. line-now g pools blocks o r a next one alone i h in
       let goes = lines-unlent os rs next b asks.1 asks.2 y did.2 (one.did.all alone) (one.keeps.size ∙ size) (one.keeps.told ∙ told) here.1
       (subst (λ (z : (ℕ → PlainShard) × List KeptRead). AsksLines devices g.shards blocks z.0 z.1 os rs asks.1 asks.2 y) (λ h. (sym same h, sym one.kept h)) asks.5) in (
         [],
@@ -349,25 +349,25 @@ alike-contents from blocks s contents other a b same = refl
 module _ (from : Images) (shards : ℕ) (blocks : List Ptr) where
   -- a line on a block of a shard brings nothing else there; a capacity brings nothing into any
   brings-in : (s : ℕ → PlainShard) (kept : List KeptRead) (contents : Contents) (o : Op) (r : Reply) (call : Call) → IsPlainlyServed from blocks (s (shard_of_line shards blocks o)) kept o r call → (i : ℕ) → is_in_shard shards blocks i o ≡ true
-      → AllByRecursion (Brings (contents_after from blocks (s (shard_of_line shards blocks o)) o r contents)) (events_of blocks (s i) kept o r)
+      → AllByRecursion (Brings (contents_after from blocks (s (shard_of_line shards blocks o)) o r contents)) (events_of_op blocks (s i) kept o r)
   brings-in s kept contents (ops.Read n t x window) r call is i in_it =
       let here = shard_of_block shards blocks x in
-      subst (λ (j : ℕ). AllByRecursion (Brings (contents_after from blocks (s here) (ops.Read n t x window) r contents)) (events_of blocks (s j) kept (ops.Read n t x window) r)) (eqb-true here i in_it)
+      subst (λ (j : ℕ). AllByRecursion (Brings (contents_after from blocks (s here) (ops.Read n t x window) r contents)) (events_of_op blocks (s j) kept (ops.Read n t x window) r)) (eqb-true here i in_it)
       (line-brings from contents blocks (s here) kept (ops.Read n t x window) r call is)
   brings-in s kept contents (ops.Hold n t x) r call is i in_it =
       let here = shard_of_block shards blocks x in
-      subst (λ (j : ℕ). AllByRecursion (Brings (contents_after from blocks (s here) (ops.Hold n t x) r contents)) (events_of blocks (s j) kept (ops.Hold n t x) r)) (eqb-true here i in_it)
+      subst (λ (j : ℕ). AllByRecursion (Brings (contents_after from blocks (s here) (ops.Hold n t x) r contents)) (events_of_op blocks (s j) kept (ops.Hold n t x) r)) (eqb-true here i in_it)
       (line-brings from contents blocks (s here) kept (ops.Hold n t x) r call is)
   brings-in s kept contents (ops.Drop n x) r call is i in_it =
       let here = shard_of_block shards blocks x in
-      subst (λ (j : ℕ). AllByRecursion (Brings contents) (events_of blocks (s j) kept (ops.Drop n x) r)) (eqb-true here i in_it)
+      subst (λ (j : ℕ). AllByRecursion (Brings contents) (events_of_op blocks (s j) kept (ops.Drop n x) r)) (eqb-true here i in_it)
       (line-brings from contents blocks (s here) kept (ops.Drop n x) r call is)
   brings-in s kept contents (ops.Cap c) r call is i in_it = (tt, tt)
   brings-in s kept contents other r call is i in_it = tt
 
   -- each digest that a shard keeps has its bytes, also after a line
   told-shards : (s : ℕ → PlainShard) (kept : List KeptRead) (contents : Contents) (o : Op) (r : Reply) (call : Call) → IsPlainlyServed from blocks (s (shard_of_line shards blocks o)) kept o r call
-      → ((i : ℕ) → AreTold contents (s i).entries) → (i : ℕ) → AreTold (contents_after from blocks (s (shard_of_line shards blocks o)) o r contents) (shards_after shards blocks s kept o r i).entries
+      → ((i : ℕ) → AreTold contents (s i).entries) → (i : ℕ) → AreTold (contents_after from blocks (s (shard_of_line shards blocks o)) o r contents) (shards_after_op shards blocks s kept o r i).entries
   told-shards s kept contents o r call is told i = go (is_in_shard shards blocks i o) refl
     where
       cached : Contents
@@ -376,8 +376,8 @@ module _ (from : Images) (shards : ℕ) (blocks : List Ptr) where
       still : AreTold cached (s i).entries
       still = line-grows from contents blocks (s (shard_of_line shards blocks o)) kept o r call is (s i).entries (told i)
 
-      go : (t : Bool) → is_in_shard shards blocks i o ≡ t → AreTold cached (replay (s i) (if t then events_of blocks (s i) kept o r else [])).entries
-      go true in_it = told-replay cached (s i) (events_of blocks (s i) kept o r) (brings-in s kept contents o r call is i in_it) still
+      go : (t : Bool) → is_in_shard shards blocks i o ≡ t → AreTold cached (replay (s i) (if t then events_of_op blocks (s i) kept o r else [])).entries
+      go true in_it = told-replay cached (s i) (events_of_op blocks (s i) kept o r) (brings-in s kept contents o r call is i in_it) still
       go false in_it = still
 
   pub plain-replies : (s : ℕ → PlainShard) (kept : List KeptRead) (contents : Contents) (os : List Op) (rs : List Reply) (device_calls : List Call) → ((i : ℕ) → AreTold contents (s i).entries)
@@ -396,14 +396,14 @@ module _ (from : Images) (shards : ℕ) (blocks : List Ptr) where
       let p : Reply = reply_to from blocks here kept contents o call (next_call device_calls) in
       let first : IsPlainReply blocks o p r = line-plain from contents blocks here kept o r call (next_call device_calls) is (told (shard_of_line shards blocks o)) (next-is own rest) in
       let alike : effect_of p ≡ effect_of r = (plain-alike blocks o p r first).effect in
-      let after : shards_after shards blocks s kept o p ≡ shards_after shards blocks s kept o r =
+      let after : shards_after_op shards blocks s kept o p ≡ shards_after_op shards blocks s kept o r =
       λ h j. replay (s j) (if is_in_shard shards blocks j o then alike-events blocks (s j) kept o p r alike h else []) in
       let left : kept_after blocks o p kept ≡ kept_after blocks o r kept = alike-kept blocks kept o p r alike in
       let cached : contents_after from blocks here o p contents ≡ contents_after from blocks here o r contents = alike-contents from blocks here contents o p r alike in
       let gone : drop (length (calls_of (effect_of p))) (own ++ rest) ≡ rest = (λ h. drop (length (calls_of (alike h))) (own ++ rest)) ∙ drop-front own rest in
       let asked_gone : drop (length (asked_by (length from.device) blocks here o p)) device_calls ≡ asked_rest =
       (λ h. drop (length (alike-asked (length from.device) blocks here o p r alike h)) (lines.2 h)) ∙ ((λ h. drop (sym lines.3 h) (asked_own ++ asked_rest)) ∙ drop-front asked_own asked_rest) in
-      let goes = plain-replies (shards_after shards blocks s kept o r) (kept_after blocks o r kept) (contents_after from blocks here o r contents) os rs asked_rest (told-shards s kept contents o r (next_call device_calls) is told) lines.5 in
+      let goes = plain-replies (shards_after_op shards blocks s kept o r) (kept_after blocks o r kept) (contents_after from blocks here o r contents) os rs asked_rest (told-shards s kept contents o r (next_call device_calls) is told) lines.5 in
       (first, subst (λ (l : List Reply). ArePlainReplies blocks os l rs) (sym (λ h. replies_to from shards blocks (after h) (left h) (cached h) os (gone h) (asked_gone h))) goes)
 
 -- ---- the run

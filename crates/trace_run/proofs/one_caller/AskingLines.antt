@@ -23,7 +23,7 @@ use Rattle.trace_run.specs.KeptReads.{KeptRead}
 use Rattle.trace_run.specs.Lines.{shard_of_line}
 use Rattle.trace_run.specs.one_caller.Asking.{Asks, AsksLine, AsksLines}
 use Rattle.trace_run.specs.one_caller.OneCaller.{kept_after}
-use Rattle.trace_run.specs.one_caller.OverShards.{shards_after}
+use Rattle.trace_run.specs.one_caller.OverShards.{shards_after_op}
 use Rattle.trace_run.specs.Reads.{now_of}
 use Rattle.arc_core.specs.declared.event.Event.{Event}
 use Rattle.arc_core.specs.declared.served.Restored.{Restored}
@@ -61,7 +61,7 @@ module _ {C D : Type 0} (g : Config) (devices : DeviceGhosts D) (blocks : List P
 abbrev pub shards_after_all : (shards : ℕ) → List Ptr → (ℕ → PlainShard) → List KeptRead → List Op → List Reply → ℕ → PlainShard
 shards_after_all shards blocks s kept [] replies = s
 shards_after_all shards blocks s kept (op ∷ ops) [] = s
-shards_after_all shards blocks s kept (op ∷ ops) (reply ∷ replies) = shards_after_all shards blocks (shards_after shards blocks s kept op reply) (kept_after blocks op reply kept) ops replies
+shards_after_all shards blocks s kept (op ∷ ops) (reply ∷ replies) = shards_after_all shards blocks (shards_after_op shards blocks s kept op reply) (kept_after blocks op reply kept) ops replies
 
 module _ {D : Type 0} (devices : DeviceGhosts D) (shards : ℕ) (blocks : List Ptr) where
   -- one line more
@@ -79,7 +79,7 @@ module _ {D : Type 0} (devices : DeviceGhosts D) (shards : ℕ) (blocks : List P
         asks.2,
         (λ h. asks.3 h ++ own) ∙ append_assoc first rest own,
         asks.4,
-        asks-more (shards_after shards blocks s kept p q) (kept_after blocks p q kept) ps qs rest own o r asks.2 y z asks.5 one,
+        asks-more (shards_after_op shards blocks s kept p q) (kept_after blocks p q kept) ps qs rest own o r asks.2 y z asks.5 one,
       )
 
 -- a party that is alone finds those shards behind its lines
@@ -91,7 +91,7 @@ lines-now g pools blocks (o ∷ os) [] a b did all = absurd did
 lines-now g pools blocks (o ∷ os) (r ∷ rs) a b did all =
     let next = did.0 in
     let one = did.1 in
-    let same : (λ (i : ℕ). now_of g i next.party) ≡ shards_after g.shards blocks (λ i. now_of g i a.party) a.kept o r = λ h i. line-now g pools blocks o r a next one all i h in
+    let same : (λ (i : ℕ). now_of g i next.party) ≡ shards_after_op g.shards blocks (λ i. now_of g i a.party) a.kept o r = λ h i. line-now g pools blocks o r a next one all i h in
     lines-now g pools blocks os rs next b did.2 (one.did.all all) ∙ (λ h. shards_after_all g.shards blocks (same h) (one.kept h) os rs)
 
 -- a line that is no caller's asks nothing

@@ -11,7 +11,7 @@ use Rattle.arc_table.specs.Geometry.{parties_of}
 use Rattle.arc_table.specs.Seen.{events_in, seen_of}
 use Rattle.arc_table.specs.Views.{after_learned}
 use Rattle.dbuf_cells.specs.Turns.{PartyPlace, dbuf_meanings}
-use Rattle.trace_run.specs.CellEnds.{EndedCells, HasSeenEnds, SeesEnds, end_entry}
+use Rattle.trace_run.specs.dbufs.CellEnds.{EndedCells, HasSeenEnds, SeesEnds, end_entry}
 use Rattle.trace_run.specs.KeptBlocks.{Stands}
 use Rattle.trace_run.specs.Making.{AreNoEntries}
 use Rattle.trace_run.specs.Meeting.{HasFeeder, HasParted, HaveParted, IsApart, IsLevel, JoinAll, Joins, MayGoOn}

@@ -27,7 +27,7 @@ use Rattle.trace_run.specs.declared.groups.Crew.{Crew}
 use Rattle.trace_run.specs.Devices.{lent_in}
 use Rattle.trace_run.specs.FeedEvents.{FedJoined, events_of_made}
 use Rattle.trace_run.specs.Feeds.{AreFedReplies, AsksOfFeeds, FeedDone, IsIdleFeeder, MadeFeeds, MadeFeedsOf}
-use Rattle.trace_run.specs.Objects.{no_work}
+use Rattle.trace_run.specs.dbufs.Objects.{no_work}
 use Rattle.trace_run.specs.callers.Together.{BetweenGroups}
 use Rattle.trace_run.specs.one_caller.InTurn.{DidFeed, GoInSequence, IsOfTrace, StandAt}
 use Rattle.trace_run.specs.one_caller.Sequence.{BetweenLines, DoesFeed, IsFeedHere, shard_behind}

@@ -13,7 +13,7 @@ use Rattle.trace_text.specs.declared.op.Op.{Op}
 use Rattle.trace_text.specs.declared.reply.Reply.{Reply}
 use Rattle.trace_run.specs.KeptReads.{KeptRead}
 use Rattle.trace_run.specs.one_caller.Access.{events_of_drop}
-use Rattle.trace_run.specs.KeptBlocks.{holds_in}
+use Rattle.trace_run.specs.KeptBlocks.{held_in_shard}
 use Rattle.trace_run.specs.Lines.{is_in_shard, replies_where, shard_of_block}
 use Rattle.trace_run.specs.one_caller.OneCaller.{events_of_all, events_of_drops, kept_after_all, one_caller_history}
 use Rattle.trace_run.specs.one_caller.OverShards.{AreNamed, IsNamed, events_over, kept_in_shard}
@@ -42,8 +42,8 @@ module _ (g : Config) (blocks : List Ptr) (n shard : ℕ) where
           ap (λ (o : Option Ptr). option_map_or (λ (ptr : Ptr). shard_of g.shards ptr.key) o 0) is.1 ∙ ap (shard_of g.shards) (sym is.2) in
           ap (λ (s : ℕ). if s == shard then (events_of_drop n (Some k) ++ rest) else rest) (sym same)
 
-  holds-cons : (read : KeptRead) (reads : List KeptRead) → events_of_drops n (holds_in g shard (read ∷ reads))
-      ≡ (if holds read.held then (events_of_drop n read.held ++ events_of_drops n (holds_in g shard reads)) else events_of_drops n (holds_in g shard reads))
+  holds-cons : (read : KeptRead) (reads : List KeptRead) → events_of_drops n (held_in_shard g shard (read ∷ reads))
+      ≡ (if holds read.held then (events_of_drop n read.held ++ events_of_drops n (held_in_shard g shard reads)) else events_of_drops n (held_in_shard g shard reads))
   holds-cons read reads = elim (cases_true (holds read.held)) [
     | inl here ↦ rw here refl
     | inr out ↦ rw out refl
@@ -56,11 +56,11 @@ module _ (g : Config) (blocks : List Ptr) (n shard : ℕ) where
     | inr out ↦ rw out refl
   ]
 
-  pub named-drops : (reads : List KeptRead) → AreNamed blocks reads → events_of_drops n (holds_in g shard reads) ≡ events_of_drops n (kept_in_shard g.shards blocks shard reads)
+  pub named-drops : (reads : List KeptRead) → AreNamed blocks reads → events_of_drops n (held_in_shard g shard reads) ≡ events_of_drops n (kept_in_shard g.shards blocks shard reads)
   named-drops [] all = refl
   named-drops (read ∷ reads) all =
       holds-cons read reads
-      ∙ (by-block read all.0 (events_of_drops n (holds_in g shard reads))
+      ∙ (by-block read all.0 (events_of_drops n (held_in_shard g shard reads))
       ∙ (ap (λ (rest : List Event). if named read.block then (events_of_drop n read.held ++ rest) else rest) (named-drops reads all.1)
       ∙ sym (named-cons read reads)))
 

@@ -16,8 +16,8 @@ use Rattle.trace_run.specs.KeptReads.{KeptRead}
 use Rattle.trace_run.specs.one_caller.Access.{events_of_drop}
 use Rattle.trace_run.specs.Effects.{Effect, Answered, GivenBack, PoolRefused, NoEffect, effect_of}
 use Rattle.trace_run.specs.Lines.{is_in_shard, replies_where, shard_of_block}
-use Rattle.trace_run.specs.one_caller.OneCaller.{events_of, events_of_all, events_of_dropping, events_there, is_of_block, kept_after, kept_after_all, kept_after_drop, kept_after_hold, without_oldest}
-use Rattle.trace_run.specs.one_caller.OverShards.{events_over, kept_in_shard, shards_after}
+use Rattle.trace_run.specs.one_caller.OneCaller.{events_of_op, events_of_all, events_of_dropping, events_of_op_in, is_of_block, kept_after, kept_after_all, kept_after_drop, kept_after_hold, without_oldest}
+use Rattle.trace_run.specs.one_caller.OverShards.{events_over, kept_in_shard, shards_after_op}
 
 -- ---- the kept reads of one shard
 
@@ -110,7 +110,7 @@ module _ (shards : ℕ) (blocks : List Ptr) (i : ℕ) where
   kept-else other reply kept is = refl
 
   pub events-here : (s : PlainShard) (op : Op) (reply : Reply) (kept : List KeptRead) → is_in_shard shards blocks i op ≡ true
-      → events_of blocks s kept op reply ≡ events_of blocks s (kept_in_shard shards blocks i kept) op reply
+      → events_of_op blocks s kept op reply ≡ events_of_op blocks s (kept_in_shard shards blocks i kept) op reply
   events-here s (ops.Drop n x) reply kept is = go (effect_of reply)
     where
       go : (e : Effect) → events_of_dropping n x kept e ≡ events_of_dropping n x (kept_in_shard shards blocks i kept) e
@@ -122,11 +122,11 @@ module _ (shards : ℕ) (blocks : List Ptr) (i : ℕ) where
 
   -- what a line makes in the shard, where it is done there or not
   pub there-here : (s : PlainShard) (op : Op) (reply : Reply) (kept : List KeptRead) → is_in_shard shards blocks i op ≡ true
-      → events_there shards blocks i s kept op reply ≡ events_of blocks s (kept_in_shard shards blocks i kept) op reply
-  there-here s op reply kept is = ap (λ (b : Bool). if b then events_of blocks s kept op reply else []) is ∙ events-here s op reply kept is
+      → events_of_op_in shards blocks i s kept op reply ≡ events_of_op blocks s (kept_in_shard shards blocks i kept) op reply
+  there-here s op reply kept is = ap (λ (b : Bool). if b then events_of_op blocks s kept op reply else []) is ∙ events-here s op reply kept is
 
-  pub there-else : (s : PlainShard) (op : Op) (reply : Reply) (kept : List KeptRead) → is_in_shard shards blocks i op ≡ false → events_there shards blocks i s kept op reply ≡ []
-  there-else s op reply kept is = ap (λ (b : Bool). if b then events_of blocks s kept op reply else []) is
+  pub there-else : (s : PlainShard) (op : Op) (reply : Reply) (kept : List KeptRead) → is_in_shard shards blocks i op ≡ false → events_of_op_in shards blocks i s kept op reply ≡ []
+  there-else s op reply kept is = ap (λ (b : Bool). if b then events_of_op blocks s kept op reply else []) is
 
 -- ---- all lines, in one shard
 
@@ -142,13 +142,13 @@ module _ (shards : ℕ) (blocks : List Ptr) (i : ℕ) where
       nothing [] = refl
       nothing (o ∷ l) = refl
   events-over s kept (op ∷ os) (reply ∷ replies) =
-      let rest = events-over (shards_after shards blocks s kept op reply) (kept_after blocks op reply kept) os replies in
+      let rest = events-over (shards_after_op shards blocks s kept op reply) (kept_after blocks op reply kept) os replies in
       let all : PlainShard × List KeptRead → List Event = λ x. events_of_all blocks x.0 x.1 (filter (is_in_shard shards blocks i) os) (replies_where (is_in_shard shards blocks i) os replies) in
       elim (cases_true (is_in_shard shards blocks i op)) [
         | inl in_it ↦
             let events = there-here shards blocks i (s i) op reply kept in_it in
             (λ k. events k ++ rest k)
-            ∙ (ap (λ (x : PlainShard × List KeptRead). events_of blocks (s i) (kept_in_shard shards blocks i kept) op reply ++ all x) (λ k. (replay (s i) (events k), kept-here shards blocks i op reply kept in_it k))
+            ∙ (ap (λ (x : PlainShard × List KeptRead). events_of_op blocks (s i) (kept_in_shard shards blocks i kept) op reply ++ all x) (λ k. (replay (s i) (events k), kept-here shards blocks i op reply kept in_it k))
             ∙ rw in_it refl)
         | inr out ↦
             let none = there-else shards blocks i (s i) op reply kept out in

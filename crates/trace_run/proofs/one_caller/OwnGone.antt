@@ -30,11 +30,11 @@ use Rattle.trace_text.specs.declared.trace.Trace.{Trace}
 use Rattle.trace_run.specs.Deeds.{HasAct, act_of_event, acts_of_events}
 use Rattle.trace_run.specs.KeptReads.{KeptRead}
 use Rattle.trace_run.specs.Lines.{is_in_shard, is_of_caller}
-use Rattle.trace_run.specs.ObjectLines.{OnObject, brought_there, events_of_bringing, events_of_hand, on_object}
-use Rattle.trace_run.specs.Objects.{Brought, Line, Loaded, Nothing, OwnEvent, Refused, Work, own_event}
+use Rattle.trace_run.specs.dbufs.ObjectLines.{OnObject, brought_there, events_of_bringing, events_of_hand, on_object}
+use Rattle.trace_run.specs.dbufs.Objects.{Brought, Line, Loaded, Nothing, OwnEvent, Refused, Work, own_event}
 use Rattle.trace_run.specs.Openings.{openings_of}
 use Rattle.trace_run.specs.one_caller.Access.{access_of, events_of_answered, held_by_access}
-use Rattle.trace_run.specs.one_caller.OneCaller.{events_there as line_events}
+use Rattle.trace_run.specs.one_caller.OneCaller.{events_of_op_in as line_events}
 use Rattle.trace_run.specs.Reads.{now_of}
 use Rattle.trace_run.specs.callers.Callers.{CameTo}
 use Rattle.trace_run.specs.callers.WorkLines.{AtWork, DidAll, DidAlone, DidLineBy, DidOps, NotesFor, NotesLine}

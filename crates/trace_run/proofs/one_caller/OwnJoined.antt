@@ -33,9 +33,9 @@ use Rattle.trace_run.specs.Feeds.{IsIdleFeeder}
 use Rattle.trace_run.specs.KeptBlocks.{Stands, read_of}
 use Rattle.trace_run.specs.Lines.{is_of_caller}
 use Rattle.trace_run.specs.Meeting.{HasParted, IsApart, IsLevel, JoinAll, Joins, SeesEntries}
-use Rattle.trace_run.specs.ObjectLines.{OnObject, cell_lines, on_object}
-use Rattle.trace_run.specs.ObjectReplies.{LooksFrom}
-use Rattle.trace_run.specs.Objects.{Line}
+use Rattle.trace_run.specs.dbufs.ObjectLines.{OnObject, cell_lines, on_object}
+use Rattle.trace_run.specs.dbufs.ObjectReplies.{LooksFrom}
+use Rattle.trace_run.specs.dbufs.Objects.{Line}
 use Rattle.trace_run.specs.Openings.{AllKnow, openings_of}
 use Rattle.trace_run.specs.Syncing.{lines_of}
 use Rattle.trace_run.specs.callers.CallerLines.{at}

@@ -28,7 +28,7 @@ use Rattle.trace_run.specs.Answers.{AnswersDrop, AnswersHold, AnswersRead}
 use Rattle.trace_run.specs.Effects.{calls_from, calls_of, effect_of}
 use Rattle.trace_run.specs.Lines.{shard_of_line}
 use Rattle.trace_run.specs.one_caller.OneCaller.{kept_after, oldest_kept}
-use Rattle.trace_run.specs.one_caller.OverShards.{shards_after}
+use Rattle.trace_run.specs.one_caller.OverShards.{shards_after_op}
 use Rattle.trace_run.specs.one_caller.PlainRun.{Contents, Images, contents_after, key_fault, refused_from, replies_to, reply_to, reply_to_drop, reply_to_hold, reply_to_read}
 use Rattle.trace_run.specs.Read.{IsFromPool}
 use Rattle.trace_run.specs.Reads.{CameFromPool}
@@ -190,12 +190,12 @@ plain-gives from shards blocks s kept contents (o ∷ os) calls device_calls all
     let next : Call → List Call → List Reply = λ call cs.
     let reply = reply_to from blocks here kept contents o call (next_call device_calls) in
     reply
-    ∷ replies_to from shards blocks (shards_after shards blocks s kept o reply) (kept_after blocks o reply kept) (contents_after from blocks here o reply contents) os (drop (length (calls_of (effect_of reply))) cs)
+    ∷ replies_to from shards blocks (shards_after_op shards blocks s kept o reply) (kept_after blocks o reply kept) (contents_after from blocks here o reply contents) os (drop (length (calls_of (effect_of reply))) cs)
     (drop (length (asked_by (length from.device) blocks here o reply)) device_calls) in
     let reply = reply_to from blocks here kept contents o Gave (next_call device_calls) in
     let count = length (calls_of (effect_of reply)) in
     let rest = drop (length (asked_by (length from.device) blocks here o reply)) device_calls in
-    let after = shards_after shards blocks s kept o reply in
+    let after = shards_after_op shards blocks s kept o reply in
     let left = kept_after blocks o reply kept in
     let cached = contents_after from blocks here o reply contents in
     let gone : replies_to from shards blocks after left cached os (drop count calls) rest ≡ replies_to from shards blocks after left cached os (drop count []) rest =

@@ -33,7 +33,7 @@ use Rattle.trace_run.specs.one_caller.Asking.{NamesServed, place_asked, place_in
 use Rattle.trace_run.specs.Answering.{IsReadOfImage, KeepsImage, ReadsImage}
 use Rattle.trace_run.specs.Answers.{AnswersHold, AnswersRead}
 use Rattle.trace_run.specs.Effects.{Effect, Answered, GivenBack, PoolRefused, NoEffect, calls_of, effect_of, effect_of_refusal}
-use Rattle.trace_run.specs.one_caller.OneCaller.{events_of, events_of_dropping, events_of_hold, events_of_read, oldest_key}
+use Rattle.trace_run.specs.one_caller.OneCaller.{events_of_op, events_of_dropping, events_of_hold, events_of_read, oldest_key}
 use Rattle.trace_run.specs.one_caller.PlainReport.{IsPlainReply, ShowsCollision}
 use Rattle.trace_run.specs.one_caller.PlainRun.{Contents, Images, bytes_in, bytes_on, contents_after, contents_with, reply_to, reply_to_hold, reply_to_read, source_in}
 use Rattle.trace_run.specs.Read.{IsFromPool}
@@ -198,7 +198,7 @@ drop-brings contents n x kept (PoolRefused call) = tt
 drop-brings contents n x kept NoEffect = tt
 
 module _ (from : Images) (contents : Contents) (blocks : List Ptr) (s : PlainShard) (kept : List KeptRead) where
-  pub line-brings : (op : Op) (reply : Reply) (call : Call) → IsPlainlyServed from blocks s kept op reply call → AllByRecursion (Brings (contents_after from blocks s op reply contents)) (events_of blocks s kept op reply)
+  pub line-brings : (op : Op) (reply : Reply) (call : Call) → IsPlainlyServed from blocks s kept op reply call → AllByRecursion (Brings (contents_after from blocks s op reply contents)) (events_of_op blocks s kept op reply)
   line-brings (ops.Read n t x window) reply call is =
       let at = is.answer.1 in
       let range : CameFromPool (effect_of reply) → ReadsImage from.pool is.answer.0 window reply = rw at at is.range in

@@ -18,7 +18,7 @@ use Rattle.trace_run.specs.Effects.{Effect, effect_of}
 use Rattle.trace_run.specs.Ends.{ends_of}
 use Rattle.arc_table.specs.Telling.{opening_of}
 use Rattle.trace_run.specs.Lines.{is_in_shard, replies_where}
-use Rattle.trace_run.specs.one_caller.OneCaller.{events_of, events_of_all, events_of_drops, events_of_dropping, events_of_hold, events_of_read, kept_after, kept_after_all, kept_after_drop, kept_after_hold, one_caller_histories, one_caller_history}
+use Rattle.trace_run.specs.one_caller.OneCaller.{events_of_op, events_of_all, events_of_drops, events_of_dropping, events_of_hold, events_of_read, kept_after, kept_after_all, kept_after_drop, kept_after_hold, one_caller_histories, one_caller_history}
 use Rattle.trace_run.specs.one_caller.PlainReport.{ArePlainReplies, IsPlainReply, IsPlainReport}
 use Rattle.trace_run.specs.one_caller.PlainRun.{report_with}
 use Rattle.trace_run.specs.Restores.{found_keys, restores_in}
@@ -56,7 +56,7 @@ all-alike blocks (o ∷ os) (p ∷ ps) (r ∷ rs) are = (plain-alike blocks o p 
 
 -- ---- what follows from what they did
 
-pub alike-events : (blocks : List Ptr) (s : PlainShard) (kept : List KeptRead) (op : Op) (a b : Reply) → effect_of a ≡ effect_of b → events_of blocks s kept op a ≡ events_of blocks s kept op b
+pub alike-events : (blocks : List Ptr) (s : PlainShard) (kept : List KeptRead) (op : Op) (a b : Reply) → effect_of a ≡ effect_of b → events_of_op blocks s kept op a ≡ events_of_op blocks s kept op b
 alike-events blocks s kept (ops.Read n t x window) a b same = ap (λ (e : Effect). option_map_or (λ ptr. events_of_read n t s ptr e) (slice_get blocks x) []) same
 alike-events blocks s kept (ops.Hold n t x) a b same = ap (λ (e : Effect). option_map_or (λ ptr. events_of_hold n t s ptr e) (slice_get blocks x) []) same
 alike-events blocks s kept (ops.Drop n x) a b same = ap (λ (e : Effect). events_of_dropping n x kept e) same
@@ -76,11 +76,11 @@ alike-all blocks s kept (o ∷ os) (p ∷ ps) [] are = absurd are
 alike-all blocks s kept (o ∷ os) (p ∷ ps) (r ∷ rs) are =
     let events = alike-events blocks s kept o p r are.0.effect in
     let left = alike-kept blocks kept o p r are.0.effect in
-    let rest = alike-all blocks (replay s (events_of blocks s kept o r)) (kept_after blocks o r kept) os ps rs are.1 in
-    let moved : events_of_all blocks s kept (o ∷ os) (p ∷ ps) ≡ events_of blocks s kept o r ++ events_of_all blocks (replay s (events_of blocks s kept o r)) (kept_after blocks o r kept) os ps =
+    let rest = alike-all blocks (replay s (events_of_op blocks s kept o r)) (kept_after blocks o r kept) os ps rs are.1 in
+    let moved : events_of_all blocks s kept (o ∷ os) (p ∷ ps) ≡ events_of_op blocks s kept o r ++ events_of_all blocks (replay s (events_of_op blocks s kept o r)) (kept_after blocks o r kept) os ps =
     λ i. events i ++ events_of_all blocks (replay s (events i)) (left i) os ps in
     let keeps : kept_after_all blocks kept (o ∷ os) (p ∷ ps) ≡ kept_after_all blocks (kept_after blocks o r kept) os ps = λ i. kept_after_all blocks (left i) os ps in
-    (moved ∙ ap (λ (l : List Event). events_of blocks s kept o r ++ l) rest.0, keeps ∙ rest.1)
+    (moved ∙ ap (λ (l : List Event). events_of_op blocks s kept o r ++ l) rest.0, keeps ∙ rest.1)
 
 alike-where : (test : Op → Bool) (os : List Op) (ps rs : List Reply) → AreAlike ps rs → AreAlike (replies_where test os ps) (replies_where test os rs)
 alike-where test [] ps rs are = tt

@@ -30,7 +30,7 @@ use Rattle.trace_run.specs.declared.ran.Ending.TheVariants.{Fork, Full, Sync, Wh
 use Rattle.trace_run.specs.Deeds.{events_of_cell}
 use Rattle.trace_run.specs.KeptBlocks.{read_of}
 use Rattle.trace_run.specs.Meeting.{Resized, SeesEntries, resizes_in}
-use Rattle.trace_run.specs.Objects.{Line, Work}
+use Rattle.trace_run.specs.dbufs.Objects.{Line, Work}
 use Rattle.trace_run.specs.Openings.{Knows, opening_map, openings_of}
 use Rattle.trace_run.specs.RunWork.{RunWork}
 use Rattle.trace_run.specs.Syncing.{SyncsJoined, inserts_in, inserts_noted, lines_of, noted_of}

@@ -27,9 +27,9 @@ use Rattle.trace_run.specs.Deeds.{events_of_cell, events_there}
 use Rattle.trace_run.specs.DeviceReads.{AsksFor, LineAsks}
 use Rattle.trace_run.specs.Effects.{calls_of, effect_of}
 use Rattle.trace_run.specs.Lines.{is_of_caller}
-use Rattle.trace_run.specs.ObjectLines.{CameFrom, OnObject, TellsBrought, brought_there, events_of_bringing, on_object}
-use Rattle.trace_run.specs.ObjectReplies.{ActsFor, AnswersObject, BringsAt}
-use Rattle.trace_run.specs.Objects.{Brought, Line, Loaded, Nothing, Refused, Work, own_event}
+use Rattle.trace_run.specs.dbufs.ObjectLines.{CameFrom, OnObject, TellsBrought, brought_there, events_of_bringing, on_object}
+use Rattle.trace_run.specs.dbufs.ObjectReplies.{ActsFor, AnswersObject, BringsAt}
+use Rattle.trace_run.specs.dbufs.Objects.{Brought, Line, Loaded, Nothing, Refused, Work, own_event}
 use Rattle.trace_run.specs.Openings.{opening_map, openings_of}
 use Rattle.trace_run.specs.Reads.{now_of}
 use Rattle.trace_run.specs.Syncing.{lines_of}

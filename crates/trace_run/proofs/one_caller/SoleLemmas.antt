@@ -18,7 +18,7 @@ use Rattle.trace_run.specs.KeptReads.{KeptRead}
 use Rattle.trace_run.specs.Acts.{acts_of, acts_of_all, events_of_feeder, events_of_feeds}
 use Rattle.trace_run.specs.Effects.{calls_of, calls_of_all, effect_of}
 use Rattle.trace_run.specs.Lines.{caller_of, is_in_shard, is_of_caller, replies_where}
-use Rattle.trace_run.specs.one_caller.OneCaller.{events_of, events_of_all, events_of_drops, kept_after, kept_after_all, one_caller_history, only_feeder}
+use Rattle.trace_run.specs.one_caller.OneCaller.{events_of_op, events_of_all, events_of_drops, kept_after, kept_after_all, one_caller_history, only_feeder}
 use Rattle.trace_run.specs.Tally.{AreAnswered}
 use Rattle.trace_run.proofs.callers.CallerActLemmas.{his-is}
 use Rattle.trace_run.proofs.one_caller.TellLemmas.{IsAloneOp, IsMine, mine-drops, mine-of}
@@ -124,7 +124,7 @@ pub own-two : (n : ℕ) (es fs : List Event) → own_events n (es ++ fs) ≡ own
 own-two n es fs = filter-append (λ e. number_of e == n && not (is_pass e)) es fs
 
 module _ (blocks : List Ptr) where
-  fed-line : (s : PlainShard) (kept : List KeptRead) (op : Op) (reply : Reply) → IsAloneOp op → own_events only_feeder (events_of blocks s kept op reply) ≡ events_of_feeder only_feeder op
+  fed-line : (s : PlainShard) (kept : List KeptRead) (op : Op) (reply : Reply) → IsAloneOp op → own_events only_feeder (events_of_op blocks s kept op reply) ≡ events_of_feeder only_feeder op
   fed-line s kept (ops.Read n t x window) reply own = own-none 0 only_feeder _ (λ e. absurd (omega arith)) (mine-of blocks s kept (ops.Read n t x window) reply 0 (ap (λ (k : ℕ). Some k) own))
   fed-line s kept (ops.Hold n t x) reply own = own-none 0 only_feeder _ (λ e. absurd (omega arith)) (mine-of blocks s kept (ops.Hold n t x) reply 0 (ap (λ (k : ℕ). Some k) own))
   fed-line s kept (ops.Drop n x) reply own = own-none 0 only_feeder _ (λ e. absurd (omega arith)) (mine-of blocks s kept (ops.Drop n x) reply 0 (ap (λ (k : ℕ). Some k) own))
@@ -134,8 +134,8 @@ module _ (blocks : List Ptr) where
   fed-lines s kept [] rs own = refl
   fed-lines s kept (o ∷ os) [] own = refl
   fed-lines s kept (o ∷ os) (r ∷ rs) own =
-      own-two only_feeder (events_of blocks s kept o r) (events_of_all blocks (replay s (events_of blocks s kept o r)) (kept_after blocks o r kept) os rs)
-      ∙ (λ i. fed-line s kept o r own.0 i ++ fed-lines (replay s (events_of blocks s kept o r)) (kept_after blocks o r kept) os rs own.1 i)
+      own-two only_feeder (events_of_op blocks s kept o r) (events_of_all blocks (replay s (events_of_op blocks s kept o r)) (kept_after blocks o r kept) os rs)
+      ∙ (λ i. fed-line s kept o r own.0 i ++ fed-lines (replay s (events_of_op blocks s kept o r)) (kept_after blocks o r kept) os rs own.1 i)
 
   abbrev fed-in : (shards shard : ℕ) → List Op → List Reply → List Event
   fed-in shards shard os rs = events_of_feeds only_feeder (filter (is_in_shard shards blocks shard) os) (replies_where (is_in_shard shards blocks shard) os rs)

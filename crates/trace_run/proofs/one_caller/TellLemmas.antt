@@ -23,7 +23,7 @@ use Rattle.trace_run.specs.one_caller.Access as access
 use Rattle.trace_run.specs.KeptReads.{KeptRead}
 use Rattle.trace_run.specs.one_caller.Access.{Access, access_of, events_of_answered, events_of_drop, events_of_refused, held_by_access}
 use Rattle.trace_run.specs.Acts.{acts_of, acts_of_all, acts_of_caller, acts_of_drop, acts_of_dropping, acts_of_drops, acts_of_hold, acts_of_read}
-use Rattle.trace_run.specs.one_caller.OneCaller.{events_of, events_of_all, events_of_dropping, events_of_drops, events_of_hold, events_of_read, kept_after, kept_after_all, oldest_key, one_caller_history, only_feeder}
+use Rattle.trace_run.specs.one_caller.OneCaller.{events_of_op, events_of_all, events_of_dropping, events_of_drops, events_of_hold, events_of_read, kept_after, kept_after_all, oldest_key, one_caller_history, only_feeder}
 use Rattle.trace_run.specs.Effects.{Effect, Answered, GivenBack, PoolRefused, NoEffect, effect_of}
 use Rattle.trace_run.specs.Lines.{caller_of}
 
@@ -94,18 +94,18 @@ mine-dropping n x kept GivenBack = mine-drop n (oldest_key x kept)
 mine-dropping n x kept (PoolRefused call) = tt
 mine-dropping n x kept NoEffect = tt
 
-pub mine-of : (blocks : List Ptr) (s : PlainShard) (kept : List KeptRead) (op : Op) (reply : Reply) (n : ℕ) → caller_of op ≡ Some n → AllByRecursion (IsMine n) (events_of blocks s kept op reply)
-mine-of blocks s kept (ops.Read n t x window) reply m his = subst (λ (k : ℕ). AllByRecursion (IsMine k) (events_of blocks s kept (ops.Read n t x window) reply)) (some-number n m his) (go (slice_get blocks x))
+pub mine-of : (blocks : List Ptr) (s : PlainShard) (kept : List KeptRead) (op : Op) (reply : Reply) (n : ℕ) → caller_of op ≡ Some n → AllByRecursion (IsMine n) (events_of_op blocks s kept op reply)
+mine-of blocks s kept (ops.Read n t x window) reply m his = subst (λ (k : ℕ). AllByRecursion (IsMine k) (events_of_op blocks s kept (ops.Read n t x window) reply)) (some-number n m his) (go (slice_get blocks x))
   where
     go : (o : Option Ptr) → AllByRecursion (IsMine n) (option_map_or (λ ptr. events_of_read n t s ptr (effect_of reply)) o [])
     go None = tt
     go (Some ptr) = mine-read n t s ptr (effect_of reply)
-mine-of blocks s kept (ops.Hold n t x) reply m his = subst (λ (k : ℕ). AllByRecursion (IsMine k) (events_of blocks s kept (ops.Hold n t x) reply)) (some-number n m his) (go (slice_get blocks x))
+mine-of blocks s kept (ops.Hold n t x) reply m his = subst (λ (k : ℕ). AllByRecursion (IsMine k) (events_of_op blocks s kept (ops.Hold n t x) reply)) (some-number n m his) (go (slice_get blocks x))
   where
     go : (o : Option Ptr) → AllByRecursion (IsMine n) (option_map_or (λ ptr. events_of_hold n t s ptr (effect_of reply)) o [])
     go None = tt
     go (Some ptr) = mine-hold n t s ptr (effect_of reply)
-mine-of blocks s kept (ops.Drop n x) reply m his = subst (λ (k : ℕ). AllByRecursion (IsMine k) (events_of blocks s kept (ops.Drop n x) reply)) (some-number n m his) (mine-dropping n x kept (effect_of reply))
+mine-of blocks s kept (ops.Drop n x) reply m his = subst (λ (k : ℕ). AllByRecursion (IsMine k) (events_of_op blocks s kept (ops.Drop n x) reply)) (some-number n m his) (mine-dropping n x kept (effect_of reply))
 mine-of blocks s kept (ops.Cap c) reply m his = cc
 mine-of blocks s kept other reply m his = tt
 
@@ -123,7 +123,7 @@ IsAloneEvent e = IsMine 0 e ⊎ ((number_of e ≡ only_feeder) × (is_given e �
 abbrev pub IsAloneOp : Op → Type 0
 IsAloneOp op = IfSome (caller_of op) (λ n. n ≡ 0)
 
-alone-of : (blocks : List Ptr) (s : PlainShard) (kept : List KeptRead) (op : Op) (reply : Reply) → IsAloneOp op → AllByRecursion IsAloneEvent (events_of blocks s kept op reply)
+alone-of : (blocks : List Ptr) (s : PlainShard) (kept : List KeptRead) (op : Op) (reply : Reply) → IsAloneOp op → AllByRecursion IsAloneEvent (events_of_op blocks s kept op reply)
 alone-of blocks s kept (ops.Read n t x window) reply own = all-map (IsMine 0) IsAloneEvent _ (λ e is. inl is) (mine-of blocks s kept (ops.Read n t x window) reply 0 (ap (λ (k : ℕ). Some k) own))
 alone-of blocks s kept (ops.Hold n t x) reply own = all-map (IsMine 0) IsAloneEvent _ (λ e is. inl is) (mine-of blocks s kept (ops.Hold n t x) reply 0 (ap (λ (k : ℕ). Some k) own))
 alone-of blocks s kept (ops.Drop n x) reply own = all-map (IsMine 0) IsAloneEvent _ (λ e is. inl is) (mine-of blocks s kept (ops.Drop n x) reply 0 (ap (λ (k : ℕ). Some k) own))
@@ -135,7 +135,7 @@ alone-all : (blocks : List Ptr) (s : PlainShard) (kept : List KeptRead) (os : Li
 alone-all blocks s kept [] replies own = tt
 alone-all blocks s kept (op ∷ os) [] own = tt
 alone-all blocks s kept (op ∷ os) (reply ∷ replies) own =
-    all-append IsAloneEvent (events_of blocks s kept op reply) _ (alone-of blocks s kept op reply own.0) (alone-all blocks (replay s (events_of blocks s kept op reply)) (kept_after blocks op reply kept) os replies own.1)
+    all-append IsAloneEvent (events_of_op blocks s kept op reply) _ (alone-of blocks s kept op reply own.0) (alone-all blocks (replay s (events_of_op blocks s kept op reply)) (kept_after blocks op reply kept) os replies own.1)
 
 pub mine-drops : (n : ℕ) (kept : List KeptRead) → AllByRecursion (IsMine n) (events_of_drops n kept)
 mine-drops n [] = tt

@@ -11,8 +11,8 @@ use Rattle.trace_text.specs.declared.reply.Reply.{Reply}
 use Rattle.trace_text.specs.declared.trace.Trace.{Trace}
 use Rattle.trace_run.specs.Feeds.{AreFedReplies, FeedDone, is_feed}
 use Rattle.trace_run.specs.Lines.{caller_of, replies_where}
-use Rattle.trace_run.specs.ObjectLines.{OnObject, on_object}
-use Rattle.trace_run.specs.Objects.{Line, Work, ops_of, replies_of}
+use Rattle.trace_run.specs.dbufs.ObjectLines.{OnObject, on_object}
+use Rattle.trace_run.specs.dbufs.Objects.{Line, Work, ops_of, replies_of}
 use Rattle.trace_run.specs.one_caller.Sequence.{AreInSequence, BetweenLines, DoesAnyLine, DoesFeed, DoesOther, DoesOwn, IfLent}
 use Rattle.trace_run.proofs.feeds.FeedLemmas.{answered-then, none-answered}
 use Rattle.trace_run.proofs.feeds.UsedLemmas.{IsAlso, also-answered, also-same, asks-also, feed_lines, ops-fed, replies-fed}

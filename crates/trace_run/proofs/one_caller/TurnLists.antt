@@ -6,7 +6,7 @@ use Rattle.vdev_io.specs.declared.pool.Pool.{Ghosts}
 use Rattle.trace_text.specs.declared.trace.Trace.{Trace}
 use Rattle.trace_run.specs.Feeds.{FeedDone}
 use Rattle.trace_run.specs.Lines.{caller_of}
-use Rattle.trace_run.specs.Objects.{Line}
+use Rattle.trace_run.specs.dbufs.Objects.{Line}
 use Rattle.trace_run.specs.one_caller.Sequence.{AreInSequence, BetweenLines}
 
 -- these lines are the one caller's

@@ -40,7 +40,7 @@ use Rattle.trace_run.specs.FeedEvents.{AreFeedsTold, is_fed}
 use Rattle.trace_run.specs.FeedSeries.{AreMadeSoFar}
 use Rattle.trace_run.specs.Feeds.{FeedDone, IsIdleFeeder, MadeFeedsOf, is_feed}
 use Rattle.trace_run.specs.Lines.{caller_of, is_of_caller, replies_where}
-use Rattle.trace_run.specs.Objects.{Line, no_work, ops_of, replies_of}
+use Rattle.trace_run.specs.dbufs.Objects.{Line, no_work, ops_of, replies_of}
 use Rattle.trace_run.specs.Openings.{AllKnow, openings_of}
 use Rattle.trace_run.specs.RunWork.{AllFit, FitsBy, RunWork, lines_of_caller}
 use Rattle.trace_run.specs.callers.Group.{AllWorked, LeavesPool, WorkedAt}

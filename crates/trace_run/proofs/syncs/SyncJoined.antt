@@ -54,7 +54,7 @@ use Rattle.trace_run.proofs.syncs.SyncTold.{others-synced}
 use Rattle.trace_run.proofs.callers.MeetLemmas.{HaveJoined, have-met, left_alone, own-seen-more, parted_from, starts-events, joined_of}
 use Rattle.trace_run.proofs.syncs.SyncOwned.{AreDoneFrom, DidSo, IsDone}
 use Rattle.trace_run.specs.MadeLines.{made_from}
-use Rattle.trace_run.specs.CellEnds.{done_by}
+use Rattle.trace_run.specs.dbufs.CellEnds.{done_by}
 use Rattle.trace_run.proofs.callers.MakerLemmas.{later-behind}
 
 -- ---- cells to which nothing was done have no dirty block

@@ -24,7 +24,7 @@ use Rattle.dbuf_cells.specs.Turns.{OnHeap, PartyPlace, dbuf_meanings}
 use Rattle.dbuf_state.specs.Numbers.{event_numbers, number_of}
 use Rattle.dbuf_state.specs.declared.event.CellEvent.{CellEvent}
 use Rattle.dbuf_state.proofs.NumberLemmas.{events-numbered}
-use Rattle.trace_run.specs.CellEnds.{done_by}
+use Rattle.trace_run.specs.dbufs.CellEnds.{done_by}
 use Rattle.trace_run.specs.MadeLines.{made_from, made_of, owned_from}
 use Rattle.trace_run.specs.Syncing.{lines_of}
 use Rattle.trace_run.proofs.CellLemmas.{by-number}

@@ -25,10 +25,10 @@ use Rattle.txg_sync.specs.declared.syncing.SyncFault.TheVariants as fault
 use Rattle.txg_sync.specs.declared.syncing.Synced.{Synced as SyncAnswer}
 use Rattle.vdev_io.specs.declared.pool.Pool.{Ghosts}
 use Rattle.trace_run.specs.declared.groups.Crew.{Crew}
-use Rattle.trace_run.specs.CellEnds.{done_by}
+use Rattle.trace_run.specs.dbufs.CellEnds.{done_by}
 use Rattle.trace_run.specs.Deeds.{acts_of_events, events_of_cell, events_there, lines_of_cell, with_number}
 use Rattle.trace_run.specs.MadeLines.{made_of}
-use Rattle.trace_run.specs.Objects.{Line, Nothing, Work}
+use Rattle.trace_run.specs.dbufs.Objects.{Line, Nothing, Work}
 use Rattle.trace_run.specs.Openings.{Knows}
 use Rattle.trace_run.specs.RunWork.{IsInserted, IsSyncWork, IsSyncedNote, lines_of_caller, lines_of_feeder}
 use Rattle.trace_run.specs.Syncing.{HasDoneTo, IsInsert, SyncedJoined, SyncsJoined, comes_in, insert_of, inserts_in, inserts_noted, lines_of, noted_of, wants_memory}

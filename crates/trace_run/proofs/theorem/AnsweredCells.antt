@@ -30,13 +30,13 @@ use Rattle.trace_text.specs.declared.op.Op.{Op}
 use Rattle.trace_text.specs.declared.op.Op.TheVariants as ops
 use Rattle.trace_text.specs.declared.reply.Reply.{Reply}
 use Rattle.trace_text.specs.declared.reply.Reply.TheVariants as replies
-use Rattle.trace_run.specs.CellEnds.{done_by}
+use Rattle.trace_run.specs.dbufs.CellEnds.{done_by}
 use Rattle.trace_run.specs.Deeds.{events_of_cell, lines_of_cell, noted_in}
 use Rattle.trace_run.specs.Lines.{caller_of, is_of_caller}
-use Rattle.trace_run.specs.ObjectAnswers.{AreAnsweredByCells, IsAnsweredBy, LookedAt}
-use Rattle.trace_run.specs.ObjectLines.{OnObject, cell_lines, on_object}
-use Rattle.trace_run.specs.ObjectReplies.{ActsFor, AnswersObject, BringsAt}
-use Rattle.trace_run.specs.Objects.{Line, OwnEvent, Work, no_work, own_event}
+use Rattle.trace_run.specs.dbufs.ObjectAnswers.{AreAnsweredByCells, IsAnsweredBy, LookedAt}
+use Rattle.trace_run.specs.dbufs.ObjectLines.{OnObject, cell_lines, on_object}
+use Rattle.trace_run.specs.dbufs.ObjectReplies.{ActsFor, AnswersObject, BringsAt}
+use Rattle.trace_run.specs.dbufs.Objects.{Line, OwnEvent, Work, no_work, own_event}
 use Rattle.trace_run.specs.RunWork.{AllFit, FitsBy, lines_of_caller}
 use Rattle.trace_run.specs.callers.Looking.{HaveLooked, LooksCut}
 use Rattle.trace_run.specs.callers.Together.{ends_group}

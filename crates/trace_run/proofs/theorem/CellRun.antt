@@ -28,7 +28,7 @@ use Rattle.dbuf_state.specs.Numbers.{event_numbers, number_of}
 use Rattle.dbuf_state.specs.declared.event.CellEvent.{CellEvent}
 use Rattle.dbuf_state.specs.declared.event.CellEvent.TheVariants.{End}
 use Rattle.trace_text.specs.declared.trace.Trace.{Trace}
-use Rattle.trace_run.specs.CellEnds.{AreCellsOf, AreEndedSo, EndedCrew, HasSeenEnds, IsCellOf, SeesEnds, done_by, end_entry, ends_from}
+use Rattle.trace_run.specs.dbufs.CellEnds.{AreCellsOf, AreEndedSo, EndedCrew, HasSeenEnds, IsCellOf, SeesEnds, done_by, end_entry, noted_ends}
 use Rattle.trace_run.specs.RunWork.{only_ended}
 use Rattle.trace_run.specs.Deeds.{HasToldOthers, Noted, events_of_cell, events_there, lines_of_cell}
 use Rattle.trace_run.specs.MadeLines.{made_from, made_of}
@@ -165,7 +165,7 @@ alone-cells cache p q given ps e trace config one same listed ends number h none
 module _ (cache : Cache) (olds news : List PartyPlace) (c : EndedCrew cache olds news) (stopped : HaveStopped cache olds) (e : Ended OnHeap) (ends : Ends dbuf_meanings cache news e) (trace : Trace) (config : cache.config ≡ trace.config)
     (noted : ℕ → List Noted) (knows : Knows (openings_of trace) c.last) (many : length c.callers ≡ cache.config.callers)
     (callers : (n : ℕ) (o : PartyPlace) → get_elem? c.callers n ≡ some o → (i : ℕ) → IsCell cache.config i → made_of i o ≡ lines_of_cell i (noted n))
-    (did : List Act) (had : List Noted) (fed : HasToldOthers cache.config did had c.feeder) (ended : noted cache.config.callers ≡ had ++ ends_from cache.config.callers 0 cache.config.cells) where
+    (did : List Act) (had : List Noted) (fed : HasToldOthers cache.config did had c.feeder) (ended : noted cache.config.callers ≡ had ++ noted_ends cache.config.callers 0 cache.config.cells) where
   abbrev g : Config
   g = cache.config
 
@@ -220,7 +220,7 @@ module _ (cache : Cache) (olds news : List PartyPlace) (c : EndedCrew cache olds
       record {
         seen = own;
         own = own;
-        made = λ i range. told.entries i range ∙ ap (lines_of_cell i) (ap (λ (n : ℕ). had ++ ends_from n 0 g.cells) feeder-number ∙ sym ended);
+        made = λ i range. told.entries i range ∙ ap (lines_of_cell i) (ap (λ (n : ℕ). had ++ noted_ends n 0 g.cells) feeder-number ∙ sym ended);
       }
 
   shown : (n : ℕ) (x : PartyPlace) → get_elem? news n ≡ some x → x.number ≡ n → get_elem? ends.views n ≡ some x.own

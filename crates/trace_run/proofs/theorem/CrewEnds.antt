@@ -16,7 +16,7 @@ use Rattle.arc_table.specs.Telling.{opening_of}
 use Rattle.arc_table.specs.TableLaws.{get_front, within}
 use Rattle.arc_table.proofs.TableLaws.{get_last, get_more}
 use Rattle.dbuf_cells.specs.Turns.{PartyPlace}
-use Rattle.trace_run.specs.CellEnds.{EndedCrew, ends_from}
+use Rattle.trace_run.specs.dbufs.CellEnds.{EndedCrew, noted_ends}
 use Rattle.trace_run.specs.Deeds.{HasToldAll, HasToldOthers, Noted, acts_of_events, events_there}
 use Rattle.trace_run.specs.Meeting.{HasParted, HasSettled, HaveParted, IsLevel}
 use Rattle.trace_run.specs.callers.GroupRun.{HaveStopped}
@@ -67,7 +67,7 @@ module _ (cache : Cache) (olds news : List PartyPlace) (c : EndedCrew cache olds
   module _ (did : ℕ → List Act) (noted : ℕ → List Noted) (feeds : (shard : ℕ) → List Event) (callers : (n : ℕ) (o : PartyPlace) → get_elem? c.callers n ≡ some o → HasToldAll g (did n) (noted n) o)
       (acts : (n : ℕ) → n < g.callers → AllByRecursion (IsCallersAct g) (filter (λ act. actor_of act == n) (did n)))
       (made : List Act) (had : List Noted) (told : HasToldOthers g made had c.feeder) (settled : HasSettled c.feeder) (fed : (shard : ℕ) → shard < g.shards → own_events g.callers (seen_of g shard c.feeder) ≡ feeds shard)
-      (did-is : did g.callers ≡ made ++ acts_of_events c.ended.drops) (noted-is : noted g.callers ≡ had ++ ends_from g.callers 0 g.cells) where
+      (did-is : did g.callers ≡ made ++ acts_of_events c.ended.drops) (noted-is : noted g.callers ≡ had ++ noted_ends g.callers 0 g.cells) where
     caller-ended : (n : ℕ) (o x : PartyPlace) → n < g.callers → get_elem? c.callers n ≡ some o → HasParted cache c.ended.lines o x → HasEndedWork g (did n) (noted n) feeds n x
     caller-ended n o x below at parted =
         let s = stopped.each n o (ap (λ (l : List PartyPlace). get_elem? l n) c.are ∙ get_front c.callers (c.feeder ∷ []) n o at) in
@@ -103,7 +103,7 @@ module _ (cache : Cache) (olds news : List PartyPlace) (c : EndedCrew cache olds
               sym (own-events-are g.callers (opening_of g) (seen_of g shard z))
               ∙ (ap (map (λ (x : Moment). x.event)) own ∙ (own-events-are g.callers (opening_of g) (seen_of g shard c.feeder) ∙ fed shard inside));
           others = subst (λ (x : List Act × List Noted). HasToldOthers g x.0 x.1 z)
-              (λ i. (sym did-is i, (ap (λ (n : ℕ). had ++ ends_from n 0 g.cells) feeder-number ∙ sym noted-is) i)) (c.ended.told made had told);
+              (λ i. (sym did-is i, (ap (λ (n : ℕ). had ++ noted_ends n 0 g.cells) feeder-number ∙ sym noted-is) i)) (c.ended.told made had told);
           settled = λ _. c.ended.settled feeder-number settled;
         }
 

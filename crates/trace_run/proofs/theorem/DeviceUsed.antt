@@ -16,7 +16,7 @@ use Rattle.trace_run.specs.Devices.{Finds, IsHandedBack, IsRightKind, MayLose, M
 use Rattle.trace_run.specs.DeviceUse.{WasUsed}
 use Rattle.trace_run.specs.Feeds.{AreFedReplies, AsksOfFeeds, FeedDone, is_feed}
 use Rattle.trace_run.specs.Lines.{replies_where}
-use Rattle.trace_run.specs.Objects.{ops_of, replies_of}
+use Rattle.trace_run.specs.dbufs.Objects.{ops_of, replies_of}
 use Rattle.trace_run.specs.RunWork.{RunWork}
 use Rattle.trace_run.proofs.DeviceLemmas.{lent-back, only-same, only-then, usable-lent}
 

@@ -29,7 +29,7 @@ use Rattle.arc_table.specs.Telling.{opening_of}
 use Rattle.trace_run.specs.Lines.{has_further, is_further}
 use Rattle.trace_run.specs.Outcome.{generated}
 use Rattle.trace_run.specs.one_caller.PlainReport.{ArePlainReplies, IsPlainReply, IsPlainReport, ShowsCollision}
-use Rattle.trace_run.specs.one_caller.PlainRun.{Images, no_contents, report_of, report_with}
+use Rattle.trace_run.specs.one_caller.PlainRun.{Images, no_contents, plain_report, report_with}
 use Rattle.vdev_io.specs.Calls.{Failed, Gave, MakesCalls, Call}
 use Rattle.trace_run.proofs.one_caller.PlainLemmas.{AllGive, plain-gives}
 
@@ -203,7 +203,7 @@ made-done seed blocks ops trace drawn = ap (λ (t : Trace). has_further t.ops) (
     none-undone (n ∷ ns) = none-undone ns
 
 pub made-report : (seed blocks ops : ℕ) (trace : Trace) (from : Images) (calls : List Call) → trace ≡ generated seed blocks ops → AllGive calls
-    → report_of trace None from calls [] ≡ report_of (generated seed blocks ops) None from [] []
+    → plain_report trace None from calls [] ≡ plain_report (generated seed blocks ops) None from [] []
 made-report seed blocks ops trace from calls is give =
     ap (λ (l : List Reply). report_with trace None l) (plain-gives from trace.config.shards trace.blocks (λ shard. opening_of trace.config) [] no_contents trace.ops calls [] give)
-    ∙ ap (λ (t : Trace). report_of t None from [] []) is
+    ∙ ap (λ (t : Trace). plain_report t None from [] []) is

@@ -19,7 +19,7 @@ use Rattle.dbuf_state.specs.declared.event.CellEvent.{CellEvent}
 use Rattle.dbuf_state.specs.declared.event.CellEvent.TheVariants.{End}
 use Rattle.dbuf_state.specs.declared.state.Mapping.{Mapping}
 use Rattle.trace_text.specs.declared.trace.Trace.{Trace}
-use Rattle.trace_run.specs.CellEnds.{AreCellsOf, AreEndedSo, DropsKept, EndedSo, SeesEnd, SeesEnds}
+use Rattle.trace_run.specs.dbufs.CellEnds.{AreCellsOf, AreEndedSo, DropsKept, EndedSo, SeesEnd, SeesEnds}
 use Rattle.trace_run.specs.RunWork.{only_ended}
 use Rattle.trace_run.proofs.CellEnds.{opened-uncached}
 use Rattle.trace_run.proofs.CellLemmas.{only-end-left, opening-same}

@@ -30,9 +30,9 @@ use Rattle.trace_run.specs.Deeds.{Noted}
 use Rattle.trace_run.specs.Effects.{calls_of, effect_of}
 use Rattle.trace_run.specs.KeptReads.{KeptRead}
 use Rattle.trace_run.specs.Lines.{caller_of, is_of_caller}
-use Rattle.trace_run.specs.ObjectLines.{on_object}
-use Rattle.trace_run.specs.ObjectReplies.{AnswersObject}
-use Rattle.trace_run.specs.Objects.{Brought, IsDoneWith, IsGotWith, IsRefusedWith, Line, Loaded, Nothing, OwnEvent, Refused, Work, acts_of_bringing, no_work}
+use Rattle.trace_run.specs.dbufs.ObjectLines.{on_object}
+use Rattle.trace_run.specs.dbufs.ObjectReplies.{AnswersObject}
+use Rattle.trace_run.specs.dbufs.Objects.{Brought, IsDoneWith, IsGotWith, IsRefusedWith, Line, Loaded, Nothing, OwnEvent, Refused, Work, acts_of_bringing, no_work}
 use Rattle.trace_run.specs.RunWork.{AllFit, FitsBy, acts_of_caller_lines, kept_after_lines, lines_of_caller}
 use Rattle.trace_run.specs.callers.WorkLines.{AnswersLine, AnswersLines, IsWorkOf, NotesLine, acts_of_work, acts_on, acts_with, acts_with_op, calls_of_lines, effect_with}
 use Rattle.trace_run.specs.one_caller.OneCaller.{kept_after}

@@ -16,8 +16,8 @@ use Rattle.trace_run.specs.Deeds.{Noted}
 use Rattle.trace_run.specs.Effects.{Answered, Effect, GivenBack, NoEffect, PoolRefused, effect_of}
 use Rattle.trace_run.specs.KeptReads.{KeptRead}
 use Rattle.trace_run.specs.Lines.{caller_of, is_of_caller}
-use Rattle.trace_run.specs.ObjectLines.{on_object}
-use Rattle.trace_run.specs.Objects.{Line, Work, ops_of, replies_of}
+use Rattle.trace_run.specs.dbufs.ObjectLines.{on_object}
+use Rattle.trace_run.specs.dbufs.Objects.{Line, Work, ops_of, replies_of}
 use Rattle.trace_run.specs.RunWork.{lines_of_caller}
 use Rattle.trace_run.specs.Tally.{IsTally}
 use Rattle.trace_run.specs.callers.Groups.{AreEndLines, IsEndLine}

@@ -21,16 +21,16 @@ use Rattle.trace_run.specs.Effects.{calls_of_all}
 use Rattle.trace_run.specs.Ends.{ends_of}
 use Rattle.dbuf_cells.specs.Turns.{OnHeap}
 use Rattle.trace_run.specs.callers.GroupRun.{RanTogether}
-use Rattle.trace_run.specs.CellEnds.{AreCellsOf}
+use Rattle.trace_run.specs.dbufs.CellEnds.{AreCellsOf}
 use Rattle.trace_run.specs.Devices.{IsHandedBack}
 use Rattle.trace_run.specs.Lines.{has_further}
 use Rattle.trace_run.specs.one_caller.InTurn.{RunsInTurn}
 use Rattle.trace_run.specs.one_caller.Sequence.{begins_so}
 use Rattle.trace_run.proofs.one_caller.TurnAnswers.{turn-answered}
 use Rattle.std.proofs.lemmas.Bool.{false≢true}
-use Rattle.trace_run.specs.ObjectAnswers.{IsAnsweredBy}
-use Rattle.trace_run.specs.ObjectLines.{OnObject}
-use Rattle.trace_run.specs.Objects.{Line}
+use Rattle.trace_run.specs.dbufs.ObjectAnswers.{IsAnsweredBy}
+use Rattle.trace_run.specs.dbufs.ObjectLines.{OnObject}
+use Rattle.trace_run.specs.dbufs.Objects.{Line}
 use Rattle.trace_run.specs.RunWork.{RunWork, only_ended, plain_lines, plain_work}
 use Rattle.trace_run.specs.callers.WorkLines.{AreLinesOf}
 use Rattle.trace_run.proofs.feeds.UsedLemmas.{plain-answered, used-answered}

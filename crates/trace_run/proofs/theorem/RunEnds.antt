@@ -37,18 +37,18 @@ use Rattle.trace_run.specs.declared.groups.Crew.{Crew}
 use Rattle.trace_run.specs.declared.kept_blocks.KeptBlock.{KeptBlock}
 use Rattle.trace_run.specs.Acts.{acts_of_drops}
 use Rattle.trace_run.specs.Answers.{AnswersAll, is_pool_fault}
-use Rattle.trace_run.specs.CellEnds.{AreCellsOf, AreEndedSo, EndedCrew, IsCellDrop, end_entry, ends_from}
+use Rattle.trace_run.specs.dbufs.CellEnds.{AreCellsOf, AreEndedSo, EndedCrew, IsCellDrop, end_entry, noted_ends}
 use Rattle.trace_run.specs.Deeds.{HasToldAll, HasToldOthers, KeepsCells, Noted, acts_of_events, events_of_cell, events_there, lines_of_cell}
-use Rattle.trace_run.specs.Explaining.{BeginsWith, EndsWith, Explain, drops_at_end}
+use Rattle.trace_run.specs.Explaining.{BeginsWithEvents, EndsWith, Explain, drops_at_end}
 use Rattle.trace_run.specs.FeedEvents.{events_of_line, events_of_lines, feeds_behind}
 use Rattle.trace_run.specs.Feeds.{FeedDone}
-use Rattle.trace_run.specs.KeptBlocks.{Stands, holds_in, read_of}
+use Rattle.trace_run.specs.KeptBlocks.{Stands, held_in_shard, read_of}
 use Rattle.trace_run.specs.KeptReads.{KeptRead}
 use Rattle.trace_run.specs.Lines.{caller_of, is_of_caller, replies_where}
-use Rattle.trace_run.specs.ObjectAnswers.{AreAnsweredByCells}
+use Rattle.trace_run.specs.dbufs.ObjectAnswers.{AreAnsweredByCells}
 use Rattle.trace_run.specs.Meeting.{AllKeepCells, HasSettled, HaveGivenBack, HaveParted, IsLevel, SeesEntries, Waits, drops_from}
 use Rattle.trace_run.specs.callers.Looking.{HaveLooked}
-use Rattle.trace_run.specs.Objects.{Line}
+use Rattle.trace_run.specs.dbufs.Objects.{Line}
 use Rattle.trace_run.specs.one_caller.Alone.{ends_in, histories_of}
 use Rattle.trace_run.specs.one_caller.OneCaller.{events_of_drops, kept_after, kept_after_all}
 use Rattle.trace_run.specs.Openings.{Knows, openings_of}
@@ -133,10 +133,10 @@ drops-are g blocks shard n (k ∷ ks) os rs each =
     let z : n + 0 ≡ n = omega arith in
     let mine : map read_of k ≡ kept_after_all blocks [] (filter (is_of_caller n) os) (replies_where (is_of_caller n) os rs) =
     each 0 k refl ∙ ap (λ (c : ℕ). kept_after_all blocks [] (filter (is_of_caller c) os) (replies_where (is_of_caller c) os rs)) z in
-    let now : List Event = events_of_drops n (holds_in g shard (map read_of k)) in
+    let now : List Event = events_of_drops n (held_in_shard g shard (map read_of k)) in
     let more : suc n + length ks ≡ n + length (k ∷ ks) = omega arith in
     sym (append_assoc (drops_at_end g blocks shard n os rs) now (drops_from g shard (suc n) ks))
-    ∙ (ap (λ (l : List KeptRead). (drops_at_end g blocks shard n os rs ++ events_of_drops n (holds_in g shard l)) ++ drops_from g shard (suc n) ks) mine
+    ∙ (ap (λ (l : List KeptRead). (drops_at_end g blocks shard n os rs ++ events_of_drops n (held_in_shard g shard l)) ++ drops_from g shard (suc n) ks) mine
     ∙ (drops-are g blocks shard (suc n) ks os rs
     (λ j x at. let y : n + suc j ≡ suc n + j = omega arith in subst (λ (c : ℕ). map read_of x ≡ kept_after_all blocks [] (filter (is_of_caller c) os) (replies_where (is_of_caller c) os rs)) y (each (suc j) x at))
     ∙ ap (λ (c : ℕ). drops_at_end g blocks shard c os rs) more))
@@ -228,7 +228,7 @@ module _ (cache : Cache) (valid : IsConfig cache.config) (restored : List Restor
   feeder-acts : acts g.callers ≡ acts_of_syncs g blocks work ++ acts_of_events c.ended.drops
   feeder-acts = let here : (g.callers == g.callers) ≡ true = eq-eqb g.callers g.callers refl in rw here refl
 
-  feeder-noted : noted g.callers ≡ noted_of_syncs work ++ ends_from g.callers 0 g.cells
+  feeder-noted : noted g.callers ≡ noted_of_syncs work ++ noted_ends g.callers 0 g.cells
   feeder-noted = let here : (g.callers == g.callers) ≡ true = eq-eqb g.callers g.callers refl in rw here refl
 
   -- each caller, once it has given back
@@ -315,7 +315,7 @@ module _ (cache : Cache) (valid : IsConfig cache.config) (restored : List Restor
       let first : StartsWith l.history (seen_of g i gave.feeder) = (events_there g i c.ended.drops, history-is i l at ∙ ap (λ (es : List Event). es ++ events_there g i c.ended.drops) (sym same)) in
       starts-then l.history (seen_of g i gave.feeder) (seen_of g i crew.feeder) first (gave.fed.since i)
 
-  begins-at : (i : ℕ) (l : ShardLog) → get_elem? closed.shards i ≡ some l → BeginsWith l.history (restores_in g restored i)
+  begins-at : (i : ℕ) (l : ShardLog) → get_elem? closed.shards i ≡ some l → BeginsWithEvents l.history (restores_in g restored i)
   begins-at i l at =
       let inside : i < g.shards = subst (λ (k : ℕ). i < k) h.ends.shards (within closed.shards i l at) in
       starts-then l.history (seen_of g i crew.feeder) (restores_in g restored i) (since i l at) (come.begun i inside)

@@ -19,9 +19,9 @@ use Rattle.trace_text.specs.declared.reply.Reply.{Reply}
 use Rattle.trace_text.specs.declared.trace.Trace.{Trace}
 use Rattle.trace_run.specs.declared.groups.Crew.{Crew}
 use Rattle.trace_run.specs.declared.kept_blocks.KeptBlock.{KeptBlock}
-use Rattle.trace_run.specs.CellEnds.{end_entry}
+use Rattle.trace_run.specs.dbufs.CellEnds.{end_entry}
 use Rattle.trace_run.specs.Deeds.{events_there}
-use Rattle.trace_run.specs.KeptBlocks.{holds_in, read_of}
+use Rattle.trace_run.specs.KeptBlocks.{held_in_shard, read_of}
 use Rattle.trace_run.specs.KeptReads.{KeptRead}
 use Rattle.trace_run.specs.Meeting.{drops_from}
 use Rattle.trace_run.specs.Openings.{Knows, openings_of}
@@ -40,9 +40,9 @@ use Rattle.trace_run.proofs.theorem.AnsweredCells.{entries-two}
 use Rattle.trace_run.proofs.theorem.RunEnds.{run-entries, run-shards}
 
 -- one caller drops what it keeps
-one-drops : (g : Config) (shard : ℕ) (kept : List KeptRead) (all : List (List KeptBlock)) → length all ≡ 1 → AllByRecursion (λ reads. map read_of reads ≡ kept) all → drops_from g shard 0 all ≡ events_of_drops 0 (holds_in g shard kept)
+one-drops : (g : Config) (shard : ℕ) (kept : List KeptRead) (all : List (List KeptBlock)) → length all ≡ 1 → AllByRecursion (λ reads. map read_of reads ≡ kept) all → drops_from g shard 0 all ≡ events_of_drops 0 (held_in_shard g shard kept)
 one-drops g shard kept [] one are = absurd (omega (arith, one))
-one-drops g shard kept (k ∷ []) one are = append-nil (events_of_drops 0 (holds_in g shard (map read_of k))) ∙ ap (λ (reads : List KeptRead). events_of_drops 0 (holds_in g shard reads)) are.0
+one-drops g shard kept (k ∷ []) one are = append-nil (events_of_drops 0 (held_in_shard g shard (map read_of k))) ∙ ap (λ (reads : List KeptRead). events_of_drops 0 (held_in_shard g shard reads)) are.0
 one-drops g shard kept (k ∷ j ∷ ks) one are = absurd (omega (arith, one))
 
 module _ {P D : Type 0} (cache : Cache) (valid : IsConfig cache.config) (restored : List Restored) (len : ℕ) (image : Option (List ℕ)) (place : ℕ) (blocks : List Ptr) (os more : List Op) (rs : List Reply) (work : RunWork) (crew : Crew OnHeap)
@@ -52,7 +52,7 @@ module _ {P D : Type 0} (cache : Cache) (valid : IsConfig cache.config) (restore
   g = cache.config
 
   abbrev closed-so : Config → (shard : ℕ) → List Event
-  closed-so c shard = (at.shards shard ++ events_of_drops 0 (holds_in c shard at.kept)) ++ events_there c shard h.ended.ended.drops
+  closed-so c shard = (at.shards shard ++ events_of_drops 0 (held_in_shard c shard at.kept)) ++ events_there c shard h.ended.ended.drops
 
   shard-is : (i : ℕ) (l : ShardLog) → get_elem? closed.shards i ≡ some l → l.history ≡ closed-so g i
   shard-is i l there = run-shards cache valid restored len image place blocks os more rs work crew come closed h stands.lines stands.level.0 stands.level.1 i l there

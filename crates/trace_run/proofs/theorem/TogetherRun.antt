@@ -43,12 +43,12 @@ use Rattle.trace_run.specs.declared.groups.Crew.{Crew}
 use Rattle.trace_run.specs.declared.ran.Ending.{Ending}
 use Rattle.trace_run.specs.declared.ran.Ending.TheVariants.{Fork, Full, Sync, Whole}
 use Rattle.trace_run.specs.Answers.{AnswersAll, is_pool_fault}
-use Rattle.trace_run.specs.CellEnds.{AreCellsOf, AreEndedSo}
+use Rattle.trace_run.specs.dbufs.CellEnds.{AreCellsOf, AreEndedSo}
 use Rattle.trace_run.specs.Effects.{Answered, Effect, GivenBack, NoEffect, PoolRefused, calls_of}
 use Rattle.trace_run.specs.Explaining.{Explain}
 use Rattle.trace_run.specs.Lines.{caller_of, is_of_caller}
-use Rattle.trace_run.specs.ObjectAnswers.{AreAnsweredByCells}
-use Rattle.trace_run.specs.Objects.{Line, Work, replies_of}
+use Rattle.trace_run.specs.dbufs.ObjectAnswers.{AreAnsweredByCells}
+use Rattle.trace_run.specs.dbufs.Objects.{Line, Work, replies_of}
 use Rattle.trace_run.specs.Openings.{openings_of}
 use Rattle.trace_run.specs.one_caller.Alone.{ends_in, histories_of}
 use Rattle.trace_run.specs.RunWork.{IsRunWork, RunWork, lines_of_caller, noted_by}

@@ -45,7 +45,7 @@ use Rattle.arc_check.specs.Judging.{end_of}
 use Rattle.trace_text.specs.declared.op.Op.{Op}
 use Rattle.trace_text.specs.declared.reply.Reply.{Reply}
 use Rattle.trace_run.specs.Deeds.{HasAct, HasToldOthers, Noted, acts_of_events, events_there, with_number}
-use Rattle.trace_run.specs.Explaining.{BeginsWith, EndsWith, Explain, drops_at_end}
+use Rattle.trace_run.specs.Explaining.{BeginsWithEvents, EndsWith, Explain, drops_at_end}
 use Rattle.trace_run.specs.KeptBlocks.{IsIdle}
 use Rattle.trace_run.specs.Making.{AreEventsSeen}
 use Rattle.trace_run.specs.Meeting.{HasSettled}
@@ -512,7 +512,7 @@ module _ {C : Type 0} (m : Meanings C) (cache : Cache) (restored : List Restored
 
   -- The histories explain the replies and the work, where each begins with the restores and ends with the drops at the end of the run. The owners of events are those that
   -- made them.
-  pub work-explains : ((j : ℕ) (c : C) → get_elem? e.cells j ≡ some c → m.holds c ≡ []) → ((i : ℕ) (l : ShardLog) → get_elem? e.shards i ≡ some l → BeginsWith l.history (restores_in settled restored i))
+  pub work-explains : ((j : ℕ) (c : C) → get_elem? e.cells j ≡ some c → m.holds c ≡ []) → ((i : ℕ) (l : ShardLog) → get_elem? e.shards i ≡ some l → BeginsWithEvents l.history (restores_in settled restored i))
       → ((i : ℕ) (l : ShardLog) → get_elem? e.shards i ≡ some l → EndsWith l.history (drops_at_end settled blocks i settled.callers ops replies ++ events_there settled i work.ended))
       → (x : Explain (record { config = settled; blocks = blocks; objects = []; ops = ops }) restored work replies (map (λ log. end_of log.now) e.shards) histories)
       × ((i : ℕ) (l : ShardLog) → get_elem? e.shards i ≡ some l → (n : ℕ) (p : Place (Known C)) → get_elem? ps n ≡ some p → IsMaker settled i (x.owner i) n p)
@@ -522,7 +522,7 @@ module _ {C : Type 0} (m : Meanings C) (cache : Cache) (restored : List Restored
       legal = all-logs (λ h. IsTrue (is_legal_history (opening_of settled) h)) e.shards (λ i l at. legal i l at);
       ends = ends-of-logs settled e.shards (λ i l at. now i l at);
       at_rest = all-logs (λ h. IsAtRest (replay (opening_of settled) h)) e.shards (λ i l at. subst IsAtRest (sym (now i l at)) (rests i l at emptied));
-      begins = λ i inside. let h = log-at e.shards i inside in subst (λ (es : List Event). BeginsWith es (restores_in settled restored i)) (sym h.2) (begun_so i h.0 h.1);
+      begins = λ i inside. let h = log-at e.shards i inside in subst (λ (es : List Event). BeginsWithEvents es (restores_in settled restored i)) (sym h.2) (begun_so i h.0 h.1);
       every_call = every-call;
       owner = owner;
       made = λ i inside. let h = log-at e.shards i inside in subst (AreMadeBy settled i (owner i) did) (sym h.2) (made-by m cache ps e ends config did (noted_by settled work) made i h.0 h.1);

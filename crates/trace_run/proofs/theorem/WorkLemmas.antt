@@ -27,14 +27,14 @@ use Rattle.trace_text.specs.declared.reply.Reply.{Reply}
 use Rattle.trace_text.specs.declared.trace.Trace.{Trace}
 use Rattle.trace_run.proofs.FurtherLemmas.{first-done, off-objects}
 use Rattle.trace_run.specs.Acts.{acts_of, acts_of_all, acts_of_caller, acts_of_callers, acts_of_drops}
-use Rattle.trace_run.specs.CellEnds.{AreCellsOf, ends_from}
+use Rattle.trace_run.specs.dbufs.CellEnds.{AreCellsOf, noted_ends}
 use Rattle.trace_run.specs.Deeds.{Noted, acts_of_events, with_number}
 use Rattle.trace_run.specs.Explaining.{EndsWith, Explain, ExplainReads, drops_at_end}
 use Rattle.trace_run.specs.KeptReads.{KeptRead}
 use Rattle.trace_run.specs.Lines.{caller_of, is_of_caller, is_further, replies_where}
 use Rattle.trace_run.specs.MadeLines.{owned_from}
-use Rattle.trace_run.specs.ObjectLines.{on_object}
-use Rattle.trace_run.specs.Objects.{Line, no_work}
+use Rattle.trace_run.specs.dbufs.ObjectLines.{on_object}
+use Rattle.trace_run.specs.dbufs.Objects.{Line, no_work}
 use Rattle.trace_run.specs.Restores.{events_by_feeder}
 use Rattle.trace_run.specs.FeedEvents.{is_fed}
 use Rattle.trace_run.specs.Feeds.{is_feed}
@@ -340,7 +340,7 @@ module _ (g : Config) where
 
   pub plain-noted : (os : List Op) (rs : List Reply) (n : ℕ) → only_ended g n ≡ noted_by g (plain_work os rs) n
   plain-noted os rs n = elim (cases_true (n == g.callers)) [
-    | inl feeder ↦ rw feeder (sym (ap (λ (l : List Noted). (l ++ []) ++ ends_from n 0 g.cells) (feeder-noted os rs)))
+    | inl feeder ↦ rw feeder (sym (ap (λ (l : List Noted). (l ++ []) ++ noted_ends n 0 g.cells) (feeder-noted os rs)))
     | inr other ↦ rw other (sym (ap noted_of_work (lines-plain n os rs) ∙ noted-none n (filter (is_of_caller n) os) (replies_where (is_of_caller n) os rs)))
   ]
 
@@ -350,4 +350,4 @@ pub cells-plain : (trace : Trace) (g : Config) → g.callers ≡ trace.config.ca
 cells-plain trace g callers cells os rs closed are = subst (λ (d : ℕ → List Noted). AreCellsOf trace d closed) (λ i n. (bridge n ∙ plain-noted g os rs n) i) are
   where
     bridge : (n : ℕ) → only_ended trace.config n ≡ only_ended g n
-    bridge n = λ i. if n == sym callers i then ends_from n 0 (sym cells i) else []
+    bridge n = λ i. if n == sym callers i then noted_ends n 0 (sym cells i) else []

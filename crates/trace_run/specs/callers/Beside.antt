@@ -14,7 +14,7 @@ use Rattle.trace_run.specs.declared.device.Device.{Device}
 use Rattle.trace_run.specs.declared.device.Device.TheVariants as device
 use Rattle.trace_run.specs.Devices.{WasLent, lent_in}
 use Rattle.trace_run.specs.Feeds.{AreFedReplies, FeedDone, MadeFeedsOf, is_feed}
-use Rattle.trace_run.specs.Objects.{Line}
+use Rattle.trace_run.specs.dbufs.Objects.{Line}
 use Rattle.trace_run.specs.callers.DeviceForks.{HaveRead}
 
 module _ {C D : Type 0} (m : Meanings C) (devices : Ghosts D) (cache : Cache) where

@@ -18,7 +18,7 @@ use Rattle.trace_run.specs.Answering.{IsReadOfImage}
 use Rattle.trace_run.specs.Effects.{calls_of, effect_of}
 use Rattle.trace_run.specs.Lines.{caller_of, shard_of_line}
 use Rattle.trace_run.specs.Meeting.{resizes_in}
-use Rattle.trace_run.specs.one_caller.OneCaller.{IsFoundAs, events_there, kept_after, only_feeder}
+use Rattle.trace_run.specs.one_caller.OneCaller.{IsFoundAs, events_of_op_in, kept_after, only_feeder}
 use Rattle.trace_run.specs.Reads.{CameFromPool, now_of}
 use Rattle.trace_run.specs.Tally.{AnswersNow}
 
@@ -36,7 +36,7 @@ at party kept pool = record { party = party; kept = kept; pool = pool }
 pub record DidThere {C : Type 0} (g : Config) (blocks : List Ptr) (kept : List KeptRead) (op : Op) (reply : Reply) (p q : Place (Known C)) : Type 0 where
   pub number : q.number ≡ p.number
   pub told : (before : List Act) (noted : List Noted) → HasToldAll g before noted p → HasToldAll g (before ++ acts_of blocks kept op reply) noted q
-  pub alone : HasAll p → (shard : ℕ) → seen_of g shard q ≡ seen_of g shard p ++ events_there g.shards blocks shard (now_of g shard p) kept op reply
+  pub alone : HasAll p → (shard : ℕ) → seen_of g shard q ≡ seen_of g shard p ++ events_of_op_in g.shards blocks shard (now_of g shard p) kept op reply
   pub all : HasAll p → HasAll q
   -- a line of a caller leaves the parties that joined, and what is known of cells and was seen of them
   pub joined : IsSome (caller_of op) → q.joined ≡ p.joined

@@ -7,7 +7,7 @@ use Rattle.vdev_io.specs.Faults.{CountsIoFault, sum_of_counts}
 use Rattle.trace_run.specs.Devices.{WasOnlyRead}
 use Rattle.trace_run.specs.Feeds.{AreFedReplies, AsksOfFeeds, FeedDone, is_feed}
 use Rattle.trace_run.specs.Lines.{replies_where}
-use Rattle.trace_run.specs.Objects.{Line, ops_of, replies_of}
+use Rattle.trace_run.specs.dbufs.Objects.{Line, ops_of, replies_of}
 use Rattle.trace_run.specs.RunWork.{lines_of_caller}
 use Rattle.trace_run.specs.callers.Together.{GroupLines}
 use Rattle.trace_run.specs.callers.WorkLines.{AsksGiven}

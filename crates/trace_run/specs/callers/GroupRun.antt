@@ -22,8 +22,8 @@ use Rattle.trace_run.specs.declared.ran.Ending.{Ending}
 use Rattle.trace_run.specs.one_caller.Alone.{ends_in, histories_of}
 use Rattle.trace_run.specs.Answers.{AnswersAll}
 use Rattle.trace_run.specs.Explaining.{Explain}
-use Rattle.trace_run.specs.CellEnds.{AreCellsOf, AreEndedSo, EndedCrew}
-use Rattle.trace_run.specs.ObjectAnswers.{AreAnsweredByCells}
+use Rattle.trace_run.specs.dbufs.CellEnds.{AreCellsOf, AreEndedSo, EndedCrew}
+use Rattle.trace_run.specs.dbufs.ObjectAnswers.{AreAnsweredByCells}
 use Rattle.trace_run.specs.RunWork.{IsRunWork, RunWork, noted_by}
 use Rattle.trace_run.specs.callers.DeviceForks.{UsedInGroups}
 use Rattle.trace_run.specs.Deeds.{Noted}

@@ -33,7 +33,7 @@ use Rattle.trace_run.specs.declared.ran.Ending.{Ending}
 use Rattle.trace_run.specs.declared.ran.Ending.TheVariants.{Whole, Fork, Sync, Full}
 use Rattle.trace_run.specs.declared.kept_blocks.KeptBlock.{KeptBlock}
 use Rattle.trace_run.specs.Answers.{AnswersFeed, is_pool_fault}
-use Rattle.trace_run.specs.CellEnds.{done_by}
+use Rattle.trace_run.specs.dbufs.CellEnds.{done_by}
 use Rattle.trace_run.specs.Deeds.{events_of_cell}
 use Rattle.trace_run.specs.callers.Group.{AllWorked, HaveWorked, IsAt, LeavesFront, LeavesPool}
 use Rattle.trace_run.specs.Devices.{lent_in}
@@ -42,7 +42,7 @@ use Rattle.trace_run.specs.Feeds.{is_feed}
 use Rattle.trace_run.specs.KeptBlocks.{read_of}
 use Rattle.trace_run.specs.Lines.{caller_of, replies_where}
 use Rattle.trace_run.specs.Meeting.{IsFed, Resized, Waits}
-use Rattle.trace_run.specs.Objects.{Line, Work, no_work, replies_of}
+use Rattle.trace_run.specs.dbufs.Objects.{Line, Work, no_work, replies_of}
 use Rattle.trace_run.specs.Openings.{Knows, openings_of}
 use Rattle.trace_run.specs.one_caller.OverShards.{AreNamed}
 use Rattle.trace_run.specs.Restores.{events_by_feeder, restores_in}
@@ -169,7 +169,7 @@ pub record DidLinesAtOnce {P D : Type 0} (m : Meanings OnHeap) (cache : Cache) (
   pub beside : WorksBeside m devices cache blocks ops (length old.parties.items) (λ n. lines_of_caller n lines) (replies_where is_feed ops replies) was now old.feeder new.feeder
 
 -- Lines of callers and of the feeder were done, at once or one after another, and these are the replies to them in their order, each line with its work.
-pub record DidLines {P D : Type 0} (m : Meanings OnHeap) (cache : Cache) (pools : Ghosts P) (devices : Devices D) (blocks : List Ptr) (ops : List Op) (before : P) (was now : Device D) (old new : Crew OnHeap) (replies : List Reply) : Type 0 where
+pub record DidLinesOfAll {P D : Type 0} (m : Meanings OnHeap) (cache : Cache) (pools : Ghosts P) (devices : Devices D) (blocks : List Ptr) (ops : List Op) (before : P) (was now : Device D) (old new : Crew OnHeap) (replies : List Reply) : Type 0 where
   pub lines : List Line
   pub are : AreLinesOf ops replies lines
   pub fits : AllFit cache.config lines

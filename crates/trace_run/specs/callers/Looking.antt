@@ -12,9 +12,9 @@ use Rattle.dbuf_cells.specs.Places.{cell_of}
 use Rattle.dbuf_state.specs.declared.oid.Oid.{Oid}
 use Rattle.trace_run.specs.Deeds.{lines_of_cell}
 use Rattle.trace_run.specs.Lines.{is_of_caller}
-use Rattle.trace_run.specs.ObjectLines.{OnObject, cell_lines, on_object}
-use Rattle.trace_run.specs.ObjectReplies.{AnswersFrom}
-use Rattle.trace_run.specs.Objects.{Line}
+use Rattle.trace_run.specs.dbufs.ObjectLines.{OnObject, cell_lines, on_object}
+use Rattle.trace_run.specs.dbufs.ObjectReplies.{AnswersFrom}
+use Rattle.trace_run.specs.dbufs.Objects.{Line}
 use Rattle.trace_run.specs.RunWork.{lines_of_caller}
 use Rattle.trace_run.specs.callers.Together.{ends_group}
 use Rattle.trace_run.specs.callers.WorkLines.{noted_of_work}

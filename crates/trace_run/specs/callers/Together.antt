@@ -34,10 +34,10 @@ use Rattle.arc_check.specs.Judging.{end_of}
 use Rattle.trace_run.specs.declared.ran.Ending.{Ending}
 use Rattle.trace_run.specs.declared.ran.Ending.TheVariants.{Whole, Fork, Sync, Full}
 use Rattle.trace_run.specs.Answers.{is_pool_fault}
-use Rattle.trace_run.specs.CellEnds.{done_by}
+use Rattle.trace_run.specs.dbufs.CellEnds.{done_by}
 use Rattle.trace_run.specs.Deeds.{Noted, acts_of_events, events_of_cell, with_number}
 use Rattle.trace_run.specs.Feeds.{FeedDone}
-use Rattle.trace_run.specs.Objects.{Line, Work, no_work, ops_of, replies_of}
+use Rattle.trace_run.specs.dbufs.Objects.{Line, Work, no_work, ops_of, replies_of}
 use Rattle.trace_run.specs.one_caller.PlainRun.{status_of}
 use Rattle.trace_run.specs.Restores.{events_by_feeder, found_keys}
 use Rattle.trace_run.specs.RunWork.{RunWork, lines_of_caller, lines_of_feeder, lines_of_party}

@@ -35,9 +35,9 @@ use Rattle.trace_run.specs.Effects.{Effect, Answered, calls_of, effect_of}
 use Rattle.trace_run.specs.KeptReads.{KeptRead}
 use Rattle.trace_run.specs.DeviceReads.{AsksFor, LineAsks, size_asked}
 use Rattle.trace_run.specs.Lines.{shard_of_line}
-use Rattle.trace_run.specs.ObjectLines.{CameFrom, DidObjectLine, OnObject, TellsBrought, brought_there, cell_lines, events_of_bringing, on_object}
-use Rattle.trace_run.specs.ObjectReplies.{ActsFor, AnswersFrom, AnswersObject, BringsAt, LooksFrom}
-use Rattle.trace_run.specs.Objects.{Brought, GoesTogether, Line, Loaded, NotesNothing, NotesOwn, Nothing, OwnEvent, Refused, Work, acts_of_bringing, no_work, own_event}
+use Rattle.trace_run.specs.dbufs.ObjectLines.{CameFrom, DidObjectLine, OnObject, TellsBrought, brought_there, cell_lines, events_of_bringing, on_object}
+use Rattle.trace_run.specs.dbufs.ObjectReplies.{ActsFor, AnswersFrom, AnswersObject, BringsAt, LooksFrom}
+use Rattle.trace_run.specs.dbufs.Objects.{Brought, GoesTogether, Line, Loaded, NotesNothing, NotesOwn, Nothing, OwnEvent, Refused, Work, acts_of_bringing, no_work, own_event}
 use Rattle.trace_run.specs.one_caller.Asking.{Asks, AsksLine}
 use Rattle.trace_run.specs.one_caller.OneCaller.{kept_after}
 use Rattle.trace_run.specs.Reads.{now_of}

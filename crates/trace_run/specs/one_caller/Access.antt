@@ -23,13 +23,13 @@ pub data Access : Type 0 where
   Miss : Access
 
 -- bytes of this digest were asked for, and bytes of that digest are cached, or none
-abbrev pub found : Digest → Option Digest → Access
-found asked None = Miss
-found asked (Some kept) = if digest_eq kept asked then Hit else Past kept
+abbrev pub access_by : Digest → Option Digest → Access
+access_by asked None = Miss
+access_by asked (Some kept) = if digest_eq kept asked then Hit else Past kept
 
 -- A read finds its block cached with the pointer's digest, or cached with another one, and then it goes past the cache, or not cached.
 abbrev pub access_of : PlainShard → Ptr → Access
-access_of s ptr = found ptr.digest (resident_digest ptr.key s)
+access_of s ptr = access_by ptr.digest (resident_digest ptr.key s)
 
 -- the bytes have to come from the pool
 abbrev pub AsksPool : Access → Type 0

@@ -23,7 +23,7 @@ use Rattle.trace_run.specs.Effects.{Effect, Answered, GivenBack, PoolRefused, No
 use Rattle.trace_run.specs.KeptReads.{KeptRead}
 use Rattle.trace_run.specs.Lines.{shard_of_line}
 use Rattle.trace_run.specs.one_caller.OneCaller.{kept_after}
-use Rattle.trace_run.specs.one_caller.OverShards.{shards_after}
+use Rattle.trace_run.specs.one_caller.OverShards.{shards_after_op}
 use Rattle.trace_run.specs.Read.{IsFromPool}
 use Rattle.trace_run.specs.declared.get.Got.{Got}
 
@@ -168,4 +168,4 @@ module _ {D : Type 0} (devices : DeviceGhosts D) where
   AsksLines shards blocks s kept (op ∷ ops) [] calls old new = ⊥
   AsksLines shards blocks s kept (op ∷ ops) (reply ∷ replies) calls old new =
       (own rest : List Call) × (next : D) × (calls ≡ own ++ rest) × AsksLine blocks (s (shard_of_line shards blocks op)) op reply own old next
-      × AsksLines shards blocks (shards_after shards blocks s kept op reply) (kept_after blocks op reply kept) ops replies rest next new
+      × AsksLines shards blocks (shards_after_op shards blocks s kept op reply) (kept_after blocks op reply kept) ops replies rest next new

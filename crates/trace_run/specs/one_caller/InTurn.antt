@@ -26,7 +26,7 @@ use Rattle.trace_run.specs.Feeds.{DoesFeeds, FeedDone, IsIdleFeeder}
 use Rattle.trace_run.specs.Lines.{caller_of}
 use Rattle.trace_run.specs.KeptBlocks.{read_of}
 use Rattle.trace_run.specs.Meeting.{HasParted, IsLevel, MadeJoined, SeesEntries}
-use Rattle.trace_run.specs.Objects.{Line, no_work}
+use Rattle.trace_run.specs.dbufs.Objects.{Line, no_work}
 use Rattle.trace_run.specs.Openings.{AllKnow, openings_of}
 use Rattle.trace_run.specs.Restores.{found_keys}
 use Rattle.trace_run.specs.RunWork.{RunWork, lines_of_caller}

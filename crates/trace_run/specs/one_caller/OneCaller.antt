@@ -99,22 +99,22 @@ abbrev pub only_feeder : ℕ
 only_feeder = 1
 
 -- The events of an operation with this reply, where these reads are kept. Those of a line on an object, of a feed and of a sync stand in `Sequence`.
-abbrev pub events_of : List Ptr → PlainShard → List KeptRead → Op → Reply → List Event
-events_of blocks s kept (ops.Read n t x window) reply = option_map_or (λ ptr. events_of_read n t s ptr (effect_of reply)) (slice_get blocks x) []
-events_of blocks s kept (ops.Hold n t x) reply = option_map_or (λ ptr. events_of_hold n t s ptr (effect_of reply)) (slice_get blocks x) []
-events_of blocks s kept (ops.Drop n x) reply = events_of_dropping n x kept (effect_of reply)
-events_of blocks s kept (ops.Cap c) reply = event.Resize only_feeder c ∷ []
-events_of blocks s kept (ops.Get n t at window) reply = []
-events_of blocks s kept (ops.Put n t at size fill) reply = []
-events_of blocks s kept (ops.Patch n t at from bytes) reply = []
-events_of blocks s kept (ops.Pin n t at) reply = []
-events_of blocks s kept (ops.Unpin n at) reply = []
-events_of blocks s kept ops.Feed reply = []
-events_of blocks s kept (ops.Txg t) reply = []
+abbrev pub events_of_op : List Ptr → PlainShard → List KeptRead → Op → Reply → List Event
+events_of_op blocks s kept (ops.Read n t x window) reply = option_map_or (λ ptr. events_of_read n t s ptr (effect_of reply)) (slice_get blocks x) []
+events_of_op blocks s kept (ops.Hold n t x) reply = option_map_or (λ ptr. events_of_hold n t s ptr (effect_of reply)) (slice_get blocks x) []
+events_of_op blocks s kept (ops.Drop n x) reply = events_of_dropping n x kept (effect_of reply)
+events_of_op blocks s kept (ops.Cap c) reply = event.Resize only_feeder c ∷ []
+events_of_op blocks s kept (ops.Get n t at window) reply = []
+events_of_op blocks s kept (ops.Put n t at size fill) reply = []
+events_of_op blocks s kept (ops.Patch n t at from bytes) reply = []
+events_of_op blocks s kept (ops.Pin n t at) reply = []
+events_of_op blocks s kept (ops.Unpin n at) reply = []
+events_of_op blocks s kept ops.Feed reply = []
+events_of_op blocks s kept (ops.Txg t) reply = []
 
 -- those that it makes in the shard of this number
-abbrev pub events_there : (shards : ℕ) → List Ptr → (shard : ℕ) → PlainShard → List KeptRead → Op → Reply → List Event
-events_there shards blocks shard s kept op reply = if is_in_shard shards blocks shard op then events_of blocks s kept op reply else []
+abbrev pub events_of_op_in : (shards : ℕ) → List Ptr → (shard : ℕ) → PlainShard → List KeptRead → Op → Reply → List Event
+events_of_op_in shards blocks shard s kept op reply = if is_in_shard shards blocks shard op then events_of_op blocks s kept op reply else []
 
 -- An answered read names a place from which its access may have the bytes, and one that the pool refused had to ask the pool.
 abbrev pub NamesSource : Access → Effect → Type 0
@@ -143,8 +143,8 @@ abbrev pub events_of_all : List Ptr → PlainShard → List KeptRead → List Op
 events_of_all blocks s kept [] replies = []
 events_of_all blocks s kept (op ∷ ops) [] = []
 events_of_all blocks s kept (op ∷ ops) (reply ∷ replies) =
-    events_of blocks s kept op reply
-    ++ events_of_all blocks (replay s (events_of blocks s kept op reply)) (kept_after blocks op reply kept) ops replies
+    events_of_op blocks s kept op reply
+    ++ events_of_all blocks (replay s (events_of_op blocks s kept op reply)) (kept_after blocks op reply kept) ops replies
 
 -- the reads that are kept after them
 abbrev pub kept_after_all : List Ptr → List KeptRead → List Op → List Reply → List KeptRead
@@ -158,7 +158,7 @@ AllLines fact blocks s kept [] replies = Unit {0}
 AllLines fact blocks s kept (op ∷ ops) [] = Unit {0}
 AllLines fact blocks s kept (op ∷ ops) (reply ∷ replies) =
     fact s kept op reply
-    × AllLines fact blocks (replay s (events_of blocks s kept op reply)) (kept_after blocks op reply kept) ops replies
+    × AllLines fact blocks (replay s (events_of_op blocks s kept op reply)) (kept_after blocks op reply kept) ops replies
 
 -- each answered read names where its access found the bytes
 abbrev pub AreFoundAs : List Ptr → PlainShard → List KeptRead → List Op → List Reply → Type 0

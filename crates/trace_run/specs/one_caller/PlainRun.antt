@@ -28,7 +28,7 @@ use Rattle.dbuf_state.specs.declared.window.Window.{Window}
 use Rattle.dbuf_state.specs.Dbufs.{window_of}
 use Rattle.trace_run.specs.KeptReads.{KeptRead}
 use Rattle.trace_run.specs.one_caller.Asking.{asked_by, next_call, place_asked, source_at}
-use Rattle.trace_run.specs.one_caller.OverShards.{shards_after}
+use Rattle.trace_run.specs.one_caller.OverShards.{shards_after_op}
 use Rattle.trace_run.specs.Answers.{is_refusal}
 use Rattle.trace_run.specs.Effects.{Effect, Answered, GivenBack, PoolRefused, NoEffect, calls_of, effect_of}
 use Rattle.trace_run.specs.Ends.{ends_of}
@@ -172,7 +172,7 @@ replies_to images shards blocks s kept contents (op ∷ ops) calls device_calls 
     let here = s (shard_of_line shards blocks op) in
     let reply = reply_to images blocks here kept contents op (next_call calls) (next_call device_calls) in
     reply
-    ∷ replies_to images shards blocks (shards_after shards blocks s kept op reply) (kept_after blocks op reply kept) (contents_after images blocks here op reply contents) ops
+    ∷ replies_to images shards blocks (shards_after_op shards blocks s kept op reply) (kept_after blocks op reply kept) (contents_after images blocks here op reply contents) ops
     (drop (length (calls_of (effect_of reply))) calls) (drop (length (asked_by (length images.device) blocks here op reply)) device_calls)
 
 -- ---- the report
@@ -198,6 +198,6 @@ abbrev pub no_contents : Contents
 no_contents ptr = []
 
 -- the report of one caller's run over these bytes, where this was found on the cache device, and the pool and the device answered their reads so
-abbrev pub report_of : Trace → Option Rebuilt → Images → (calls device_calls : List Call) → Report
-report_of trace rebuilt images calls device_calls =
+abbrev pub plain_report : Trace → Option Rebuilt → Images → (calls device_calls : List Call) → Report
+plain_report trace rebuilt images calls device_calls =
     report_with trace rebuilt (replies_to images trace.config.shards trace.blocks (restored_shard trace.config (found_keys rebuilt)) [] no_contents trace.ops calls device_calls)

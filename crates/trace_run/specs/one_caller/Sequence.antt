@@ -41,13 +41,13 @@ use Rattle.trace_run.specs.Deeds.{HasAct, Noted, acts_of_events, events_of_cell,
 use Rattle.trace_run.specs.Effects.{Answered, Effect, effect_of}
 use Rattle.trace_run.specs.FeedEvents.{events_of_made}
 use Rattle.trace_run.specs.Feeds.{AreFedReplies, AsksOfFeeds, FeedDone}
-use Rattle.trace_run.specs.KeptBlocks.{holds_in}
+use Rattle.trace_run.specs.KeptBlocks.{held_in_shard}
 use Rattle.trace_run.specs.KeptReads.{KeptRead}
 use Rattle.trace_run.specs.Lines.{caller_of, shard_of_line}
 use Rattle.trace_run.specs.Meeting.{resizes_in}
-use Rattle.trace_run.specs.ObjectLines.{OnObject, TellsBrought, brought_there, events_of_bringing, on_object}
-use Rattle.trace_run.specs.ObjectReplies.{ActsFor, AnswersObject, BringsAt}
-use Rattle.trace_run.specs.Objects.{Brought, Line, Loaded, Nothing, Refused, Work, no_work, own_event}
+use Rattle.trace_run.specs.dbufs.ObjectLines.{OnObject, TellsBrought, brought_there, events_of_bringing, on_object}
+use Rattle.trace_run.specs.dbufs.ObjectReplies.{ActsFor, AnswersObject, BringsAt}
+use Rattle.trace_run.specs.dbufs.Objects.{Brought, Line, Loaded, Nothing, Refused, Work, no_work, own_event}
 use Rattle.trace_run.specs.Openings.{opening_map}
 use Rattle.trace_run.specs.Reads.{CameFromPool}
 use Rattle.trace_run.specs.Restores.{restores_in}
@@ -57,7 +57,7 @@ use Rattle.trace_run.specs.callers.Together.{BetweenGroups, OfCells, StopsSync, 
 use Rattle.trace_run.specs.callers.WorkLines.{AsksBrought, calls_of_lines, effect_with}
 use Rattle.trace_run.specs.one_caller.Access.{AsksPool, MayComeFrom, access_of}
 use Rattle.trace_run.specs.one_caller.Asking.{AsksLine}
-use Rattle.trace_run.specs.one_caller.OneCaller.{IsFoundAs, events_of_drops, events_there as line_events, kept_after}
+use Rattle.trace_run.specs.one_caller.OneCaller.{IsFoundAs, events_of_drops, events_of_op_in as line_events, kept_after}
 
 -- ---- what stands between two lines
 
@@ -249,5 +249,5 @@ module _ {P D : Type 0} (pools : Ghosts P) (devices : Devices D) (trace : Trace)
 
 -- Behind them the caller's kept reads are dropped, the oldest first, and then what cells keep, which are these drops; then each cell is ended. That is all of the histories.
 pub record ClosesThere {P D : Type 0} (trace : Trace) (at : BetweenLines P D) (ended : List Event) (closed : List OnHeap) (histories : List (List Event)) : Type 0 where
-  pub shards : histories ≡ map (λ (shard : ℕ). (at.shards shard ++ events_of_drops 0 (holds_in trace.config shard at.kept)) ++ events_there trace.config shard ended) (range_with_len 0 trace.config.shards)
+  pub shards : histories ≡ map (λ (shard : ℕ). (at.shards shard ++ events_of_drops 0 (held_in_shard trace.config shard at.kept)) ++ events_there trace.config shard ended) (range_with_len 0 trace.config.shards)
   pub cells : (i : ℕ) (cell : OnHeap) → slice_get closed i ≡ Some cell → cell.value.history ≡ at.cells i ++ End trace.config.callers ∷ []

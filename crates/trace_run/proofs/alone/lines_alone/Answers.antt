@@ -20,7 +20,7 @@ use Rattle.trace_run.proofs.RunLemmas.{keeps-then}
 use Rattle.trace_run.proofs.FurtherLemmas.{nobody-else, off-objects, plain-there}
 use Rattle.trace_run.proofs.WorkLemmas.{with-asks, with-plain}
 use Rattle.trace_run.proofs.callers.GroupRunLemmas.{all-callers, all-declared}
-use Rattle.trace_run.specs.ObjectLines.{on_object}
+use Rattle.trace_run.specs.dbufs.ObjectLines.{on_object}
 use Rattle.trace_run.specs.callers.WorkLines.{at_work}
 use Rattle.arc_table.specs.Reading.{outside}
 use Rattle.trace_run.proofs.alone.lines_alone.Goals as goal

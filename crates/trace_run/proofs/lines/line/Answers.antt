@@ -1,6 +1,6 @@
 use Rattle.std.proofs.Common.{◌≡◌, Bool, true, inl, inr, map, sym, ap, subst}
 use Rattle.std.specs.Prelude.{IfOk, Ok, is_some}
-use Rattle.trace_run.specs.ObjectLines.{on_object}
+use Rattle.trace_run.specs.dbufs.ObjectLines.{on_object}
 use Rattle.trace_text.specs.declared.op.Op.{Op}
 use Rattle.trace_text.specs.declared.op.Op.TheVariants as ops
 use Rattle.arc_table.specs.Reading.{outside}

@@ -1,7 +1,7 @@
 -- A read of a window of a block, by what the call on the dbuf answers.
 use Rattle.std.proofs.Common.{sym, subst}
 use Rattle.arc_table.specs.Reading.{outside}
-use Rattle.trace_run.specs.ObjectLines.{DidGet}
+use Rattle.trace_run.specs.dbufs.ObjectLines.{DidGet}
 use Rattle.trace_text.specs.declared.reply.Reply.{Reply}
 use Rattle.trace_run.proofs.deeds.ObjectAnswers.{get-refused, got-done, stands-again}
 use Rattle.trace_run.proofs.objects.get_line.Goals as goal

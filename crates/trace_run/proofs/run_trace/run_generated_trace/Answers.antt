@@ -5,11 +5,11 @@ use Rattle.trace_text.specs.declared.report.Report.{Report}
 use Rattle.trace_text.specs.declared.trace.Trace.{Trace}
 use Rattle.vdev_io.specs.Calls.{Call}
 use Rattle.trace_run.specs.Answers.{AnswersAll, is_pool_fault}
-use Rattle.trace_run.specs.CellEnds.{AreCellsOf}
+use Rattle.trace_run.specs.dbufs.CellEnds.{AreCellsOf}
 use Rattle.trace_run.specs.Explaining.{Explain}
 use Rattle.trace_run.specs.Outcome.{generated, zeros_of}
 use Rattle.trace_run.specs.one_caller.PlainReport.{IsPlainReport}
-use Rattle.trace_run.specs.one_caller.PlainRun.{Images, images, report_of}
+use Rattle.trace_run.specs.one_caller.PlainRun.{Images, images, plain_report}
 use Rattle.trace_run.specs.Restores.{found_keys}
 use Rattle.trace_run.specs.Deeds.{Noted}
 use Rattle.trace_run.specs.RunWork.{RunWork, noted_by, only_ended, plain_work}
@@ -43,10 +43,10 @@ returns-clause-generated g c =
     let nothing : report.rebuilt ≡ None = c.in_ok-reported.ensures.rebuilt in
     let none : alone.device_calls ≡ [] = unlent-calls no_cache.ghosts trace (found_keys report.rebuilt) report.replies alone.device_calls _ alone.asked in
     let zeros : Images = images (zeros_of c.args.blocks) [] in
-    let plain : report ≡ report_of trace None zeros alone.calls [] =
-    made-plain c.args.seed c.args.blocks c.args.ops trace (report_of trace None zeros alone.calls []) report drawn
-    (subst (λ (x : Option Rebuilt × List Call). IsPlainReport trace (report_of trace x.0 zeros alone.calls x.1) report) (λ i. (nothing i, none i)) (rw len at alone.plain)) in
-    let whole : report ≡ report_of (generated c.args.seed c.args.blocks c.args.ops) None zeros [] [] =
+    let plain : report ≡ plain_report trace None zeros alone.calls [] =
+    made-plain c.args.seed c.args.blocks c.args.ops trace (plain_report trace None zeros alone.calls []) report drawn
+    (subst (λ (x : Option Rebuilt × List Call). IsPlainReport trace (plain_report trace x.0 zeros alone.calls x.1) report) (λ i. (nothing i, none i)) (rw len at alone.plain)) in
+    let whole : report ≡ plain_report (generated c.args.seed c.args.blocks c.args.ops) None zeros [] [] =
     plain ∙ made-report c.args.seed c.args.blocks c.args.ops trace zeros alone.calls is give in
     record {
       plain = ap (λ (r : Report). record r { short = true }) whole;

@@ -25,28 +25,28 @@ use Rattle.trace_text.specs.declared.reply.Refusal.TheVariants as refusals
 use Rattle.trace_text.specs.declared.reply.Reply.{Reply}
 use Rattle.trace_text.specs.declared.reply.Reply.TheVariants as replies
 use Rattle.trace_run.specs.Answers.{IsReadRefusal}
-use Rattle.trace_run.specs.CellEnds.{done_by}
+use Rattle.trace_run.specs.dbufs.CellEnds.{done_by}
 use Rattle.trace_run.specs.Deeds.{Noted, acts_of_events, events_of_cell, lines_of_cell, noted_in}
-use Rattle.trace_run.specs.ObjectLines.{EndsInside, ReleasesFor, WasToBring, cell_lines}
-use Rattle.trace_run.specs.Objects.{AnswersKey, AnswersNoBlock, AnswersRange, Brought, Line, Loaded, NotesNothing, Nothing, OwnEvent, Refused, Work, loads_of, no_work, own_event}
+use Rattle.trace_run.specs.dbufs.ObjectLines.{EndsInside, ReleasesFor, WasToBring, cell_lines}
+use Rattle.trace_run.specs.dbufs.Objects.{AnswersKey, AnswersNoBlock, AnswersRange, Brought, Line, Loaded, NotesNothing, Nothing, OwnEvent, Refused, Work, loads_of, no_work, own_event}
 
 -- over a pool of this length that may tell its bytes, by a cell with this limit and opening to which this had been done, and where this was brought for the line
 module _ (pool_len : ℕ) (image : Option (List ℕ)) (limit : ℕ) (opening : List Mapping) (front : List CellEvent) (brought : Brought) where
   -- how the cell stood
-  abbrev pub found : Outline
-  found = outline_after limit opening front
+  abbrev pub stood : Outline
+  stood = outline_after limit opening front
 
   -- the block's bytes were not there, and were refused: those of the pointer that was to be brought
-  abbrev pub FailsAt : Oid → (last : ℕ) → Refusal → Type 0
-  FailsAt at last refusal = (ptr : Ptr) × (brought ≡ Refused ptr) × EndsInside at last found × WasToBring at ptr found × IsReadRefusal pool_len image ptr refusal
+  abbrev pub BringingFails : Oid → (last : ℕ) → Refusal → Type 0
+  BringingFails at last refusal = (ptr : Ptr) × (brought ≡ Refused ptr) × EndsInside at last stood × WasToBring at ptr stood × IsReadRefusal pool_len image ptr refusal
 
   -- Why a line was refused that asks for a block's bytes up to here. In this order: there is no such block; the range ends past it; its key names none of the pool; its bytes were refused.
   abbrev pub RefusesAt : Oid → (last : ℕ) → Refusal → Type 0
-  RefusesAt at last (refusals.NoBlock named) = AnswersNoBlock at named found
-  RefusesAt at last (refusals.Range end size) = AnswersRange at last end size found
-  RefusesAt at last (refusals.Key why) = EndsInside at last found × AnswersKey pool_len at found (refusals.Key why)
-  RefusesAt at last refusals.PoolFault = FailsAt at last refusals.PoolFault
-  RefusesAt at last (refusals.Mismatch other) = FailsAt at last (refusals.Mismatch other)
+  RefusesAt at last (refusals.NoBlock named) = AnswersNoBlock at named stood
+  RefusesAt at last (refusals.Range end size) = AnswersRange at last end size stood
+  RefusesAt at last (refusals.Key why) = EndsInside at last stood × AnswersKey pool_len at stood (refusals.Key why)
+  RefusesAt at last refusals.PoolFault = BringingFails at last refusals.PoolFault
+  RefusesAt at last (refusals.Mismatch other) = BringingFails at last (refusals.Mismatch other)
   RefusesAt at last (refusals.NoHold block) = ⊥
   RefusesAt at last (refusals.NoPin named) = ⊥
   RefusesAt at last refusals.NoMemory = ⊥
@@ -64,7 +64,7 @@ module _ (pool_len : ℕ) (image : Option (List ℕ)) (limit : ℕ) (opening : L
 
   -- why a pin could not be taken back: there was none of this caller's
   abbrev pub RefusesPin : (n : ℕ) → Oid → Refusal → Type 0
-  RefusesPin n at (refusals.NoPin named) = (named ≡ at) × (has_pin_at n at found ≡ false)
+  RefusesPin n at (refusals.NoPin named) = (named ≡ at) × (has_pin_at n at stood ≡ false)
   RefusesPin n at (refusals.NoBlock named) = ⊥
   RefusesPin n at (refusals.Range end size) = ⊥
   RefusesPin n at (refusals.Key why) = ⊥

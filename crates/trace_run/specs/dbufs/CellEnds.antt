@@ -37,9 +37,9 @@ abbrev pub end_entry : (n : ℕ) → ℕ → List Line
 end_entry n i = line.Entry (event_numbers (End n)) ∷ []
 
 -- n ends so many cells, from the cell i on: this is noted of them
-abbrev pub ends_from : (n i count : ℕ) → List Noted
-ends_from n i zero = []
-ends_from n i (suc count) = record { cell = i; event = End n } ∷ ends_from n (suc i) count
+abbrev pub noted_ends : (n i count : ℕ) → List Noted
+noted_ends n i zero = []
+noted_ends n i (suc count) = record { cell = i; event = End n } ∷ noted_ends n (suc i) count
 
 -- a hold of a cell was dropped
 pub record IsCellDrop (g : Config) (e : Event) : Type 0 where
@@ -90,7 +90,7 @@ pub record EndedCells (cache : Cache) (p : PartyPlace) (olds : List PartyPlace) 
   pub drops : List Event
   pub numbers : AllByRecursion (λ e. parties_of cache.config ≤ number_of_event e) drops
   pub told : (did : List Act) (noted : List Noted) → HasToldOthers cache.config did noted p
-      → HasToldOthers cache.config (did ++ acts_of_events drops) (noted ++ ends_from p.number 0 cache.config.cells) q
+      → HasToldOthers cache.config (did ++ acts_of_events drops) (noted ++ noted_ends p.number 0 cache.config.cells) q
   -- of each cell it has seen the end as the last, and all that the others did there
   pub ends : (i : ℕ) → IsCell cache.config i → (before : List Line) × (front_of i q.own.seen ≡ before ++ end_entry p.number i)
   pub entries : AllByRecursion (λ o. AreEntriesSeen cache.config o.number o.own.mine q.own.seen) olds

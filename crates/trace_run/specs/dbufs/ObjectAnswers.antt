@@ -7,12 +7,12 @@ use Rattle.dbuf_cells.specs.Turns.{OnHeap}
 use Rattle.dbuf_state.specs.Outline.{outline_after}
 use Rattle.dbuf_state.specs.declared.event.CellEvent.{CellEvent}
 use Rattle.dbuf_state.specs.declared.oid.Oid.{Oid}
-use Rattle.trace_run.specs.CellEnds.{done_by}
+use Rattle.trace_run.specs.dbufs.CellEnds.{done_by}
 use Rattle.trace_run.specs.Deeds.{events_of_cell}
 use Rattle.trace_run.specs.Lines.{is_of_caller}
-use Rattle.trace_run.specs.ObjectLines.{OnObject, on_object}
-use Rattle.trace_run.specs.ObjectReplies.{ActsFor, AnswersObject, BringsAt}
-use Rattle.trace_run.specs.Objects.{Line, own_event}
+use Rattle.trace_run.specs.dbufs.ObjectLines.{OnObject, on_object}
+use Rattle.trace_run.specs.dbufs.ObjectReplies.{ActsFor, AnswersObject, BringsAt}
+use Rattle.trace_run.specs.dbufs.Objects.{Line, own_event}
 use Rattle.trace_run.specs.RunWork.{lines_of_caller}
 use Rattle.trace_run.specs.callers.Together.{ends_group}
 use Rattle.trace_run.specs.callers.WorkLines.{noted_of_work}

@@ -1,0 +1,6 @@
+pub mod CellEnds
+pub mod DbufTurns
+pub mod ObjectAnswers
+pub mod ObjectLines
+pub mod ObjectReplies
+pub mod Objects
