@@ -68,7 +68,7 @@ use Rattle.dbuf_state.specs.declared.event.CellEvent.TheVariants.{End}
 use Rattle.dbuf_state.specs.declared.state.Mapping.{Mapping}
 use Rattle.trace_run.specs.dbufs.CellEnds.{IsCellDrop, SeesEnd, SeesEnds, end_entry, noted_ends}
 use Rattle.trace_run.specs.dbufs.DbufTurns.{CellsDone}
-use Rattle.trace_run.specs.Deeds.{HasToldOthers, Noted, acts_of_events, events_there, noted_in, MakesLater}
+use Rattle.trace_run.specs.Deeds.{HasToldOthers, Noted, acts_of_events, events_there, noted_in, MakesLater, CellsGrow}
 use Rattle.trace_run.specs.Making.{HasSeenItsEvents}
 use Rattle.trace_run.proofs.deeds.CellFound.{turn-finds}
 use Rattle.trace_run.proofs.deeds.CellsDone.{turn-done}
@@ -76,7 +76,7 @@ use Rattle.trace_run.proofs.deeds.DeedLemmas.{events-acts}
 use Rattle.trace_run.proofs.deeds.ObjectReplies.{dbufs-so}
 use Rattle.trace_run.proofs.deeds.TurnMakes.{AreTurnEvents}
 use Rattle.trace_run.proofs.theorem.ToldLemmas.{others-turn}
-use Rattle.trace_run.proofs.CellsLeft.{CellsGrow, LeavesCells, does-leaves, leaves-same, leaves-seen, leaves-then}
+use Rattle.trace_run.proofs.CellsLeft.{LeavesCells, does-leaves, leaves-same, leaves-seen, leaves-then}
 use Rattle.trace_run.proofs.MoveLemmas.{made-only}
 use Rattle.trace_run.proofs.callers.MeetLemmas.{own-seen-more, starts-then}
 use Rattle.trace_run.specs.MadeLines.{is_listed}

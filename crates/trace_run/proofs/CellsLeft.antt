@@ -44,6 +44,7 @@ use Rattle.arc_table.proofs.PassMines.{mines_of_are}
 use Rattle.arc_table.proofs.Reached.{reached}
 use Rattle.arc_table.proofs.scans.RoomyGives.{cell_far}
 use Rattle.arc_table.proofs.scans.RoomyAfter.{does_roomy_mine, does_roomy_stays}
+use Rattle.trace_run.specs.Deeds.{CellsGrow}
 
 -- ---- entries that are seen
 
@@ -54,10 +55,6 @@ entries-as g n mines s t same seen i j a in_range at is = subst (λ (l : List Li
 pub all-entries-as : {C : Type 0} (g : Config) (ks : List (Kept (Known C))) (s t : List (List Line)) → ((i : ℕ) → IsCell g i → front_of i t ≡ front_of i s) → AllEntriesSeen g ks s → AllEntriesSeen g ks t
 all-entries-as g [] s t same all = tt
 all-entries-as g (k ∷ ks) s t same all = (entries-as g k.number k.view.mine s t same all.0, all-entries-as g ks s t same all.1)
-
--- of each cell, t has at least what s had
-abbrev pub CellsGrow : Config → (s t : List (List Line)) → Type 0
-CellsGrow g s t = (i : ℕ) → IsCell g i → StartsWith (front_of i t) (front_of i s)
 
 -- so they are in what has more of each cell
 pub entries-more : (g : Config) (n : ℕ) (mines : List Mine) (s t : List (List Line)) → CellsGrow g s t → AreEntriesSeen g n mines s → AreEntriesSeen g n mines t

@@ -13,7 +13,6 @@ use Rattle.arc_core.specs.declared.config.Config.{Config}
 use Rattle.arc_core.specs.Operations.{Act}
 use Rattle.arc_table.specs.declared.about.About.{About}
 use Rattle.arc_table.specs.declared.view.Line.{Line as SeenLine}
-use Rattle.arc_table.specs.Fronts.{front_of}
 use Rattle.arc_table.specs.Geometry.{IsCell}
 use Rattle.arc_table.specs.Reading.{KeepsDevice, Outside}
 use Rattle.dbuf_cells.specs.Places.{cell_of}
@@ -279,33 +278,20 @@ module _ {P D : Type 0} (pools : PoolGhosts P) (devices : DeviceGhosts D) (g : C
         subst (λ (o : Option OnObject). IfSome o (λ on. LooksFrom g (pools.size a.outside.pool) (pools.told a.outside.pool) a.party.own.about.openings a.party.own.seen b.party.own.seen a.party.number had on.at l)) is
         (d.1.answers valid did had told)
 
-    -- where less was seen at first, and more is now
-    still-looks : (len : ℕ) (image : Option (List ℕ)) (n : ℕ) (had : List Noted) (o : Option OnObject) (l : Line) (f p q r : PartyPlace) → KeepsCells g f p → KeepsCells g q r
-        → IfSome o (λ on. LooksFrom g len image p.own.about.openings p.own.seen q.own.seen n had on.at l) → IfSome o (λ on. LooksFrom g len image p.own.about.openings f.own.seen r.own.seen n had on.at l)
-    unfolding still-from
-    still-looks len image n had None l f p q r first keeps looks = tt
-    still-looks len image n had (Some on) l f p q r first keeps looks =
-        let i = cell_of g.cells on.at in
-        let x = first.fronts i (cell-there g valid on.at) in
-        let y = looks.since in
-        record {
-          from = still-from len image n had on.at l p q r (cell-there g valid on.at) keeps looks.from;
-          since = (x.0 ++ y.0, y.1 ∙ (ap (λ (s : List SeenLine). s ++ y.0) x.1 ∙ append_assoc (front_of i f.own.seen) x.0 y.0));
-        }
-
-    pub all-looks : (n : ℕ) (ls : List Line) (f : PartyPlace) (a b : AtWork P D) (len : ℕ) (image : Option (List ℕ)) (openings : List (List ℕ)) → pools.size a.outside.pool ≡ len → pools.told a.outside.pool ≡ image → a.party.own.about.openings ≡ openings
-        → a.party.number ≡ n → KeepsCells g f a.party → AreHis n ls → DidAll pools devices g blocks ls a b → (did : List Act) (had : List Noted) → HasToldAll g did had a.party
-        → LooksLines g len image openings f.own.seen b.party.own.seen n had ls
-    all-looks n [] f a b len image openings size told opens number first his d did had told_all = tt
-    all-looks n (l ∷ ls) f a b len image openings size told opens number first his d did had told_all =
+    pub all-looks : (n : ℕ) (ls : List Line) (a b : AtWork P D) (len : ℕ) (image : Option (List ℕ)) (openings : List (List ℕ)) → pools.size a.outside.pool ≡ len → pools.told a.outside.pool ≡ image → a.party.own.about.openings ≡ openings
+        → a.party.number ≡ n → AreHis n ls → DidAll pools devices g blocks ls a b → (did : List Act) (had : List Noted) → HasToldAll g did had a.party
+        → LooksLines g len image openings a.party.own.seen b.party.own.seen n had ls
+    all-looks n [] a b len image openings size told opens number his d did had told_all = (all-keeps n [] a b his d).0.fronts
+    all-looks n (l ∷ ls) a b len image openings size told opens number his d did had told_all =
         let next = d.0 in
         let o = on_object l.op in
-        let one = by-keeps o n l a next his.0 d.1 in
-        let later = (all-keeps n ls next b his.1 d.2).0 in
-        let here = still-looks (pools.size a.outside.pool) (pools.told a.outside.pool) a.party.number had o l f a.party next.party b.party first later (by-looks o l a next refl d.1 did had told_all) in (
-          subst (λ (x : ℕ × Option (List ℕ) × List (List ℕ) × ℕ). IfSome o (λ on. LooksFrom g x.0 x.1 x.2 f.own.seen b.party.own.seen x.3 had on.at l)) (λ i. (size i, told i, opens i, number i)) here,
-          all-looks n ls f next b len image openings (one.2.size ∙ size) (one.2.told ∙ told) (ap (λ (x : About). x.openings) one.0.about ∙ opens) (by-number pools devices g blocks o l a next d.1 ∙ number)
-              (keeps-then g f a.party next.party first one.0) his.1 d.2 (did ++ acts_with g blocks a.kept l) (had ++ l.work.noted) (by-told o l a next refl d.1 did had told_all),
+        let one = by-keeps o n l a next his.0 d.1 in (
+          next.party.own.seen,
+          one.0.fronts,
+          subst (λ (x : ℕ × Option (List ℕ) × List (List ℕ) × ℕ). IfSome o (λ on. LooksFrom g x.0 x.1 x.2 a.party.own.seen next.party.own.seen x.3 had on.at l)) (λ i. (size i, told i, opens i, number i))
+              (by-looks o l a next refl d.1 did had told_all),
+          all-looks n ls next b len image openings (one.2.size ∙ size) (one.2.told ∙ told) (ap (λ (x : About). x.openings) one.0.about ∙ opens) (by-number pools devices g blocks o l a next d.1 ∙ number)
+              his.1 d.2 (did ++ acts_with g blocks a.kept l) (had ++ l.work.noted) (by-told o l a next refl d.1 did had told_all),
         )
 
   -- the reads that are kept behind all of them
@@ -368,7 +354,7 @@ module _ {P D : Type 0} (pools : PoolGhosts P) (devices : DeviceGhosts D) (g : C
           kept = all-kept did.lines a b did.did;
           told = all-told did.lines a b did.did;
           answers = λ acts had told place. all-answers valid place a.party.number did.lines a b (pools.size a.outside.pool) (pools.told a.outside.pool) a.party.own.about.openings refl refl refl refl his did.did acts had told;
-          looks = λ acts had told. all-looks valid 0 a.party.number did.lines a.party a b (pools.size a.outside.pool) (pools.told a.outside.pool) a.party.own.about.openings refl refl refl refl (keeps-none g a.party) his did.did acts had told;
+          looks = λ acts had told. all-looks valid 0 a.party.number did.lines a b (pools.size a.outside.pool) (pools.told a.outside.pool) a.party.own.about.openings refl refl refl refl his did.did acts had told;
           calls = all-calls did.lines a b did.did;
           asked = asked;
         }

@@ -4,6 +4,7 @@ pub mod BesideLemmas
 pub mod CallerActLemmas
 pub mod EndLineLemmas
 pub mod EndedLemmas
+pub mod FoundLemmas
 pub mod FrontLemmas
 pub mod GroupCounts
 pub mod GroupLemmas

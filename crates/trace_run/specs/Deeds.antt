@@ -71,6 +71,10 @@ events_of_cell i (n ∷ ns) = if n.cell == i then (n.event ∷ events_of_cell i 
 abbrev pub lines_of_cell : (i : ℕ) → List Noted → List Line
 lines_of_cell i noted = map line.Entry (map event_numbers (events_of_cell i noted))
 
+-- of each cell, t has at least what s had
+abbrev pub CellsGrow : Config → (s t : List (List Line)) → Type 0
+CellsGrow g s t = (i : ℕ) → IsCell g i → StartsWith (front_of i t) (front_of i s)
+
 module _ {C : Type 0} where
   -- In each shard the events of the party's own number are those of its acts among these, one after another, each once; and those that it made with
   -- another number, a cell's, are those of that number's acts. What it did to each cell is this.
@@ -97,7 +101,7 @@ module _ {C : Type 0} where
   -- It knows what it knew of the cells' beginnings, and has seen of each cell and of each shard at least what it had. What it made of shards later stands behind that.
   pub record KeepsCells (g : Config) (p q : Place (Known C)) : Type 0 where
     pub about : q.own.about ≡ p.own.about
-    pub fronts : (i : ℕ) → IsCell g i → StartsWith (front_of i q.own.seen) (front_of i p.own.seen)
+    pub fronts : CellsGrow g p.own.seen q.own.seen
     pub shards : (shard : ℕ) → StartsWith (front_of (turn_of g shard) q.own.seen) (front_of (turn_of g shard) p.own.seen)
     pub older : MakesLater g p q
 

@@ -1,5 +1,6 @@
 -- Several callers behind more lines: how those on objects looked at cells, behind the lines of a group, and behind the line that ends it.
-use Rattle.std.proofs.Common.{◌≡◌, ℕ, ◌<◌, List, [], ◌∷◌, ◌++◌, Option, None, length, sym, ◌∙◌, subst}
+use Rattle.std.proofs.Common.{◌≡◌, ℕ, ◌<◌, List, [], ◌∷◌, ◌++◌, Option, None, length, sym, ◌∙◌, subst, inl, inr, arith}
+use Rattle.std.proofs.lemmas.Bool.{cases_lt}
 use mathlib.Core.Option.{some, some-injective}
 use lib.ListN.{get_elem?}
 use Rattle.blk_ptr.specs.declared.ptr.Ptr.{Ptr}
@@ -8,6 +9,7 @@ use Rattle.arc_core.specs.Config.{IsConfig}
 use Rattle.arc_core.specs.declared.config.Config.{Config}
 use Rattle.arc_core.specs.declared.event.Event.{Event}
 use Rattle.arc_core.specs.declared.served.Restored.{Restored}
+use Rattle.arc_table.specs.declared.view.Line.{Line as Seen}
 use Rattle.arc_table.specs.Cache.{Cache}
 use Rattle.arc_table.specs.Fronts.{front_of}
 use Rattle.arc_table.specs.Geometry.{IsCell}
@@ -25,6 +27,7 @@ use Rattle.trace_run.specs.callers.Groups.{ComesAt, HaveCome}
 use Rattle.trace_run.specs.callers.Looking.{HaveLooked}
 use Rattle.trace_run.specs.callers.WorkLines.{LooksLines, acts_of_work, noted_of_work}
 use Rattle.trace_run.proofs.callers.EndedLemmas.{MadeWork, all-at}
+use Rattle.trace_run.proofs.callers.FoundLemmas.{look-there}
 use Rattle.trace_run.proofs.callers.GroupsLemmas.{parted-at}
 use Rattle.trace_run.proofs.callers.LineLists.{AreInside}
 use Rattle.trace_run.proofs.callers.LookingLemmas.{Had, LooksOn, ended-looked, kept-looked, more-looked}
@@ -42,26 +45,35 @@ module _ {P : Type 0} (pools : Ghosts P) (cache : Cache) (restored : List Restor
 
   module _ (ms : List Line) (own : AreInside ms) (from : P) (worked : AllWorked cache pools blocks g.callers from (λ n. lines_of_caller n ms) old.kept.items old.parties.items new.kept.items new.parties.items) (size : pools.size from ≡ len)
       (now : Option (List ℕ)) (told_now : pools.told from ≡ now) where
-    on-each : (n : ℕ) (q : PartyPlace) → get_elem? new.parties.items n ≡ some q → LooksOn g valid len told now w.lines ms old.parties.items n q
-    on-each n q party =
-        let below : n < g.callers = subst (λ (k : ℕ). n < k) worked.parties (within new.parties.items n q party) in
+    abbrev OnEach : (n : ℕ) → Type 0
+    OnEach n = (more : (k : ℕ) → List Seen) × ((q : PartyPlace) → get_elem? new.parties.items n ≡ some q → LooksOn g valid len told now w.lines ms old.parties.items more n q)
+
+    on-each : (n : ℕ) → n < g.callers → OnEach n
+    on-each n below =
         let c : ComesAt cache len image place blocks n (lines_of_caller n w.lines) old = before.each n below in
         let h = worked.each n below in
         let before_it : c.party ≡ h.from = some-injective c.party h.from (sym c.at.party_at ∙ h.before.party_at) in
-        let behind : h.to ≡ q = some-injective h.to q (sym h.after.party_at ∙ party) in
         let acts = acts_of_work g blocks [] (lines_of_caller n w.lines) in
         let noted = noted_of_work (lines_of_caller n w.lines) in
         let has_told : HasToldAll g acts noted h.from = subst (HasToldAll g acts noted) before_it c.come.waits.told in
-        subst (LooksOn g valid len told now w.lines ms old.parties.items n) behind record {
-          from = h.from;
-          at = h.before.party_at;
-          keeps = h.worked.cells;
-          looks = subst (λ (x : ℕ × Option (List ℕ)). LooksLines g x.0 x.1 h.from.own.about.openings h.from.own.seen h.to.own.seen n noted (lines_of_caller n ms)) (λ i. ((worked.size n below ∙ size) i, (worked.told n below ∙ told_now) i))
-              (h.worked.looks acts noted has_told);
-        }
+        let looks : LooksLines g len now h.from.own.about.openings h.from.own.seen h.to.own.seen n noted (lines_of_caller n ms) =
+        subst (λ (x : ℕ × Option (List ℕ)). LooksLines g x.0 x.1 h.from.own.about.openings h.from.own.seen h.to.own.seen n noted (lines_of_caller n ms)) (λ i. ((worked.size n below ∙ size) i, (worked.told n below ∙ told_now) i))
+        (h.worked.looks acts noted has_told) in
+        let all = look-there g valid len now h.from.own.about.openings n h.from.own.seen h.to.own.seen noted ms looks in (
+          all.found,
+          λ q party.
+              let behind : h.to ≡ q = some-injective h.to q (sym h.after.party_at ∙ party) in
+              subst (LooksOn g valid len told now w.lines ms old.parties.items all.found n) behind record { from = h.from; at = h.before.party_at; keeps = h.worked.cells; looks = all.each },
+        )
+
+    on-any : (n : ℕ) → OnEach n
+    on-any n = elim (cases_lt n g.callers) [
+      | inl below ↦ on-each n below
+      | inr none ↦ (λ k. [], λ q party. let inside : n < g.callers = subst (λ (k : ℕ). n < k) worked.parties (within new.parties.items n q party) in absurd (omega (arith, none, inside)))
+    ]
 
     pub lines-looked : HaveLooked g len (told_then told (length w.lines) now) (w.lines ++ ms) new.parties.items
-    lines-looked = more-looked g valid len told now w.lines ms old.parties.items new.parties.items own on-each looked
+    lines-looked = more-looked g valid len told now w.lines ms old.parties.items new.parties.items own on-any looked
 
   -- ---- what the feeder did behind them
 

@@ -1,5 +1,5 @@
 -- How callers' lines on objects looked at cells, group by group: behind more lines of theirs, and behind a line that ends their group.
-use Rattle.std.proofs.Common.{◌≡◌, ◌⊎◌, ℕ, zero, suc, ◌+◌, ◌-◌, ◌<◌, ◌≤◌, nat_lt, Bool, true, false, if◌then◌else◌, List, [], ◌∷◌, ◌++◌, Option, Some, None, length, take, refl, sym, ap, ◌∙◌, subst, inl, inr, arith, append-nil, append_assoc, length-append}
+use Rattle.std.proofs.Common.{◌≡◌, ◌⊎◌, ℕ, zero, suc, ◌+◌, ◌-◌, ◌<◌, ◌≤◌, nat_lt, Bool, true, false, if◌then◌else◌, List, [], ◌∷◌, ◌++◌, Option, Some, None, length, take, refl, sym, ap, ◌∙◌, subst, inl, inr, arith, append-nil, append_assoc, length-append, map}
 use Rattle.std.specs.Prelude.{IfSome, slice_get, slice_index_or}
 use Rattle.std.proofs.lemmas.Bool.{cases_lt, false≢true}
 use Rattle.std.proofs.lemmas.Bool.Decides.{nat_tests}
@@ -9,7 +9,6 @@ use Rattle.std.proofs.lemmas.Option.{slice_get_within}
 use Rattle.std.proofs.Math.Seq.{take-append-add}
 use mathlib.Core.Option.{some}
 use lib.ListN.{get_elem?}
-use Rattle.arc_lists.proofs.Tables.{cases_true}
 use Rattle.turn_table.specs.Places.{Place}
 use Rattle.arc_core.specs.Config.{IsConfig}
 use Rattle.arc_core.specs.declared.config.Config.{Config}
@@ -21,15 +20,17 @@ use Rattle.arc_table.specs.Geometry.{IsCell}
 use Rattle.arc_table.specs.TableLaws.{starts_whole}
 use Rattle.dbuf_cells.specs.Places.{cell_of}
 use Rattle.dbuf_state.specs.declared.oid.Oid.{Oid}
-use Rattle.trace_run.specs.Deeds.{KeepsCells, Noted, events_of_cell, lines_of_cell}
+use Rattle.trace_run.specs.Deeds.{KeepsCells, events_of_cell, lines_of_cell}
 use Rattle.trace_run.specs.Lines.{caller_of, is_of_caller}
 use Rattle.trace_run.specs.dbufs.ObjectLines.{OnObject, TellsBrought, cell_lines, on_object}
 use Rattle.trace_run.specs.dbufs.ObjectReplies.{AnswersObject, LooksFrom}
+use Rattle.trace_run.specs.Meeting.{HaveMet}
 use Rattle.trace_run.specs.dbufs.Objects.{Line}
 use Rattle.trace_run.specs.RunWork.{lines_of_caller}
 use Rattle.trace_run.specs.callers.Looking.{HaveLooked, LooksCut}
 use Rattle.trace_run.specs.callers.Together.{ends_group}
-use Rattle.trace_run.specs.callers.WorkLines.{LooksLines, noted_of_work}
+use Rattle.trace_run.specs.callers.WorkLines.{noted_of_work}
+use Rattle.trace_run.proofs.callers.FoundLemmas.{LooksThere, by-object, by-some, found-early, found-late, found_after}
 use Rattle.trace_run.proofs.callers.GroupLists.{get-left, get-right, some-same}
 use Rattle.trace_run.proofs.callers.LineLists.{AreInside, nobody-callers, noted-append}
 use Rattle.trace_run.proofs.callers.MeetLemmas.{starts-then}
@@ -42,52 +43,32 @@ pub none-looked : {C : Type 0} (g : Config) (len : ℕ) (told : (k : ℕ) → Op
 none-looked g len told ps = record {
   level = λ k i. [];
   reach = λ k e at ends n p party i in_range. absurd (none k e at);
+  found = λ n k. [];
   looks = λ k n l p at his party. absurd (none k l at);
 }
   where
     none : (k : ℕ) (l : Line) → slice_get {X = Line} [] k ≡ Some l → ⊥
     none k l at = cc
 
--- ---- small steps
-
-by-some : {X : Type 0} (A B : X → Type 0) (o : Option X) → ((x : X) → A x → B x) → IfSome o A → IfSome o B
-by-some A B None so had = tt
-by-some A B (Some x) so had = so x had
-
--- what one of a caller's lines did, behind what its earlier lines noted
-looks-at : (g : Config) (len : ℕ) (image : Option (List ℕ)) (openings : List (List ℕ)) (begun seen : List (List Seen)) (n : ℕ) (had : List Noted) (ls : List Line) (k : ℕ) (l : Line)
-    → slice_get ls k ≡ Some l → is_of_caller n l.op ≡ true → LooksLines g len image openings begun seen n had (lines_of_caller n ls)
-    → IfSome (on_object l.op) (λ on. LooksFrom g len image openings begun seen n (had ++ noted_of_work (lines_of_caller n (take k ls))) on.at l)
-looks-at g len image openings begun seen n had [] k l at his looks = cc
-looks-at g len image openings begun seen n had (x ∷ ls) zero l at his looks =
-    let same : x ≡ l = cc in
-    let own : is_of_caller n x.op ≡ true = ap (λ (y : Line). is_of_caller n y.op) same ∙ his in
-    let first = (rw own at looks).0 in
-    subst (λ (y : Line × List Noted). IfSome (on_object y.0.op) (λ on. LooksFrom g len image openings begun seen n y.1 on.at y.0)) (λ i. (same i, sym (append-nil had) i)) first
-looks-at g len image openings begun seen n had (x ∷ ls) (suc k) l at his looks = elim (cases_true (is_of_caller n x.op)) [
-  | inl own ↦
-      let rest = (rw own at looks).1 in
-      let h = looks-at g len image openings begun seen n (had ++ x.work.noted) ls k l at his rest in
-      let all : (had ++ x.work.noted) ++ noted_of_work (lines_of_caller n (take k ls)) ≡ had ++ noted_of_work (lines_of_caller n (x ∷ take k ls)) =
-      append_assoc had x.work.noted (noted_of_work (lines_of_caller n (take k ls))) ∙ ap (λ (y : List Line). had ++ noted_of_work y) (let same : x ∷ lines_of_caller n (take k ls) ≡ lines_of_caller n (x ∷ take k ls) = rw own refl in same) in
-      subst (λ (y : List Noted). IfSome (on_object l.op) (λ on. LooksFrom g len image openings begun seen n y on.at l)) all h
-  | inr other ↦
-      let rest = rw other at looks in
-      let h = looks-at g len image openings begun seen n had ls k l at his rest in
-      let all : lines_of_caller n (take k ls) ≡ lines_of_caller n (x ∷ take k ls) = rw other refl in
-      subst (λ (y : List Line). IfSome (on_object l.op) (λ on. LooksFrom g len image openings begun seen n (had ++ noted_of_work y) on.at l)) all h
-]
+-- a line behind these is one of those that follow
+right-at : (ls ms : List Line) (x : ℕ) (e : Line) → length ls ≤ x → slice_get (ls ++ ms) x ≡ Some e → slice_get ms (x - length ls) ≡ Some e
+right-at ls ms x e late at =
+    let there : x ≡ length ls + (x - length ls) = omega (arith, late) in
+    sym (get-right ls ms (x - length ls)) ∙ (ap (slice_get (ls ++ ms)) (sym there) ∙ at)
 
 module _ {C : Type 0} (g : Config) (valid : IsConfig g) (len : ℕ) (told : (k : ℕ) → Option (List ℕ)) where
   -- ---- one line
 
   -- A line that looked did so behind more lines, where its party has seen more and the same is told of its group; a group more may end with what the party has seen then.
-  cut-on : (later_told : (k : ℕ) → Option (List ℕ)) (ls ms : List Line) (level next : (k i : ℕ) → List Seen) (p q : Place (Known C)) (k n : ℕ) (at : Oid) (l : Line) → later_told k ≡ told k → KeepsCells g p q → take k ms ≡ take k ls
+  cut-on : (later_told : (k : ℕ) → Option (List ℕ)) (ls ms : List Line) (level next : (k i : ℕ) → List Seen) (found now_found : (k : ℕ) → List Seen) (p q : Place (Known C)) (k n : ℕ) (at : Oid) (l : Line) → later_told k ≡ told k → KeepsCells g p q → take k ms ≡ take k ls
       → ((x : ℕ) (e : Line) → x < k → slice_get ms x ≡ Some e → ends_group e.op ≡ true → (slice_get ls x ≡ Some e) × (next x (cell_of g.cells at) ≡ level x (cell_of g.cells at)))
       → ((x : ℕ) (e : Line) → k < x → slice_get ms x ≡ Some e → ends_group e.op ≡ true
       → ((slice_get ls x ≡ Some e) × (next x (cell_of g.cells at) ≡ level x (cell_of g.cells at))) ⊎ (next x (cell_of g.cells at) ≡ front_of (cell_of g.cells at) q.own.seen))
-      → LooksCut g len told p.own.about.openings p.own.seen ls level k n at l → LooksCut g len later_told q.own.about.openings q.own.seen ms next k n at l
-  cut-on later_told ls ms level next p q k n at l same keeps earlier before later cut =
+      → now_found k ≡ found k
+      → ((x : ℕ) (e : Line) (on : OnObject) → k < x → slice_get ms x ≡ Some e → is_of_caller n e.op ≡ true → on_object e.op ≡ Some on → cell_of g.cells on.at ≡ cell_of g.cells at
+      → ((slice_get ls x ≡ Some e) × (now_found x ≡ found x)) ⊎ StartsWith (now_found x) (front_of (cell_of g.cells at) p.own.seen))
+      → LooksCut g len told p.own.about.openings p.own.seen ls level found k n at l → LooksCut g len later_told q.own.about.openings q.own.seen ms next now_found k n at l
+  cut-on later_told ls ms level next found now_found p q k n at l same keeps earlier before later found_same found_later cut =
       let i : ℕ = cell_of g.cells at in
       let lines : List Seen = cell_lines cut.from.cell in
       let front = starts-then (front_of i q.own.seen) (front_of i p.own.seen) (lines ++ lines_of_cell i l.work.noted) (keeps.fronts i (cell-there g valid at)) cut.from.front in
@@ -108,15 +89,21 @@ module _ {C : Type 0} (g : Config) (valid : IsConfig g) (len : ℕ) (told : (k :
           | inl h ↦ subst (λ (s : List Seen). StartsWith s (lines ++ lines_of_cell i l.work.noted)) (sym h.1) (cut.until x e lt h.0 ends)
           | inr is ↦ subst (λ (s : List Seen). StartsWith s (lines ++ lines_of_cell i l.work.noted)) (sym is) front
         ];
+        is = cut.is ∙ sym found_same;
+        later = λ x e on lt there his is same_cell. elim (found_later x e on lt there his is same_cell) [
+          | inl h ↦ subst (λ (s : List Seen). StartsWith s (lines ++ lines_of_cell i l.work.noted)) (sym h.1) (cut.later x e on lt h.0 his is same_cell)
+          | inr more ↦ starts-then (now_found x) (front_of i p.own.seen) (lines ++ lines_of_cell i l.work.noted) more cut.from.front
+        ];
       }
 
   -- a line of a group behind these lines, which looked by a cell that goes on from what its party had seen as the group began
-  cut-new : (ls ms : List Line) (level : (k i : ℕ) → List Seen) (p q : Place (Known C)) (now : Option (List ℕ)) (k j n : ℕ) (at : Oid) (l : Line) → KeepsCells g p q → length ls ≤ k → k ≡ length ls + j
+  cut-new : (ls ms : List Line) (level : (k i : ℕ) → List Seen) (found more : (k : ℕ) → List Seen) (p q : Place (Known C)) (now : Option (List ℕ)) (k j n : ℕ) (at : Oid) (l : Line) → KeepsCells g p q → length ls ≤ k → k ≡ length ls + j
       → ((x : ℕ) (e : Line) → slice_get (ls ++ ms) x ≡ Some e → ends_group e.op ≡ true → x < length ls)
       → ((x : ℕ) (e : Line) → slice_get ls x ≡ Some e → ends_group e.op ≡ true → StartsWith (front_of (cell_of g.cells at) p.own.seen) (level x (cell_of g.cells at)))
-      → LooksFrom g len now p.own.about.openings p.own.seen q.own.seen n (noted_of_work (lines_of_caller n ls) ++ noted_of_work (lines_of_caller n (take j ms))) at l
-      → LooksCut g len (told_then told (length ls) now) q.own.about.openings q.own.seen (ls ++ ms) level k n at l
-  cut-new ls ms level p q now k j n at l keeps le there inside reach f =
+      → LooksThere g valid len now p.own.about.openings n p.own.seen q.own.seen (noted_of_work (lines_of_caller n ls) ++ noted_of_work (lines_of_caller n (take j ms))) ms more j at l
+      → LooksCut g len (told_then told (length ls) now) q.own.about.openings q.own.seen (ls ++ ms) level (found_after (length ls) found more) k n at l
+  cut-new ls ms level found more p q now k j n at l keeps le there inside reach t =
+      let f = t.look in
       let i : ℕ = cell_of g.cells at in
       let had : noted_of_work (lines_of_caller n (take k (ls ++ ms))) ≡ noted_of_work (lines_of_caller n ls) ++ noted_of_work (lines_of_caller n (take j ms)) =
       ap (λ (ys : List Line). noted_of_work (lines_of_caller n ys)) (ap (λ (y : ℕ). take y (ls ++ ms)) there ∙ take-append-add ls ms j)
@@ -127,7 +114,7 @@ module _ {C : Type 0} (g : Config) (valid : IsConfig g) (len : ℕ) (told : (k :
           sound = f.from.sound;
           opening = f.from.opening ∙ ap (λ (a : About). slice_index_or a.openings i []) (sym keeps.about);
           mine = f.from.mine ∙ ap (events_of_cell i) (sym had);
-          front = f.from.front;
+          front = starts-then (front_of i q.own.seen) (front_of i t.next) (cell_lines f.from.cell ++ lines_of_cell i l.work.noted) (t.grown i (cell-there g valid at)) f.from.front;
           brought = f.from.brought;
           acts = f.from.acts;
           answer = subst (λ (x : Option (List ℕ)). AnswersObject len x f.from.cell.value.limit f.from.cell.value.opening f.from.cell.value.history l.work.brought l.op l.reply) (sym (told-late told (length ls) now k le)) f.from.answer;
@@ -137,6 +124,11 @@ module _ {C : Type 0} (g : Config) (valid : IsConfig g) (len : ℕ) (told : (k :
             let early = inside x e is ends in
             starts-then (cell_lines f.from.cell) (front_of i p.own.seen) (level x i) f.since (reach x e (sym (get-left ls ms x early) ∙ is) ends);
         until = λ x e lt is ends. let early = inside x e is ends in absurd (omega (arith, early, lt, le));
+        is = t.is ∙ sym (found-late (length ls) found more k le ∙ ap more (let back : k - length ls ≡ j = omega (arith, there) in back));
+        later = λ x e on lt at_x his is same.
+            let late : length ls ≤ x = omega (arith, lt, le) in
+            let found_there = t.later (x - length ls) e on (omega (arith, lt, there)) (right-at ls ms x e late at_x) his is same in
+            subst (λ (s : List Seen). StartsWith s (cell_lines f.from.cell ++ lines_of_cell i l.work.noted)) (sym (found-late (length ls) found more x late)) found_there;
       }
 
   -- ---- where nothing was done
@@ -149,53 +141,71 @@ module _ {C : Type 0} (g : Config) (valid : IsConfig g) (len : ℕ) (told : (k :
   kept-looked ls ps qs old w = record {
     level = w.level;
     reach = λ k e at ends n q party i in_range. let o = old n q party in starts-then (front_of i q.own.seen) (front_of i o.0.own.seen) (w.level k i) (o.2.fronts i in_range) (w.reach k e at ends n o.0 o.1 i in_range);
+    found = w.found;
     looks = λ k n l q at his party.
         let o = old n q party in
-        by-some (λ (on : OnObject). LooksCut g len told o.0.own.about.openings o.0.own.seen ls w.level k n on.at l) (λ (on : OnObject). LooksCut g len told q.own.about.openings q.own.seen ls w.level k n on.at l) (on_object l.op)
-        (λ on cut. cut-on told ls ls w.level w.level o.0 q k n on.at l refl o.2 refl (λ x e lt there ends. (there, refl)) (λ x e lt there ends. inl (there, refl)) cut) (w.looks k n l o.0 at his o.1);
+        by-some (λ (on : OnObject). LooksCut g len told o.0.own.about.openings o.0.own.seen ls w.level (w.found n) k n on.at l) (λ (on : OnObject). LooksCut g len told q.own.about.openings q.own.seen ls w.level (w.found n) k n on.at l) (on_object l.op)
+        (λ on cut. cut-on told ls ls w.level w.level (w.found n) (w.found n) o.0 q k n on.at l refl o.2 refl (λ x e lt there ends. (there, refl)) (λ x e lt there ends. inl (there, refl))
+        refl (λ x e on_x lt there his_x is same. inl (there, refl)) cut) (w.looks k n l o.0 at his o.1);
   }
 
   -- ---- the lines of a group
 
-  -- a caller's party behind more lines, each of which looked over what the pool told as their group began
-  pub record LooksOn (now : Option (List ℕ)) (ls ms : List Line) (ps : List (Place (Known C))) (n : ℕ) (q : Place (Known C)) : Type 0 where
+  -- a caller's party behind more lines, each of which looked over what the pool told as their group began, and found this
+  pub record LooksOn (now : Option (List ℕ)) (ls ms : List Line) (ps : List (Place (Known C))) (more : (k : ℕ) → List Seen) (n : ℕ) (q : Place (Known C)) : Type 0 where
     pub from : Place (Known C)
     pub at : get_elem? ps n ≡ some from
     pub keeps : KeepsCells g from q
-    pub looks : LooksLines g len now from.own.about.openings from.own.seen q.own.seen n (noted_of_work (lines_of_caller n ls)) (lines_of_caller n ms)
+    pub looks : (k : ℕ) (l : Line) → slice_get ms k ≡ Some l → is_of_caller n l.op ≡ true
+        → IfSome (on_object l.op) (λ (on : OnObject). LooksThere g valid len now from.own.about.openings n from.own.seen q.own.seen (noted_of_work (lines_of_caller n ls) ++ noted_of_work (lines_of_caller n (take k ms))) ms more k on.at l)
 
-  module _ (now : Option (List ℕ)) (ls ms : List Line) (ps qs : List (Place (Known C))) (own : AreInside ms) (on_each : (n : ℕ) (q : Place (Known C)) → get_elem? qs n ≡ some q → LooksOn now ls ms ps n q) (w : HaveLooked g len told ls ps) where
+  module _ (now : Option (List ℕ)) (ls ms : List Line) (ps qs : List (Place (Known C))) (own : AreInside ms)
+      (on_each : (n : ℕ) → (more : (k : ℕ) → List Seen) × ((q : Place (Known C)) → get_elem? qs n ≡ some q → LooksOn now ls ms ps more n q)) (w : HaveLooked g len told ls ps) where
     abbrev told_now : (k : ℕ) → Option (List ℕ)
     told_now = told_then told (length ls) now
+
+    abbrev found_now : (n k : ℕ) → List Seen
+    found_now n = found_after (length ls) (w.found n) (on_each n).0
 
     -- no line more ends a group
     early-ends : (x : ℕ) (e : Line) → slice_get (ls ++ ms) x ≡ Some e → ends_group e.op ≡ true → x < length ls
     early-ends x e at ends = elim (cases_lt x (length ls)) [
       | inl early ↦ early
-      | inr late ↦
-          let there : x ≡ length ls + (x - length ls) = omega (arith, late) in
-          absurd (false≢true (sym (inside-at ms own (x - length ls) e (sym (get-right ls ms (x - length ls)) ∙ (ap (slice_get (ls ++ ms)) (sym there) ∙ at))) ∙ ends))
+      | inr late ↦ absurd (false≢true (sym (inside-at ms own (x - length ls) e (right-at ls ms x e late at)) ∙ ends))
     ]
 
     left-at : (x : ℕ) (e : Line) → slice_get (ls ++ ms) x ≡ Some e → x < length ls → slice_get ls x ≡ Some e
     left-at x e at early = sym (get-left ls ms x early) ∙ at
 
-    module _ (k n : ℕ) (l : Line) (q : Place (Known C)) (at : slice_get (ls ++ ms) k ≡ Some l) (his : is_of_caller n l.op ≡ true) (o : LooksOn now ls ms ps n q) where
+    module _ (k n : ℕ) (l : Line) (q : Place (Known C)) (at : slice_get (ls ++ ms) k ≡ Some l) (his : is_of_caller n l.op ≡ true) (o : LooksOn now ls ms ps (on_each n).0 n q) where
       abbrev Then : OnObject → Type 0
-      Then on = LooksCut g len told_now q.own.about.openings q.own.seen (ls ++ ms) w.level k n on.at l
+      Then on = LooksCut g len told_now q.own.about.openings q.own.seen (ls ++ ms) w.level (found_now n) k n on.at l
+
+      -- what a later line found goes on from what the party had seen before the group, where it is of the group
+      found-on : (i x : ℕ) (e : Line) (on : OnObject) → slice_get (ls ++ ms) x ≡ Some e → is_of_caller n e.op ≡ true → on_object e.op ≡ Some on → cell_of g.cells on.at ≡ i
+          → ((slice_get ls x ≡ Some e) × (found_now n x ≡ w.found n x)) ⊎ StartsWith (found_now n x) (front_of i o.from.own.seen)
+      found-on i x e on at_x his_x is same = elim (cases_lt x (length ls)) [
+        | inl early ↦ inl (left-at x e at_x early, found-early (length ls) (w.found n) (on_each n).0 x early)
+        | inr late ↦
+            let t = by-object (λ (it : OnObject). LooksThere g valid len now o.from.own.about.openings n o.from.own.seen q.own.seen (noted_of_work (lines_of_caller n ls) ++ noted_of_work (lines_of_caller n (take (x - length ls) ms))) ms (on_each n).0 (x - length ls) it.at e)
+            (on_object e.op) on is (o.looks (x - length ls) e (right-at ls ms x e late at_x) his_x) in
+            let there : cell_lines t.look.from.cell ≡ found_now n x = t.is ∙ sym (found-late (length ls) (w.found n) (on_each n).0 x late) in
+            inr (subst (λ (y : List Seen × ℕ). StartsWith y.0 (front_of y.1 o.from.own.seen)) (λ z. (there z, same z)) t.look.since)
+      ]
 
       old-line : k < length ls → IfSome (on_object l.op) Then
       old-line early =
-          by-some (λ (on : OnObject). LooksCut g len told o.from.own.about.openings o.from.own.seen ls w.level k n on.at l) Then (on_object l.op)
-          (λ on cut. cut-on told_now ls (ls ++ ms) w.level w.level o.from q k n on.at l (told-early told (length ls) now k early) o.keeps (take-append-le k ls ms (omega (arith, early)))
-          (λ x e lt there ends. (left-at x e there (early-ends x e there ends), refl)) (λ x e lt there ends. inl (left-at x e there (early-ends x e there ends), refl)) cut)
+          by-some (λ (on : OnObject). LooksCut g len told o.from.own.about.openings o.from.own.seen ls w.level (w.found n) k n on.at l) Then (on_object l.op)
+          (λ on cut. cut-on told_now ls (ls ++ ms) w.level w.level (w.found n) (found_now n) o.from q k n on.at l (told-early told (length ls) now k early) o.keeps (take-append-le k ls ms (omega (arith, early)))
+          (λ x e lt there ends. (left-at x e there (early-ends x e there ends), refl)) (λ x e lt there ends. inl (left-at x e there (early-ends x e there ends), refl))
+          (found-early (length ls) (w.found n) (on_each n).0 k early) (λ x e on_x lt there his_x is same. found-on (cell_of g.cells on.at) x e on_x there his_x is same) cut)
           (w.looks k n l o.from (left-at k l at early) his o.at)
 
       new-line : (j : ℕ) → length ls ≤ k → k ≡ length ls + j → IfSome (on_object l.op) Then
       new-line j le there =
-          by-some (λ (on : OnObject). LooksFrom g len now o.from.own.about.openings o.from.own.seen q.own.seen n (noted_of_work (lines_of_caller n ls) ++ noted_of_work (lines_of_caller n (take j ms))) on.at l) Then (on_object l.op)
-          (λ on from. cut-new ls ms w.level o.from q now k j n on.at l o.keeps le there early-ends (λ x e is ends. w.reach x e is ends n o.from o.at (cell_of g.cells on.at) (cell-there g valid on.at)) from)
-          (looks-at g len now o.from.own.about.openings o.from.own.seen q.own.seen n (noted_of_work (lines_of_caller n ls)) ms j l (sym (get-right ls ms j) ∙ (ap (slice_get (ls ++ ms)) (sym there) ∙ at)) his o.looks)
+          by-some (λ (on : OnObject). LooksThere g valid len now o.from.own.about.openings n o.from.own.seen q.own.seen (noted_of_work (lines_of_caller n ls) ++ noted_of_work (lines_of_caller n (take j ms))) ms (on_each n).0 j on.at l) Then (on_object l.op)
+          (λ on t. cut-new ls ms w.level (w.found n) (on_each n).0 o.from q now k j n on.at l o.keeps le there early-ends (λ x e is ends. w.reach x e is ends n o.from o.at (cell_of g.cells on.at) (cell-there g valid on.at)) t)
+          (o.looks j l (sym (get-right ls ms j) ∙ (ap (slice_get (ls ++ ms)) (sym there) ∙ at)) his)
 
       line-looked : IfSome (on_object l.op) Then
       line-looked = elim (cases_lt k (length ls)) [
@@ -207,9 +217,10 @@ module _ {C : Type 0} (g : Config) (valid : IsConfig g) (len : ℕ) (told : (k :
     more-looked = record {
       level = w.level;
       reach = λ k e at ends n q party i in_range.
-          let o = on_each n q party in
+          let o = (on_each n).1 q party in
           starts-then (front_of i q.own.seen) (front_of i o.from.own.seen) (w.level k i) (o.keeps.fronts i in_range) (w.reach k e (left-at k e at (early-ends k e at ends)) ends n o.from o.at i in_range);
-      looks = λ k n l q at his party. line-looked k n l q at his (on_each n q party);
+      found = found_now;
+      looks = λ k n l q at his party. line-looked k n l q at his ((on_each n).1 q party);
     }
 
   -- ---- a line that ends them
@@ -245,19 +256,19 @@ module _ {C : Type 0} (g : Config) (valid : IsConfig g) (len : ℕ) (told : (k :
     ]
 
     ended-line : (k n : ℕ) (l : Line) (q : Place (Known C)) → slice_get (ls ++ last ∷ []) k ≡ Some l → is_of_caller n l.op ≡ true → get_elem? qs n ≡ some q
-        → IfSome (on_object l.op) (λ (on : OnObject). LooksCut g len told q.own.about.openings q.own.seen (ls ++ last ∷ []) level k n on.at l)
+        → IfSome (on_object l.op) (λ (on : OnObject). LooksCut g len told q.own.about.openings q.own.seen (ls ++ last ∷ []) level (w.found n) k n on.at l)
     ended-line k n l q at his party =
         let o = old n q party in
         let early = early-his k n l at his in
-        by-some (λ (on : OnObject). LooksCut g len told o.0.own.about.openings o.0.own.seen ls w.level k n on.at l) (λ (on : OnObject). LooksCut g len told q.own.about.openings q.own.seen (ls ++ last ∷ []) level k n on.at l)
+        by-some (λ (on : OnObject). LooksCut g len told o.0.own.about.openings o.0.own.seen ls w.level (w.found n) k n on.at l) (λ (on : OnObject). LooksCut g len told q.own.about.openings q.own.seen (ls ++ last ∷ []) level (w.found n) k n on.at l)
         (on_object l.op)
-        (λ on cut. cut-on told ls (ls ++ last ∷ []) w.level level o.0 q k n on.at l refl o.2 (take-append-le k ls (last ∷ []) (omega (arith, early)))
+        (λ on cut. cut-on told ls (ls ++ last ∷ []) w.level level (w.found n) (w.found n) o.0 q k n on.at l refl o.2 (take-append-le k ls (last ∷ []) (omega (arith, early)))
         (λ x e lt there ends. let before : x < length ls = omega (arith, lt, early) in (left-of x e there before, level-old x (cell_of g.cells on.at) before))
         (λ x e lt there ends. elim (cases_lt x (length ls)) [
           | inl before ↦ inl (left-of x e there before, level-old x (cell_of g.cells on.at) before)
           | inr late ↦ inr (level-new x (cell_of g.cells on.at) late ∙ sym (same n q party (cell_of g.cells on.at) (cell-there g valid on.at)))
         ])
-        cut)
+        refl (λ x e on_x lt there his_x is same_cell. inl (left-of x e there (early-his x n e there his_x), refl)) cut)
         (w.looks k n l o.0 (left-of k l at early) his o.1)
 
     pub ended-looked : HaveLooked g len told (ls ++ last ∷ []) qs
@@ -271,5 +282,6 @@ module _ {C : Type 0} (g : Config) (valid : IsConfig g) (len : ℕ) (told : (k :
                 (starts-then (front_of i q.own.seen) (front_of i o.0.own.seen) (w.level k i) (o.2.fronts i in_range) (w.reach k e (left-of k e at early) ends n o.0 o.1 i in_range))
             | inr late ↦ subst (StartsWith (front_of i q.own.seen)) (same n q party i in_range ∙ sym (level-new k i late)) (starts_whole (front_of i q.own.seen))
           ];
+      found = w.found;
       looks = ended-line;
     }

@@ -36,9 +36,9 @@ use Rattle.arc_table.proofs.OwnLemmas.{no-own-moments, own-append, seen-more}
 use Rattle.arc_table.proofs.SeenLemmas.{events-append, get-behind}
 use Rattle.arc_table.specs.declared.about.About.{About}
 use Rattle.trace_run.specs.declared.kept_blocks.KeptBlock.{KeptBlock}
-use Rattle.trace_run.specs.Deeds.{Noted}
+use Rattle.trace_run.specs.Deeds.{CellsGrow, Noted}
 use Rattle.trace_run.specs.Meeting.{AreLast, HasLearned, HasParted, HaveMet, HaveParted, HasSameOwn, IsFed, IsLevel, JoinAll, Joins, MayJoin, PartAll, SeesEntries, Waits}
-use Rattle.trace_run.proofs.CellsLeft.{CellsGrow, all-entries-more, entries-more}
+use Rattle.trace_run.proofs.CellsLeft.{all-entries-more, entries-more}
 use Rattle.trace_run.proofs.deeds.DeedLemmas.{others-still, told-still}
 use Rattle.trace_run.proofs.deeds.MakesLemmas.{grown-same}
 

@@ -32,10 +32,10 @@ use Rattle.arc_table.proofs.OwnLemmas.{grows}
 use Rattle.arc_table.proofs.PassMines.{mines_of_are}
 use Rattle.arc_table.proofs.scans.RoomyAfter.{does_roomy_mine}
 use Rattle.arc_table.proofs.SeenLemmas.{events-append, events-map}
-use Rattle.trace_run.specs.Deeds.{KeepsCells, MakesLater, SameMade, with_number}
+use Rattle.trace_run.specs.Deeds.{CellsGrow, KeepsCells, MakesLater, SameMade, with_number}
 use Rattle.trace_run.specs.MadeLines.{is_listed, made_from, made_in, made_of}
 use Rattle.trace_run.specs.Making.{HasSeenItsEvents}
-use Rattle.trace_run.proofs.CellsLeft.{CellsGrow, LeavesCells, leaves-grow}
+use Rattle.trace_run.proofs.CellsLeft.{LeavesCells, leaves-grow}
 use Rattle.trace_run.proofs.deeds.MadeLemmas.{AreBelow, listed-both, listed-none, made-else, made-grown, made-more}
 
 -- lines that are seen stand in what was seen

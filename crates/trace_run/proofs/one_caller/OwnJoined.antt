@@ -1,5 +1,5 @@
 -- The one caller does its lines while the feeder's party has joined its own: what both are then, and where the lines led.
-use Rattle.std.proofs.Common.{◌≡◌, ◌≢◌, ℕ, ◌<◌, List, [], ◌∷◌, ◌++◌, map, Option, Some, None, refl, sym, ap, ◌∙◌, subst, inl, inr, arith}
+use Rattle.std.proofs.Common.{◌≡◌, ◌≢◌, ℕ, ◌<◌, List, [], ◌∷◌, map, Option, Some, None, refl, sym, ap, ◌∙◌, subst, inl, inr, arith}
 use Rattle.std.specs.Prelude.{IfSome, filter}
 use Rattle.std.specs.List.{AllByRecursion}
 use Rattle.std.proofs.lemmas.Bool.{cases_lt}
@@ -28,7 +28,7 @@ use Rattle.trace_text.specs.declared.reply.Reply.{Reply}
 use Rattle.trace_text.specs.declared.trace.Trace.{Trace}
 use Rattle.trace_run.specs.declared.groups.Crew.{Crew}
 use Rattle.trace_run.specs.declared.kept_blocks.KeptBlock.{KeptBlock}
-use Rattle.trace_run.specs.Deeds.{HasToldAll, KeepsCells, Noted}
+use Rattle.trace_run.specs.Deeds.{CellsGrow, HasToldAll, KeepsCells, Noted}
 use Rattle.trace_run.specs.Feeds.{IsIdleFeeder}
 use Rattle.trace_run.specs.KeptBlocks.{Stands, read_of}
 use Rattle.trace_run.specs.Lines.{is_of_caller}
@@ -45,7 +45,6 @@ use Rattle.trace_run.specs.callers.WorkLines.{AnswersLines, AreLinesOf, IsWorkOf
 use Rattle.trace_run.specs.one_caller.InTurn.{AreOwn, DidOwnLines, GoInSequence, IsOfTrace, StandAt}
 use Rattle.trace_run.specs.one_caller.LinesGone.{CameAlone, Gone, IsThere}
 use Rattle.trace_run.specs.one_caller.Sequence.{BetweenLines}
-use Rattle.trace_run.proofs.CellsLeft.{CellsGrow}
 use Rattle.trace_run.proofs.callers.MeetLemmas.{HaveJoined, joined_of, left_alone, parted-front, parted-then, parted_from, starts-then}
 use Rattle.trace_run.proofs.callers.TurnLemmas.{joined, joined-all, joined-stands, left-stands}
 use Rattle.trace_run.proofs.deeds.DeedLemmas.{told-still}
@@ -55,17 +54,20 @@ use Rattle.trace_run.proofs.one_caller.OwnLines.{own-whole}
 
 -- ---- lines looked at cells that go on from what was seen earlier
 
-module _ (g : Config) (valid : IsConfig g) (len : ℕ) (image : Option (List ℕ)) (openings : List (List ℕ)) (s t u : List (List SeenLine)) (grow : CellsGrow g s t) (n : ℕ) where
-  look-since : (o : Option OnObject) (had : List Noted) (l : Line) → IfSome o (λ on. LooksFrom g len image openings t u n had on.at l) → IfSome o (λ on. LooksFrom g len image openings s u n had on.at l)
-  look-since None had l looks = tt
-  look-since (Some on) had l looks = record {
+module _ (g : Config) (valid : IsConfig g) (len : ℕ) (image : Option (List ℕ)) (openings : List (List ℕ)) (s t : List (List SeenLine)) (grow : CellsGrow g s t) (n : ℕ) (had : List Noted) where
+  then-grow : (u : List (List SeenLine)) → CellsGrow g t u → CellsGrow g s u
+  then-grow u more i in_range = starts-then (front_of i u) (front_of i t) (front_of i s) (more i in_range) (grow i in_range)
+
+  look-since : (u : List (List SeenLine)) (o : Option OnObject) (l : Line) → IfSome o (λ on. LooksFrom g len image openings t u n had on.at l) → IfSome o (λ on. LooksFrom g len image openings s u n had on.at l)
+  look-since u None l looks = tt
+  look-since u (Some on) l looks = record {
     from = looks.from;
     since = starts-then (cell_lines looks.from.cell) (front_of (cell_of g.cells on.at) t) (front_of (cell_of g.cells on.at) s) looks.since (grow (cell_of g.cells on.at) (cell-there g valid on.at));
   }
 
-  looks-since : (had : List Noted) (ls : List Line) → LooksLines g len image openings t u n had ls → LooksLines g len image openings s u n had ls
-  looks-since had [] looks = tt
-  looks-since had (l ∷ ls) looks = (look-since (on_object l.op) had l looks.0, looks-since (had ++ l.work.noted) ls looks.1)
+  looks-since : (u : List (List SeenLine)) (ls : List Line) → LooksLines g len image openings t u n had ls → LooksLines g len image openings s u n had ls
+  looks-since u [] looks = then-grow u looks
+  looks-since u (l ∷ ls) looks = (looks.0, then-grow looks.0 looks.1, look-since looks.0 (on_object l.op) l looks.2, looks.3)
 
 -- ---- the feeder joins the caller
 
@@ -225,7 +227,7 @@ module _ (cache : Cache) (one : cache.config.callers ≡ 1) (rows : cache.row.pa
               (gone.came.answers acts noted (met-told acts noted told) place);
           looks = λ acts noted told.
               subst (λ (x : List (List ℕ) × ℕ). LooksLines g (pools.size before) (pools.told before) x.0 p.own.seen r.own.seen x.1 noted lines) (λ i. ((have.about i).openings, met-number i))
-              (looks-since g stands.valid (pools.size before) (pools.told before) q.own.about.openings p.own.seen q.own.seen r.own.seen have.self.cells q.number noted lines (gone.came.looks acts noted (met-told acts noted told)));
+              (looks-since g stands.valid (pools.size before) (pools.told before) q.own.about.openings p.own.seen q.own.seen have.self.cells q.number noted r.own.seen lines (gone.came.looks acts noted (met-told acts noted told)));
           calls = gone.came.calls;
         };
         asked = gone.came.asked;

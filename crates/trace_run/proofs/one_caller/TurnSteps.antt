@@ -372,7 +372,7 @@ module _ {P D : Type 0} (cache : Cache) (restored : List Restored) (pools : Ghos
             keeps = refl;
             cells = (x.2.same c.reads c.come.waits.stands).keeps;
             answers = λ acts noted told place. tt;
-            looks = λ acts noted told. tt;
+            looks = λ acts noted told. (x.2.same c.reads c.come.waits.stands).keeps.fronts;
             calls = refl;
           };
         }

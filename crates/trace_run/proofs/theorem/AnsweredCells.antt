@@ -1,8 +1,9 @@
 -- A caller's line on an object is answered by the closed cell of its block: the cell goes on from what the line found.
-use Rattle.std.proofs.Common.{◌≡◌, ℕ, zero, suc, ◌<◌, true, List, [], ◌∷◌, ◌++◌, length, map, take, drop, Option, Some, None, append_assoc, refl, sym, ap, ◌∙◌, subst, inl, inr, arith}
+use Rattle.std.proofs.Common.{◌≡◌, ℕ, zero, suc, ◌<◌, true, List, [], ◌∷◌, ◌++◌, length, map, take, drop, Option, Some, None, append_assoc, refl, sym, ap, ◌∙◌, subst, inl, inr, arith, ◌+◌, ◌≤◌, ◌==◌, false, append-nil, length-append}
+use Rattle.arc_table.specs.Items.{lines_in}
 use Rattle.std.specs.Prelude.{◌⊎◌, IfSome, slice_get, slice_index_or}
 use Rattle.std.specs.List.{AllByRecursion}
-use Rattle.std.proofs.lemmas.List.{map-append, take-append-drop}
+use Rattle.std.proofs.lemmas.List.{length-map, map-append, take-append-drop}
 use Rattle.std.proofs.lemmas.Nat.{mod_below}
 use mathlib.Core.Logic.{dite}
 use mathlib.Core.Option.{some, some-injective, some-ne-none}
@@ -31,7 +32,7 @@ use Rattle.trace_text.specs.declared.reply.Reply.{Reply}
 use Rattle.trace_text.specs.declared.reply.Reply.TheVariants as replies
 use Rattle.trace_run.specs.dbufs.CellEnds.{done_by}
 use Rattle.trace_run.specs.Deeds.{events_of_cell, lines_of_cell, noted_in}
-use Rattle.trace_run.specs.Lines.{is_of_caller}
+use Rattle.trace_run.specs.Lines.{is_of_caller, caller_of}
 use Rattle.trace_run.specs.dbufs.ObjectAnswers.{AreAnsweredByCells, IsAnsweredBy, LookedAt}
 use Rattle.trace_run.specs.dbufs.ObjectLines.{OnObject, cell_lines, on_object}
 use Rattle.trace_run.specs.dbufs.ObjectReplies.{ActsFor, AnswersObject, BringsAt}
@@ -42,6 +43,7 @@ use Rattle.trace_run.specs.callers.Together.{ends_group}
 use Rattle.trace_run.specs.callers.WorkLines.{IsWorkOf, NotesLine, noted_of_work}
 use Rattle.trace_run.proofs.CellLemmas.{entries-front, lines-are, opened-so, opening-same}
 use Rattle.trace_run.proofs.callers.CallerActLemmas.{caller-is}
+use Rattle.trace_run.proofs.callers.FoundLemmas.{by-object}
 use Rattle.trace_run.proofs.callers.MeetLemmas.{starts-then}
 use Rattle.trace_run.proofs.deeds.CellsDone.{noted-else}
 use Rattle.trace_run.proofs.theorem.LookCuts.{LookedAs, look-since, look-until}
@@ -59,6 +61,9 @@ slice-of (x ∷ xs) (suc i) c at = slice-of xs i c at
 -- entries of two lists of events
 pub entries-two : (a b : List CellEvent) → map line.Entry (map event_numbers (a ++ b)) ≡ map line.Entry (map event_numbers a) ++ map line.Entry (map event_numbers b)
 entries-two a b = ap (map line.Entry) (map-append event_numbers a b) ∙ map-append line.Entry (map event_numbers a) (map event_numbers b)
+
+entries-long : (h : List CellEvent) → length (map line.Entry (map event_numbers h)) ≡ length h
+entries-long h = length-map (map event_numbers h) line.Entry ∙ length-map h event_numbers
 
 -- a front of entries is the entries of as many events
 taken-front : (h : List CellEvent) (front rest : List Seen) → map line.Entry (map event_numbers h) ≡ front ++ rest → front ≡ map line.Entry (map event_numbers (take (length front) h))
@@ -137,10 +142,25 @@ module _ (cache : Cache) (valid : IsConfig cache.config) (ps : List PartyPlace) 
       (from : (n : ℕ) → n < g.callers → (p : PartyPlace) × (get_elem? crew n ≡ some p) × (w : Known OnHeap) × (get_elem? ends.views n ≡ some w) × EndsFrom g p.own.about.openings p.own.seen w) where
     -- how a line of n's looked
     abbrev Cut : (k n : ℕ) → n < g.callers → Oid → Line → Type 0
-    Cut k n below at l = LooksCut g len told (from n below).0.own.about.openings (from n below).0.own.seen ls h.level k n at l
+    Cut k n below at l = LooksCut g len told (from n below).0.own.about.openings (from n below).0.own.seen ls h.level (h.found n) k n at l
 
     cut-of : (k n : ℕ) (below : n < g.callers) (l : Line) → slice_get ls k ≡ Some l → is_of_caller n l.op ≡ true → IfSome (on_object l.op) (λ on. Cut k n below on.at l)
     cut-of k n below l at his = h.looks k n l (from n below).0 at his (from n below).1
+
+    -- how much of its cell's history each line found
+    abbrev found_his : (k : ℕ) → Option ℕ → ℕ
+    found_his k None = 0
+    found_his k (Some n) = length (h.found n k)
+
+    abbrev found_by : (k : ℕ) → Option Line → ℕ
+    found_by k None = 0
+    found_by k (Some l) = found_his k (caller_of l.op)
+
+    abbrev found : (k : ℕ) → ℕ
+    found k = found_by k (slice_get ls k)
+
+    found-is : (k n : ℕ) (l : Line) → slice_get ls k ≡ Some l → is_of_caller n l.op ≡ true → found k ≡ length (h.found n k)
+    found-is k n l at his = ap (found_by k) at ∙ ap (found_his k) (caller-is n l.op his)
 
     -- ---- one cell
 
@@ -207,8 +227,8 @@ module _ (cache : Cache) (valid : IsConfig cache.config) (ps : List PartyPlace) 
 
     -- ---- a line
 
-    looked : (k n : ℕ) (below : n < g.callers) (l : Line) (at : Oid) → Cut k n below at l → LookedAt g len told e.cells n ls k at l
-    looked k n below l at cut =
+    looked : (k n : ℕ) (below : n < g.callers) (l : Line) (at : Oid) → found k ≡ length (h.found n k) → Cut k n below at l → LookedAt g len told e.cells n ls found k at l
+    looked k n below l at far cut =
         let a = cut.from in
         let f = from n below in
         let i : ℕ = cell_of g.cells at in
@@ -225,6 +245,7 @@ module _ (cache : Cache) (valid : IsConfig cache.config) (ps : List PartyPlace) 
           there = slice-of e.cells i c (there-closed i range).1;
           front = a.cell.value.history;
           rest = r.0;
+          far = sym (entries-long a.cell.value.history) ∙ (ap (λ (s : List Seen). length s) cut.is ∙ sym far);
           whole = r.1 ∙ append_assoc a.cell.value.history notes r.0;
           mine = a.mine;
           since = λ m x v less lt at_x stops. all-since i range n below k l at refl cut m x v less at_x stops lt;
@@ -235,10 +256,29 @@ module _ (cache : Cache) (valid : IsConfig cache.config) (ps : List PartyPlace) 
           range = a.range;
         }
 
-    by-cell : (k n : ℕ) (below : n < g.callers) (l : Line) (o : Option OnObject) → IfSome o (λ on. Cut k n below on.at l) → IsAnsweredBy g len told e.cells n ls k o l
-    by-cell k n below l None cut = tt
-    by-cell k n below l (Some on) cut = looked k n below l on.at cut
+    by-cell : (k n : ℕ) (below : n < g.callers) (l : Line) (o : Option OnObject) → found k ≡ length (h.found n k) → IfSome o (λ on. Cut k n below on.at l) → IsAnsweredBy g len told e.cells n ls found k o l
+    by-cell k n below l None far cut = tt
+    by-cell k n below l (Some on) far cut = looked k n below l on.at far cut
+
+    -- of one caller's lines on blocks of a cell a later one found all that an earlier one had found, and what that one did
+    found-more : (j k n : ℕ) (below : n < g.callers) (x l : Line) (on_x on : OnObject) → j < k → slice_get ls j ≡ Some x → slice_get ls k ≡ Some l → is_of_caller n x.op ≡ true → is_of_caller n l.op ≡ true
+        → on_object x.op ≡ Some on_x → on_object l.op ≡ Some on → cell_of g.cells on_x.at ≡ cell_of g.cells on.at → found j + length (events_of_cell (cell_of g.cells on.at) x.work.noted) ≤ found k
+    found-more j k n below x l on_x on less at_x at_l his_x his_l is_x is_l same =
+        let cut : Cut j n below on_x.at x = by-object (λ (it : OnObject). Cut j n below it.at x) (on_object x.op) on_x is_x (cut-of j n below x at_x his_x) in
+        let i : ℕ = cell_of g.cells on_x.at in
+        let more : StartsWith (h.found n k) (cell_lines cut.from.cell ++ lines_of_cell i x.work.noted) = cut.later k l on less at_l his_l is_l (sym same) in
+        let all : length (h.found n k) ≡ length (cell_lines cut.from.cell) + length (lines_of_cell i x.work.noted) + length more.0 =
+        ap (λ (s : List Seen). length s) more.1 ∙ (length-append (cell_lines cut.from.cell ++ lines_of_cell i x.work.noted) more.0
+        ∙ ap (λ (z : ℕ). z + length more.0) (length-append (cell_lines cut.from.cell) (lines_of_cell i x.work.noted))) in
+        let old : length (cell_lines cut.from.cell) ≡ found j = ap (λ (s : List Seen). length s) cut.is ∙ sym (found-is j n x at_x his_x) in
+        let new : length (lines_of_cell i x.work.noted) ≡ length (events_of_cell (cell_of g.cells on.at) x.work.noted) = entries-long (events_of_cell i x.work.noted) ∙ ap (λ (c : ℕ). length (events_of_cell c x.work.noted)) same in
+        let now : found k ≡ length (h.found n k) = found-is k n l at_l his_l in
+        omega (arith, all, old, new, now)
 
     -- All lines of callers are answered by cells, by how they looked at them.
     pub all-by-cells : ((n : ℕ) (l : Line) (k : ℕ) → slice_get ls k ≡ Some l → is_of_caller n l.op ≡ true → n < g.callers) → AreAnsweredByCells g len told e.cells ls
-    all-by-cells below k n l at his = by-cell k n (below n l k at his) l (on_object l.op) (cut-of k n (below n l k at his) l at his)
+    all-by-cells below = record {
+      found = found;
+      each = λ k n l at his. by-cell k n (below n l k at his) l (on_object l.op) (found-is k n l at his) (cut-of k n (below n l k at his) l at his);
+      grow = λ j k n x l on_x on less at_x at_l his_x his_l is_x is_l same. found-more j k n (below n x j at_x his_x) x l on_x on less at_x at_l his_x his_l is_x is_l same;
+    }

@@ -1,5 +1,6 @@
 -- What a run over the shared cache came to is what its report has to say.
 use Rattle.std.proofs.lemmas.Option.{slice_get_within}
+use Rattle.std.specs.Prelude.{is_some}
 use Rattle.std.proofs.Common.{◌≡◌, ℕ, ◌+◌, ◌<◌, ◌≤◌, ◌^◌, false, true, List, [], ◌∷◌, length, Option, Some, None, IfSome, refl, sym, ap, subst, ◌∙◌, arith}
 use Rattle.arc_core.specs.declared.event.Event.{Event}
 use Rattle.arc_table.specs.Ended.{Ended}
@@ -94,8 +95,12 @@ module _ {P D : Type 0} (pools : Ghosts P) (devices : DeviceGhosts D) (before af
         first = place.1;
         told = λ k. pools.told before;
         told_front = λ k. refl;
-        objects = λ k n l at his. subst (λ (o : Option OnObject). IsAnsweredBy trace.config (pools.size before) (λ j. pools.told before) closed.cells n (plain_lines trace.ops replies) k o l)
-            (sym (plain-off trace.config trace.ops replies done k l at)) tt;
+        objects = record {
+          found = λ k. 0;
+          each = λ k n l at his. subst (λ (o : Option OnObject). IsAnsweredBy trace.config (pools.size before) (λ j. pools.told before) closed.cells n (plain_lines trace.ops replies) (λ j. 0) k o l)
+              (sym (plain-off trace.config trace.ops replies done k l at)) tt;
+          grow = λ j k n e l on_e on less at_e at_l his_e his_l is_e is_l same. absurd (false≢true (ap is_some (sym (plain-off trace.config trace.ops replies done j e at_e) ∙ is_e)));
+        };
         in_turn = λ _ further. absurd (false≢true (sym done ∙ further));
         together = λ two. absurd (omega (arith, two, one));
         idle = λ none. (refl, subst (λ (cs : List Call). MakesCalls pools cs before after) (no-calls replies (ran.answers.all ∙ ap length none)) ran.made);

@@ -30,7 +30,7 @@ use Rattle.trace_text.specs.declared.reply.Reply.{Reply}
 use Rattle.trace_text.specs.declared.reply.Reply.TheVariants as replies
 use Rattle.trace_run.specs.Acts.{acts_of}
 use Rattle.trace_run.specs.callers.CallerLines.{DidLine, at}
-use Rattle.trace_run.specs.Deeds.{HasAct, HasToldAll, KeepsCells, Noted, acts_of_events, events_there, lines_of_cell}
+use Rattle.trace_run.specs.Deeds.{CellsGrow, HasAct, HasToldAll, KeepsCells, Noted, acts_of_events, events_there, lines_of_cell}
 use Rattle.trace_run.specs.Effects.{Effect, Answered, calls_of, effect_of}
 use Rattle.trace_run.specs.KeptReads.{KeptRead}
 use Rattle.trace_run.specs.DeviceReads.{AsksFor, LineAsks, size_asked}
@@ -210,11 +210,12 @@ AnswersLines g pool_len image place blocks openings seen n had kept (l ∷ ls) =
     AnswersLine g pool_len image place blocks openings seen n had kept (on_object l.op) l
     × AnswersLines g pool_len image place blocks openings seen n (had ++ l.work.noted) (kept_after blocks l.op l.reply kept) ls
 
--- Each line on an object of these looked at its cell, which goes on from what was seen at first, over what the pool told then.
+-- Each line on an object of these looked at its cell, which goes on from what was seen right before it, over what the pool told then. What is seen behind one line is what the next one goes on from.
 abbrev pub LooksLines : Config → (pool_len : ℕ) → Option (List ℕ) → (openings : List (List ℕ)) → (begun seen : List (List Seen)) → (n : ℕ) → List Noted → List Line → Type 0
-LooksLines g pool_len image openings begun seen n had [] = Unit {0}
+LooksLines g pool_len image openings begun seen n had [] = CellsGrow g begun seen
 LooksLines g pool_len image openings begun seen n had (l ∷ ls) =
-    IfSome (on_object l.op) (λ on. LooksFrom g pool_len image openings begun seen n had on.at l) × LooksLines g pool_len image openings begun seen n (had ++ l.work.noted) ls
+    (next : List (List Seen)) × CellsGrow g begun next × IfSome (on_object l.op) (λ on. LooksFrom g pool_len image openings begun next n had on.at l)
+    × LooksLines g pool_len image openings next seen n (had ++ l.work.noted) ls
 
 -- the lines of these operations with these replies, each with some work
 abbrev pub AreLinesOf : List Op → List Reply → List Line → Type 0

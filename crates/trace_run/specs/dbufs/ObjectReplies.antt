@@ -164,7 +164,7 @@ pub record AnswersFrom (g : Config) (pool_len : ℕ) (image : Option (List ℕ))
   pub answer : AnswersObject pool_len image cell.value.limit cell.value.opening cell.value.history l.work.brought l.op l.reply
   pub range : TellsBrought image l.work.brought
 
--- The same, by a cell that goes on from what was seen of it at first.
+-- The same, by a cell that goes on from what was seen of it right before.
 pub record LooksFrom (g : Config) (pool_len : ℕ) (image : Option (List ℕ)) (openings : List (List ℕ)) (begun seen : List (List Seen)) (n : ℕ) (had : List Noted) (at : Oid) (l : Line) : Type 0 where
   pub from : AnswersFrom g pool_len image openings seen n had at l
   pub since : StartsWith (cell_lines from.cell) (front_of (cell_of g.cells at) begun)
