@@ -1,5 +1,5 @@
 -- How callers' lines on objects looked at cells, group by group: behind more lines of theirs, and behind a line that ends their group.
-use Rattle.std.proofs.Common.{◌≡◌, ◌⊎◌, ℕ, zero, suc, ◌+◌, ◌-◌, ◌<◌, ◌≤◌, nat_lt, Bool, true, false, if◌then◌else◌, List, [], ◌∷◌, ◌++◌, Option, Some, None, length, take, refl, sym, ap, ◌∙◌, subst, inl, inr, arith, append-nil, append_assoc, length-append, map}
+use Rattle.std.proofs.Common.{◌≡◌, ◌⊎◌, ℕ, ◌+◌, ◌-◌, ◌<◌, ◌≤◌, nat_lt, Bool, true, false, if◌then◌else◌, List, [], ◌∷◌, ◌++◌, Option, Some, None, length, take, refl, sym, ap, ◌∙◌, subst, inl, inr, arith, length-append}
 use Rattle.std.specs.Prelude.{IfSome, slice_get, slice_index_or}
 use Rattle.std.proofs.lemmas.Bool.{cases_lt, false≢true}
 use Rattle.std.proofs.lemmas.Bool.Decides.{nat_tests}
@@ -23,8 +23,7 @@ use Rattle.dbuf_state.specs.declared.oid.Oid.{Oid}
 use Rattle.trace_run.specs.Deeds.{KeepsCells, events_of_cell, lines_of_cell}
 use Rattle.trace_run.specs.Lines.{caller_of, is_of_caller}
 use Rattle.trace_run.specs.dbufs.ObjectLines.{OnObject, TellsBrought, cell_lines, on_object}
-use Rattle.trace_run.specs.dbufs.ObjectReplies.{AnswersObject, LooksFrom}
-use Rattle.trace_run.specs.Meeting.{HaveMet}
+use Rattle.trace_run.specs.dbufs.ObjectReplies.{AnswersObject}
 use Rattle.trace_run.specs.dbufs.Objects.{Line}
 use Rattle.trace_run.specs.RunWork.{lines_of_caller}
 use Rattle.trace_run.specs.callers.Looking.{HaveLooked, LooksCut}

@@ -12,7 +12,7 @@ use Rattle.dbuf_state.specs.declared.event.CellEvent.{CellEvent}
 use Rattle.trace_text.specs.declared.op.Op.{Op}
 use Rattle.trace_text.specs.declared.op.Op.TheVariants as ops
 use Rattle.trace_run.specs.dbufs.CellEnds.{done_by}
-use Rattle.trace_run.specs.Deeds.{events_of_cell, Noted}
+use Rattle.trace_run.specs.Deeds.{events_of_cell}
 use Rattle.trace_run.specs.Lines.{is_of_caller}
 use Rattle.trace_run.specs.dbufs.Objects.{Line}
 use Rattle.trace_run.specs.RunWork.{lines_of_caller}
