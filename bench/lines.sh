@@ -47,7 +47,7 @@ def objects(out):
         x = (x * 6364136223846793005 + 1442695040888963407) % 2**64
         i = (x >> 33) % 100_000
         at = f'{i % 100} {i // 100}'
-        out.write(f'get 0 {t} {at} 0 8\n' if x >> 63 else f'put 0 {t} {at} 512 {t % 256}\n')
+        out.write(f'get 0 {t} {at} 0 8\n' if x >> 63 else f'put 0 {t} {at} 512 {t % 256:02x}\n')
 
 
 def half_fed(out):
@@ -61,7 +61,7 @@ def half_fed(out):
         out.write(f'read 0 {t} {x} 0 0\n')
         if x % 512 == 511:
             out.write('feed\n')
-    out.writelines(f'read 0 {t + i} {x} 0 0\n' for i, x in enumerate(draws(blocks, 1_000_000 - blocks // 2)))
+    out.writelines(f'read 0 {t + 1 + i} {x} 0 0\n' for i, x in enumerate(draws(blocks, 1_000_000 - blocks // 2 - blocks // 1024)))
 
 
 LARGE = 6_144
