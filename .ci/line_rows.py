@@ -927,9 +927,118 @@ count hit 0 miss 2 past 0 pool 0 l2 2 pass 0 set 0
 rebuilt 2 zero
 end 0
 '''], Ring().feed(((512, 512, 1), CD), ((0, 512, 1), AB)).image),
+    Row('whatever a line asks of a block, other bytes than its pointer has are refused', ['run', '--events'], 512, '''\
+arc 1 1 16 1 4096 0 4096
+block 0 512 1 P
+object 7 0 0
+get 0 1 7 0 0 1
+pin 0 2 7 0
+patch 0 3 7 0 0 01
+''', 1, ['''\
+arc 1
+0 refused digest Z
+1 refused digest Z
+2 refused digest Z
+e 0 0 miss 0 0 512 1 1
+e 0 1 fail 0 0 512 1 pool
+e 0 2 miss 0 0 512 1 2
+e 0 3 fail 0 0 512 1 pool
+e 0 4 miss 0 0 512 1 3
+e 0 5 fail 0 0 512 1 pool
+shard 0 c 4096 p 2048 anon 0 mru 0 mrug 0 mfu 0 mfug 0 l2 0
+count hit 0 miss 3 past 0 pool 3 l2 0 pass 0 set 0
+end 1
+''']),
 ]
 
 SEVERAL = [
+    Row('other bytes than a pointer has are refused with two callers too', ['run', '--events'], 512, '''\
+arc 2 1 16 1 4096 0 4096
+block 0 512 1 P
+object 7 0 0
+get 0 1 7 0 0 1
+pin 0 2 7 0
+patch 0 3 7 0 0 01
+''', 1, ['''\
+arc 1
+0 refused digest Z
+1 refused digest Z
+2 refused digest Z
+e 0 0 miss 0 0 512 1 1
+e 0 1 fail 0 0 512 1 pool
+e 0 2 miss 0 0 512 1 2
+e 0 3 fail 0 0 512 1 pool
+e 0 4 miss 0 0 512 1 3
+e 0 5 fail 0 0 512 1 pool
+shard 0 c 4096 p 2048 anon 0 mru 0 mrug 0 mfu 0 mfug 0 l2 0
+count hit 0 miss 3 past 0 pool 3 l2 0 pass 0 set 0
+end 1
+''']),
+    Row('what is evicted is dropped before a capacity that comes behind', ['run', '--events'], 6144, '''\
+arc 2 1 16 1 8192 0 0
+block 0 2048 1 X
+block 2048 2048 1 X
+block 4096 2048 1 X
+object 7 0 0
+object 7 1 1
+object 7 2 2
+get 0 1 7 0 0 0
+get 0 2 7 1 0 0
+get 0 3 7 2 0 0
+cap 4096
+''', 0, ['''\
+arc 1
+0 got 2048 -
+1 got 2048 -
+2 got 2048 -
+3 cap 4096
+e 0 0 miss 0 0 2048 1 1
+e 0 1 arrive 0 0 2048 1 X pool
+e 0 2 hand 0 0 2048 1 3
+e 0 3 drop 3 0 2048 1
+e 0 4 miss 0 2048 2048 1 2
+e 0 5 arrive 0 2048 2048 1 X pool
+e 0 6 hand 0 2048 2048 1 3
+e 0 7 drop 3 2048 2048 1
+e 0 8 miss 0 4096 2048 1 3
+e 0 9 arrive 0 4096 2048 1 X pool
+e 0 10 hand 0 4096 2048 1 3
+e 0 11 drop 3 4096 2048 1
+e 0 12 resize 2 4096
+shard 0 c 4096 p 3840 anon 0 mru 4096 mrug 0 mfu 0 mfug 0 l2 0
+count hit 0 miss 3 past 0 pool 3 l2 0 pass 0 set 0
+end 0
+''']),
+    Row('a caller that has seen a block sees it again', ['run'], 512, '''\
+arc 2 1 16 1 4096 0 4096
+put 0 1 7 0 512 ab
+get 1 2 7 0 2000 1
+get 1 3 7 0 0 0
+''', 1, ['''\
+arc 1
+0 done
+1 refused window 2001 512
+2 got 512 -
+shard 0 c 4096 p 2048 anon 0 mru 0 mrug 0 mfu 0 mfug 0 l2 0
+count hit 0 miss 0 past 0 pool 0 l2 0 pass 0 set 0
+end 1
+''', '''\
+arc 1
+0 done
+1 refused block 7 0
+2 got 512 -
+shard 0 c 4096 p 2048 anon 0 mru 0 mrug 0 mfu 0 mfug 0 l2 0
+count hit 0 miss 0 past 0 pool 0 l2 0 pass 0 set 0
+end 1
+''', '''\
+arc 1
+0 done
+1 refused block 7 0
+2 refused block 7 0
+shard 0 c 4096 p 2048 anon 0 mru 0 mrug 0 mfu 0 mfug 0 l2 0
+count hit 0 miss 0 past 0 pool 0 l2 0 pass 0 set 0
+end 1
+''']),
     Row('two callers show one block of an object, and one of them reads the pool', ['run'], 512, '''\
 arc 2 1 16 1 4096 0 4096
 block 0 512 1 Z
