@@ -1,14 +1,18 @@
 -- The lines of a history that one party made.
-use Rattle.std.specs.Prelude.{◌≡◌, ℕ, suc, ◌<◌, ◌==◌, ◌&&◌, Bool, if◌then◌else◌, length, map, List, [], ◌∷◌}
+use Rattle.std.specs.Prelude.{◌≡◌, ℕ, suc, ◌<◌, ◌==◌, ◌&&◌, Bool, true, if◌then◌else◌, length, map, List, [], ◌∷◌}
 use Rattle.std.specs.List.{list_any}
+use mathlib.Core.Option.{some}
+use lib.ListN.{get_elem?}
 use Rattle.turn_table.specs.Places.{Place}
 use Rattle.arc_core.specs.declared.config.Config.{Config}
 use Rattle.arc_core.specs.declared.event.Event.{Event}
+use Rattle.arc_core.specs.Operations.{is_pass, number_of}
 use Rattle.arc_table.specs.declared.view.Known.{Known}
 use Rattle.arc_table.specs.declared.view.Line.{Line}
 use Rattle.arc_table.specs.declared.view.Line.TheVariants as line
 use Rattle.arc_table.specs.declared.view.Mine.{Mine}
 use Rattle.arc_table.specs.Fronts.{front_of}
+use Rattle.arc_table.specs.Geometry.{parties_of}
 use Rattle.arc_table.specs.Seen.{events_in, seen_of, turn_of}
 
 -- a line stands at this place of the history of this turn
@@ -38,6 +42,10 @@ module _ {C : Type 0} where
   pub record IsMaker (g : Config) (shard : ℕ) (owner : ℕ → ℕ) (n : ℕ) (p : Place (Known C)) : Type 0 where
     pub events : front_of (turn_of g shard) p.own.seen ≡ map line.Event (seen_of g shard p)
     pub made : (place : ℕ) → place < length (front_of (turn_of g shard) p.own.seen) → is_listed (turn_of g shard) place p.own.mine ≡ (owner place == n)
+
+-- each pass of this history has the number of its place's owner, which is a party
+abbrev pub OwnPasses : Config → (owner : ℕ → ℕ) → (history : List Event) → Type 0
+OwnPasses g owner history = (place : ℕ) (e : Event) → get_elem? history place ≡ some e → is_pass e ≡ true → (number_of e ≡ owner place) × (owner place < parties_of g)
 
 -- those of these, which stand from this place on, that are n's, where each place has an owner
 abbrev pub owned_from : {A : Type 0} → (owner : ℕ → ℕ) → (n place : ℕ) → List A → List A

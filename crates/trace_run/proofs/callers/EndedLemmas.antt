@@ -18,13 +18,13 @@ use Rattle.arc_core.specs.declared.config.Config.{Config}
 use Rattle.arc_core.specs.declared.event.Event.{Event}
 use Rattle.arc_core.specs.declared.event.Event.TheVariants.{Resize}
 use Rattle.arc_core.specs.declared.served.Restored.{Restored}
-use Rattle.arc_core.specs.Operations.{Act, Tell, acts_in, moments, own_events, own_moments}
+use Rattle.arc_core.specs.Operations.{Act, Tell, acts_in, moments, number_of, own_events, own_moments}
 use Rattle.arc_table.specs.Cache.{Cache}
 use Rattle.arc_table.specs.declared.view.Line.{Line as Seen}
 use Rattle.arc_table.specs.Fronts.{StartsWith, front_of}
 use Rattle.arc_table.specs.Geometry.{IsCell, cell_number, parties_of}
 use Rattle.arc_table.specs.Seen.{seen_of, turn_of}
-use Rattle.arc_table.specs.TableLaws.{starts_whole, within}
+use Rattle.arc_table.specs.TableLaws.{get_front, starts_whole, within}
 use Rattle.arc_table.specs.Telling.{opening_of}
 use Rattle.dbuf_cells.specs.Turns.{OnHeap}
 use Rattle.l2_feed.specs.Series.{GivesNone}
@@ -59,8 +59,10 @@ use Rattle.trace_run.proofs.deeds.DeedLemmas.{others-still}
 use Rattle.trace_run.proofs.feeds.FedLemmas.{as-told, lines-append, one-asked, ops-are, told-still}
 use Rattle.trace_run.proofs.feeds.SeriesLemmas.{sees-by}
 use Rattle.trace_run.proofs.one_caller.TellLemmas.{all-append}
+use Rattle.trace_run.specs.Making.{AreEventsSeen}
 use Rattle.trace_run.specs.MadeLines.{IsMaker, is_listed, made_in, owned_from}
-use Rattle.trace_run.proofs.callers.MakerLemmas.{events-few, maker-before, maker-owned}
+use Rattle.trace_run.proofs.callers.MakerLemmas.{GoesBehind, GoesOnOf, events-few, maker-before, maker-goes, maker-owned, passes-before}
+use Rattle.trace_run.proofs.theorem.PlacedLemmas.{EachGoesOn, placed-of}
 use Rattle.trace_run.proofs.deeds.MakesLemmas.{seen-below}
 
 -- ---- the work so far, and more
@@ -215,6 +217,7 @@ module _ {P D : Type 0} (pools : Ghosts P) (devices : Devices D) (cache : Cache)
           let x = parted-at cache made.lines n old.parties.items new.parties.items b.party made.parted b.at.party_at in
           subst (IsMaker g shard owner n) (some-injective b.party p (sym b.at.party_at ∙ at)) (maker-before g shard owner n b.party x.0 (x.2.same b.reads b.come.waits.stands).keeps (makers.callers n x.0 x.1));
       feeder = maker-before g shard owner g.callers old.feeder new.feeder made.keeps makers.feeder;
+      passes = passes-before g owner (seen_of g shard old.feeder) (seen_of g shard new.feeder) (grown shard) makers.passes;
     }
 
     -- what each party had done with the numbers of cells stands before it
@@ -267,6 +270,39 @@ module _ {P D : Type 0} (pools : Ghosts P) (devices : Devices D) (cache : Cache)
             ≡ acts_in (shard_of g.shards) shard (cell_number g i) (acts_of_work g blocks [] (lines_of_feeder w.lines))) (sym last) (feeder-cells i range))
       ]
 
+      -- a pass that a party made before it is followed there by an event with which the party's scan goes on
+      caller-quiet : (n : ℕ) → n < g.callers → GoesOnOf n (made.front shard) owner
+      caller-quiet n caller place e at pass his =
+          let b = before.each n caller in
+          let x = parted-at cache made.lines n old.parties.items new.parties.items b.party made.parted b.at.party_at in
+          let was = (makers-old shard owner makers).callers n b.party b.at.party_at in
+          let is = makers.callers n x.0 x.1 in
+          let same = ap length (x.2.level shard) in
+          let inside = within (made.front shard) place e at in
+          maker-goes g shard n b.party (made.front shard) was.events (subst (λ (k : ℕ). AreEventsSeen g k b.party.own.mine b.party.own.seen) b.come.waits.number b.come.waits.stands.seen.own)
+          (all-at _ old.parties.items n b.party (made.others_since shard) b.at.party_at) place e at pass
+          (ap (is_listed (turn_of g shard) place) (sym x.2.mine) ∙ (is.made place (let few = front-few in omega (arith, inside, few, same)) ∙ eq-eqb (owner place) n his))
+
+      feeder-quiet : GoesOnOf g.callers (made.front shard) owner
+      feeder-quiet place e at pass his =
+          let was = (makers-old shard owner makers).feeder in
+          let same = ap length (made.level shard) in
+          let inside = within (made.front shard) place e at in
+          maker-goes g shard g.callers old.feeder (made.front shard) was.events (subst (λ (k : ℕ). AreEventsSeen g k old.feeder.own.mine old.feeder.own.seen) feeder-number before.feeder.stands.seen.own)
+          (made.since shard) place e at pass
+          (sym (made.behind shard place inside) ∙ (makers.feeder.made place (let few = front-few in omega (arith, inside, few, same)) ∙ eq-eqb (owner place) g.callers his))
+
+      -- each pass that stands before it is followed there by what it was passed for
+      front-quiet : EachGoesOn (made.front shard)
+      front-quiet place e at pass =
+          let own = makers.passes place e (ap (λ (es : List Event). get_elem? es place) (made.seen shard) ∙ get_front (made.front shard) (more shard) place e at) pass in
+          let goes : (n : ℕ) → GoesOnOf n (made.front shard) owner → owner place ≡ n → GoesBehind (number_of e) (made.front shard) place =
+          λ n each his. subst (λ (k : ℕ). GoesBehind k (made.front shard) place) (sym (own.0 ∙ his)) (each place e at pass his) in
+          elim (cases_lt (owner place) g.callers) [
+            | inl caller ↦ goes (owner place) (caller-quiet (owner place) caller) refl
+            | inr above ↦ goes g.callers feeder-quiet (let party = own.1 in omega (arith, above, party))
+          ]
+
     -- what stands before it
     cut-at : (shard : ℕ) → shard < g.shards → (owner : (place : ℕ) → ℕ) → AreMakers g shard owner new → (here : List Event → List Event) → more shard ≡ here (made.front shard) → IsCut g restored blocks shard owner w.lines w.feeds work.acts here (seen_of g shard new.feeder)
     cut-at shard below owner makers here is =
@@ -284,6 +320,7 @@ module _ {P D : Type 0} (pools : Ghosts P) (devices : Devices D) (cache : Cache)
           feeder = front-own shard below ∙ sym (λ i. events_by_feeder g restored (are.0 i) (are.1 i) w.feeds shard);
           cells = party-cells shard owner makers;
           inserted = λ i range. made.inserted shard i range ∙ ap (λ (es : List Event). acts_of_events (with_number (cell_number g i) es)) is;
+          quiet = placed-of (made.front shard) (front-quiet shard owner makers);
         }
 
     -- it has made these events more, which the lines ask of it

@@ -58,6 +58,7 @@ module _ (config : Config) (restored : List Restored) (blocks : List Ptr) (shard
     feeder = cut.feeder;
     cells = cut.cells;
     inserted = cut.inserted;
+    quiet = cut.quiet;
   }
 
   pub cuts-more : (ls : List Line) (fs : List FeedDone) (h g : List Event) → StartsWith g h → Cuts config restored blocks shard owner ls fs h → Cuts config restored blocks shard owner ls fs g
@@ -74,6 +75,7 @@ module _ (config : Config) (restored : List Restored) (blocks : List Ptr) (shard
     feeder = cut.feeder ∙ ap (λ (l : List Event). restores_in config restored shard ++ l) (sym (lines-enough config shard (ops_of ls) (replies_of ls) fs gs few));
     cells = cut.cells;
     inserted = cut.inserted;
+    quiet = cut.quiet;
   }
 
   front-told : (k : ℕ) (ls : List Line) → feeds_told (ops_of (take k ls)) (replies_of (take k ls)) ≤ feeds_told (ops_of ls) (replies_of ls)

@@ -48,7 +48,7 @@ use Rattle.trace_run.proofs.callers.MeetLemmas.{starts-then}
 use Rattle.trace_run.proofs.feeds.FedLemmas.{HasFedMore, as-told, ends-beside, fed-again, fed-beside, group-acts, group-noted, ops-are, told-beside, told-then}
 use Rattle.trace_run.proofs.one_caller.TellLemmas.{all-append}
 use Rattle.trace_run.specs.MadeLines.{IsMaker}
-use Rattle.trace_run.proofs.callers.MakerLemmas.{maker-before}
+use Rattle.trace_run.proofs.callers.MakerLemmas.{maker-before, passes-before}
 use Rattle.arc_table.specs.TableLaws.{within}
 
 -- ---- the work so far, and more
@@ -227,6 +227,7 @@ module _ {P D : Type 0} (cache : Cache) (restored : List Restored) (pools : Ghos
         let h = worked.each n (within old.parties.items n p at) in
         subst (IsMaker g shard owner n) (some-injective h.from p (sym h.before.party_at ∙ at)) (maker-before g shard owner n h.from h.to h.worked.cells (makers.callers n h.to h.after.party_at));
     feeder = maker-before g shard owner g.callers old.feeder new.feeder fed.same.keeps makers.feeder;
+    passes = passes-before g owner (seen_of g shard old.feeder) (seen_of g shard new.feeder) (fed.starts shard) makers.passes;
   }
 
   cut-lines : (shard : ℕ) → shard < g.shards → (owner : (place : ℕ) → ℕ) → AreMakers g shard owner new → AreCut g restored blocks shard owner after (seen_of g shard new.feeder)

@@ -41,7 +41,7 @@ use Rattle.trace_run.proofs.deeds.ClosedDeeds.{cell-told}
 use Rattle.trace_run.proofs.deeds.MadeCells.{made-owned, owned-map, listed-is}
 use Rattle.trace_run.proofs.deeds.MakesLemmas.{seen-below, starts-long}
 use Rattle.trace_run.proofs.theorem.CloseLemmas.{get-map, value-at}
-use Rattle.trace_run.proofs.callers.MakerLemmas.{events-front}
+use Rattle.trace_run.proofs.callers.MakerLemmas.{event-back, event-same, events-front}
 
 -- ---- lists of events
 
@@ -128,14 +128,6 @@ acts-each P (e ∷ es) all = let both = halves (act_of_event e) (acts_of_events 
 neither : (a b : Bool) → b ≡ false → (a && b) ≡ false
 neither true b is = is
 neither false b is = refl
-
-event-same : (a b : Event) → line.Event a ≡ line.Event b → a ≡ b
-event-same a b is = cc
-
-event-back : (es : List Event) (x : ℕ) (y : Event) → get_elem? (map line.Event es) x ≡ some (line.Event y) → get_elem? es x ≡ some y
-event-back [] x y is = absurd (some-ne-none (line.Event y) (sym is))
-event-back (z ∷ zs) zero y is = ap some (event-same z y (some-injective (line.Event z) (line.Event y) is))
-event-back (z ∷ zs) (suc x) y is = event-back zs x y is
 
 -- lines of a shard are events, as far as they were seen
 front-long : (front rest : List Line) (h : List Event) → map line.Event h ≡ front ++ rest → length (events_in front) ≡ length front

@@ -74,8 +74,8 @@ use Rattle.trace_run.proofs.theorem.EndLemmas.{shown-at}
 use Rattle.trace_run.proofs.theorem.LineAnswers.{IsOfOne, lines-answered, own-lines-of}
 use Rattle.trace_run.proofs.theorem.WorkEnds.{HasEndedWork, IsCallersAct, acts-same, own-told, reads-counted, work-explains, work-level}
 use Rattle.trace_run.proofs.deeds.MakesLemmas.{later-then}
-use Rattle.trace_run.specs.MadeLines.{IsMaker}
-use Rattle.trace_run.proofs.callers.MakerLemmas.{maker-before}
+use Rattle.trace_run.specs.MadeLines.{IsMaker, OwnPasses}
+use Rattle.trace_run.proofs.callers.MakerLemmas.{maker-before, passes-before}
 
 -- ---- lines that are not answered add nothing
 
@@ -154,6 +154,7 @@ one-cut-more g restored blocks shard owner lines fs acts here front history star
   feeder = c.feeder;
   cells = c.cells;
   inserted = c.inserted;
+  quiet = c.quiet;
 }
 
 -- ---- acts
@@ -342,9 +343,9 @@ module _ (cache : Cache) (valid : IsConfig cache.config) (restored : List Restor
   pub did-work : IsRunWork g os rs ended-work
   did-work = record { lines = come.did.lines; fits = come.did.fits; stopped = come.did.stopped; fed = come.did.fed; ended = c.ended.are }
 
-  -- each party that closed the cache made what it is the owner of
+  -- each party that closed the cache made what it is the owner of, and the passes of a history have their owners' numbers
   abbrev pub HaveMade : ((shard place : ℕ) → ℕ) → Type 0
-  HaveMade owner = (i : ℕ) (l : ShardLog) → get_elem? closed.shards i ≡ some l → (n : ℕ) (p : PartyPlace) → get_elem? h.closing n ≡ some p → IsMaker g i (owner i) n p
+  HaveMade owner = (i : ℕ) (l : ShardLog) → get_elem? closed.shards i ≡ some l → ((n : ℕ) (p : PartyPlace) → get_elem? h.closing n ≡ some p → IsMaker g i (owner i) n p) × OwnPasses g (owner i) l.history
 
   -- ---- the cells
 
@@ -442,10 +443,11 @@ module _ (cache : Cache) (valid : IsConfig cache.config) (restored : List Restor
         let there_is : get_elem? c.callers n ≡ some q.0 = ap (λ (l : List PartyPlace). get_elem? l n) same-parties.0 ∙ q.1 in
         let r = parted-cells c.callers c.parted n q.0 c.ended.parted (λ k o at. (caller-waits k o at).1.stands) there_is in
         let last : get_elem? h.closing n ≡ some r.0 = ap (λ (l : List PartyPlace). get_elem? l n) c.then ∙ get_front c.parted (c.last ∷ []) n r.0 r.1 in
-        maker-before g i (owner i) n p r.0 (starts-cells p q.0 r.0 q.2 r.2) (made i l at n r.0 last);
+        maker-before g i (owner i) n p r.0 (starts-cells p q.0 r.0 q.2 r.2) ((made i l at).0 n r.0 last);
     feeder =
         let keeps : KeepsCells g crew.feeder c.feeder = subst (KeepsCells g crew.feeder) (sym same-parties.1) gave.fed_cells in
-        maker-before g i (owner i) g.callers crew.feeder c.last (starts-cells crew.feeder c.feeder c.last keeps c.ended.keeps) (made i l at g.callers c.last last-at);
+        maker-before g i (owner i) g.callers crew.feeder c.last (starts-cells crew.feeder c.feeder c.last keeps c.ended.keeps) ((made i l at).0 g.callers c.last last-at);
+    passes = passes-before g (owner i) (seen_of g i crew.feeder) l.history (since i l at) (made i l at).1;
   }
 
   pub run-cut : (owner : (shard place : ℕ) → ℕ) → HaveMade owner → (i : ℕ) (l : ShardLog) → get_elem? closed.shards i ≡ some l → AreCut g restored blocks i (owner i) ended-work l.history

@@ -62,7 +62,7 @@ use Rattle.trace_run.proofs.theorem.FeederKinds.{feeder-kinds, is_of_feeder}
 use Rattle.trace_run.proofs.theorem.HistoryLemmas.{all-events, own-events}
 use Rattle.trace_run.proofs.theorem.PlacedLemmas.{all-by-place, placed-of}
 use Rattle.trace_run.proofs.theorem.RestLemmas.{closed-rests, settled-picked}
-use Rattle.trace_run.specs.MadeLines.{IsMaker}
+use Rattle.trace_run.specs.MadeLines.{IsMaker, OwnPasses}
 
 -- ---- which events may stand in a history
 
@@ -510,12 +510,15 @@ module _ {C : Type 0} (m : Meanings C) (cache : Cache) (restored : List Restored
       let below : n < parties_of settled = subst (λ (x : ℕ). n < x) long (within ps n p is) in
       subst (IsMaker settled i (owner i) n) (some-injective (party n below).0 p (sym (party n below).1 ∙ is)) (maker-there m cache ps e ends config did (noted_by settled work) made i l at n below)
 
+  passes-of : (i : ℕ) (l : ShardLog) → get_elem? e.shards i ≡ some l → OwnPasses settled (owner i) l.history
+  passes-of i l at x ev here pass = (pass-own m cache ps e ends config did (noted_by settled work) made i l at x ev here pass, owner-party m cache ps e ends config did (noted_by settled work) made i l at x ev here)
+
   -- The histories explain the replies and the work, where each begins with the restores and ends with the drops at the end of the run. The owners of events are those that
-  -- made them.
+  -- made them, and passes have their numbers.
   pub work-explains : ((j : ℕ) (c : C) → get_elem? e.cells j ≡ some c → m.holds c ≡ []) → ((i : ℕ) (l : ShardLog) → get_elem? e.shards i ≡ some l → BeginsWithEvents l.history (restores_in settled restored i))
       → ((i : ℕ) (l : ShardLog) → get_elem? e.shards i ≡ some l → EndsWith l.history (drops_at_end settled blocks i settled.callers ops replies ++ events_there settled i work.ended))
       → (x : Explain (record { config = settled; blocks = blocks; objects = []; ops = ops }) restored work replies (map (λ log. end_of log.now) e.shards) histories)
-      × ((i : ℕ) (l : ShardLog) → get_elem? e.shards i ≡ some l → (n : ℕ) (p : Place (Known C)) → get_elem? ps n ≡ some p → IsMaker settled i (x.owner i) n p)
+      × ((i : ℕ) (l : ShardLog) → get_elem? e.shards i ≡ some l → ((n : ℕ) (p : Place (Known C)) → get_elem? ps n ≡ some p → IsMaker settled i (x.owner i) n p) × OwnPasses settled (x.owner i) l.history)
   work-explains emptied begun_so ends_so = (
     record {
       shards = length-map e.shards (λ (log : ShardLog). log.history) ∙ ends.shards;
@@ -530,5 +533,5 @@ module _ {C : Type 0} (m : Meanings C) (cache : Cache) (restored : List Restored
           let h = log-at e.shards i inside in
           subst (λ (es : List Event). EndsWith es (drops_at_end settled blocks i settled.callers ops replies ++ events_there settled i work.ended)) (sym h.2) (ends_so i h.0 h.1);
     },
-    maker-of,
+    λ i l at. (maker-of i l at, passes-of i l at),
   )

@@ -53,7 +53,7 @@ use Rattle.trace_run.specs.callers.DeviceForks.{UsedInGroups}
 use Rattle.trace_run.specs.callers.Looking.{HaveLooked}
 use Rattle.trace_run.specs.callers.WorkLines.{AnswersLines, AreLinesOf, HasFront, acts_of_work, calls_of_lines, noted_of_work}
 use Rattle.trace_run.specs.callers.Together.{AreCut, BeginsGroup, BetweenGroups, IsCutLast, IsFirstPlace, StoppedAt, StopsSync, WorkInGroups, between_groups, groups_done, over_callers}
-use Rattle.trace_run.specs.MadeLines.{IsMaker}
+use Rattle.trace_run.specs.MadeLines.{IsMaker, OwnPasses}
 use mathlib.Core.Option.{some}
 use lib.ListN.{get_elem?}
 
@@ -88,10 +88,11 @@ module _ {C : Type 0} where
     pub at : IsAt n crew.kept.items crew.parties.items reads party
     pub come : HasCome cache pool_len image place blocks n lines reads party
 
-  -- each place of a shard's history, as far as the parties of a crew have seen it, has the one of them as its owner that made what stands there
+  -- Each place of a shard's history, as far as the parties of a crew have seen it, has the one of them as its owner that made what stands there. A pass has its number.
   pub record AreMakers (g : Config) (shard : ℕ) (owner : (place : ℕ) → ℕ) (crew : Crew C) : Type 0 where
     pub callers : (n : ℕ) (p : Place (Known C)) → get_elem? crew.parties.items n ≡ some p → IsMaker g shard owner n p
     pub feeder : IsMaker g shard owner g.callers crew.feeder
+    pub passes : OwnPasses g owner (seen_of g shard crew.feeder)
 
   -- All callers and the feeder have come to this by these lines, with this work beside their replies, where these keys were restored. What the feeder
   -- has seen of each shard begins with the restores, and is cut by the lines that end groups.

@@ -1,6 +1,6 @@
 -- A run of several callers, group by group: which operations were answered, what each caller's work did to its forks of the pool, and what the closed
 -- cache tells.
-use Rattle.std.specs.Prelude.{◌≡◌, ◌⊎◌, Ok, Err, ℕ, zero, suc, ◌+◌, ◌<◌, ◌≤◌, ◌==◌, ◌&&◌, Bool, true, false, if◌then◌else◌, List, [], ◌∷◌, ◌++◌, Option, None, Some, count_by, length, map, slice_get, slice_index_or, sum_by, take}
+use Rattle.std.specs.Prelude.{◌≡◌, ◌⊎◌, Ok, Err, ℕ, zero, suc, ◌+◌, ◌<◌, ◌≤◌, ◌==◌, ◌&&◌, Bool, IsTrue, true, false, if◌then◌else◌, List, [], ◌∷◌, ◌++◌, Option, None, Some, count_by, length, map, slice_get, slice_index_or, sum_by, take}
 use Rattle.blk_ptr.specs.declared.ptr.Ptr.{Ptr}
 use Rattle.blk_ptr.specs.Hash.{shard_of}
 use Rattle.blk_ptr.specs.Key.{IsValid, key_end}
@@ -8,7 +8,7 @@ use Rattle.arc_core.specs.declared.config.Config.{Config}
 use Rattle.arc_core.specs.declared.event.Event.{Event}
 use Rattle.arc_core.specs.declared.event.Event.TheVariants.{Resize}
 use Rattle.arc_core.specs.declared.served.Restored.{Restored}
-use Rattle.arc_core.specs.Operations.{Act, Tell, acts_in, is_pool_read, moments, number_of, own_events, own_moments}
+use Rattle.arc_core.specs.Operations.{Act, Tell, acts_in, are_passes_placed, is_pool_read, moments, number_of, own_events, own_moments}
 use Rattle.arc_table.specs.Geometry.{IsCell, cell_number, parties_of}
 use Rattle.arc_table.specs.Telling.{opening_of}
 use Rattle.arc_table.specs.Ended.{Ended}
@@ -290,6 +290,8 @@ pub record IsCut (config : Config) (restored : List Restored) (blocks : List Ptr
   pub cells : (n i : ℕ) → n < parties_of config → IsCell config i → acts_of_events (with_number (cell_number config i) (owned_from owner n 0 front))
       ≡ acts_in (shard_of config.shards) shard (cell_number config i) (acts_of_work config blocks [] (lines_of_party config n lines))
   pub inserted : (i : ℕ) → IsCell config i → acts_in (shard_of config.shards) shard (cell_number config i) acts ≡ acts_of_events (with_number (cell_number config i) (here front))
+  -- nobody passes anybody just before these events: each pass of the front is followed there by what it was passed for
+  pub quiet : IsTrue (are_passes_placed front)
 
 -- Each line of these that ends a group cuts the history of a shard behind the lines before it. There stands what the line asks of the feeder.
 abbrev pub AreCut : Config → List Restored → List Ptr → (shard : ℕ) → (owner : (place : ℕ) → ℕ) → RunWork → (history : List Event) → Type 0
