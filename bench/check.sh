@@ -14,8 +14,11 @@ lint=$here/../crates/arc_lint/out/arc_lint
 work=$(mktemp -d)
 trap 'rm -rf "$work"' EXIT
 rustc --edition 2024 -O -o "$work/arc_judge" "$here/../compare/arc_judge.rs"
-python3 - "$tool" "$lint" "$work/arc_judge" "$work" <<'PY'
-import hashlib, os, subprocess, sys
+PYTHONPATH="$here" PYTHONDONTWRITEBYTECODE=1 python3 - "$tool" "$lint" "$work/arc_judge" "$work" <<'PY'
+import functools, hashlib, subprocess, sys
+
+import beside
+from beside import same
 
 tool, lint, plain, work = sys.argv[1:]
 ZEROS = hashlib.sha256(bytes(512)).hexdigest()
@@ -39,23 +42,7 @@ def write_log(report, log):
         out.writelines(line for line in lines if line.startswith('e ') and int(line.split(' ', 3)[2]) < EVENTS // SHARDS)
 
 
-def run(words, given, told):
-    """The seconds of processor time and the peak kilobytes of one run."""
-    child = os.fork()
-    if child == 0:
-        os.dup2(os.open(given, os.O_RDONLY), 0)
-        os.dup2(os.open(told, os.O_WRONLY | os.O_CREAT | os.O_TRUNC, 0o600), 1)
-        os.execv(words[0], words)
-    _, status, usage = os.wait4(child, 0)
-    assert os.waitstatus_to_exitcode(status) in (0, 10), f'{words} ended with {os.waitstatus_to_exitcode(status)}'
-    return usage.ru_utime + usage.ru_stime, usage.ru_maxrss
-
-
-def same(a, b):
-    with open(a, 'rb') as a, open(b, 'rb') as b:
-        return a.read() == b.read()
-
-
+run = functools.partial(beside.run, ends=(0, 10))  # a log with a fault ends with 10
 pool, trace, report, log = (f'{work}/{name}' for name in ('pool', 'trace', 'report', 'log'))
 with open(pool, 'wb') as out:
     out.truncate(BLOCKS * 512)

@@ -11,11 +11,13 @@ tool=$here/../crates/arc_tool/out/arc_tool
 work=$(mktemp -d)
 trap 'rm -rf "$work"' EXIT
 rustc --edition 2024 -O -o "$work/arc_sim" "$here/../compare/arc_sim.rs"
-python3 - "$tool" "$work/arc_sim" "$work" "${ROUNDS:-3}" <<'PY'
+PYTHONPATH="$here" PYTHONDONTWRITEBYTECODE=1 python3 - "$tool" "$work/arc_sim" "$work" "${ROUNDS:-3}" <<'PY'
 import hashlib
 import os
 import shutil
 import sys
+
+from beside import figures, run, same
 
 tool, plain, work = sys.argv[1:4]
 rounds = int(sys.argv[4])
@@ -87,28 +89,6 @@ def fresh(path, size):
         out.truncate(size)
 
 
-def run(program, pool, device, trace, report):
-    """The seconds of processor time and the peak kilobytes of one run."""
-    child = os.fork()
-    if child == 0:
-        os.dup2(os.open(trace, os.O_RDONLY), 0)
-        os.dup2(os.open(report, os.O_WRONLY | os.O_CREAT | os.O_TRUNC, 0o600), 1)
-        os.execv(program, [program, pool, device, 'run'])
-    _, status, usage = os.wait4(child, 0)
-    assert os.waitstatus_to_exitcode(status) == 0, f'{program} ended with {os.waitstatus_to_exitcode(status)}'
-    return usage.ru_utime + usage.ru_stime, usage.ru_maxrss
-
-
-def same(a, b):
-    with open(a, 'rb') as a, open(b, 'rb') as b:
-        while True:
-            x, y = a.read(1 << 20), b.read(1 << 20)
-            if x != y:
-                return False
-            if not x:
-                return True
-
-
 def device_of(side):
     return f'{work}/device.{side}'
 
@@ -119,7 +99,7 @@ def turn(side, program, device, kept):
         shutil.copyfile(f'{work}/device.kept', device_of(side))
     elif device:
         fresh(device_of(side), device)
-    return run(program, f'{work}/pool', device_of(side) if device else '-', f'{work}/trace', f'{work}/{side}')
+    return run([program, f'{work}/pool', device_of(side) if device else '-', 'run'], f'{work}/trace', f'{work}/{side}')
 
 
 cases = [('gets and puts, 100,000 blocks', objects, 100_000 * 512, 0, False),
@@ -138,8 +118,7 @@ for name, write, pool, device, kept in cases:
         differing.append(name)
     if device and not kept:
         os.replace(device_of('ours'), f'{work}/device.kept')
-    print(f'{name:32}{ours[0]:9.2f} s {ours[1] / 1024:5.0f} MB{theirs[0]:9.2f} s {theirs[1] / 1024:5.0f} MB'
-          f'{ours[0] / theirs[0]:7.2f} {ours[1] / theirs[1]:6.2f}')
+    print(f'{name:32}{figures(ours, theirs)}')
     with open(f'{work}/ours') as report:
         print('    ' + [line for line in report if line.startswith('count')][0].strip())
 if differing:

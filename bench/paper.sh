@@ -10,8 +10,10 @@ tool=$here/../crates/arc_tool/out/arc_tool
 work=$(mktemp -d)
 trap 'rm -rf "$work"' EXIT
 rustc --edition 2024 -O -o "$work/arc_paper" "$here/../compare/arc_paper.rs"
-python3 - "$tool" "$work/arc_paper" "$work" <<'PY'
+PYTHONPATH="$here" PYTHONDONTWRITEBYTECODE=1 python3 - "$tool" "$work/arc_paper" "$work" <<'PY'
 import os, random, sys
+
+from beside import figures, run, same
 
 tool, plain, work = sys.argv[1:]
 PAGES = 1_000_000
@@ -30,27 +32,10 @@ def skewed(capacity):
     return (int(PAGES * rng.random() ** 4) for _ in range(PAGES))
 
 
-def run(words, pages, told):
-    """The seconds of processor time and the peak kilobytes of one run."""
-    child = os.fork()
-    if child == 0:
-        os.dup2(os.open(pages, os.O_RDONLY), 0)
-        os.dup2(os.open(told, os.O_WRONLY | os.O_CREAT | os.O_TRUNC, 0o600), 1)
-        os.execv(words[0], words)
-    _, status, usage = os.wait4(child, 0)
-    assert os.waitstatus_to_exitcode(status) == 0, f'{words[0]} ended with {os.waitstatus_to_exitcode(status)}'
-    return usage.ru_utime + usage.ru_stime, usage.ru_maxrss
-
-
 def end_of(path):
     with open(path, 'rb') as told:
         told.seek(-200, os.SEEK_END)
         return told.read().decode().splitlines()[-2]
-
-
-def same(a, b):
-    with open(a, 'rb') as a, open(b, 'rb') as b:
-        return a.read() == b.read()
 
 
 pages = f'{work}/pages'
@@ -68,8 +53,7 @@ for capacity in (1_024, 65_536):
         if not same(f'{work}/ours', f'{work}/plain'):
             differing.append(name)
         hits = end_of(f'{work}/plain').split()[-1]
-        print(f'{name:22}{hits:>10}{ours[0]:9.2f} s {ours[1] / 1024:5.0f} MB{theirs[0]:9.2f} s {theirs[1] / 1024:5.0f} MB'
-              f'{ours[0] / theirs[0]:7.2f} {ours[1] / theirs[1]:6.2f}')
+        print(f'{name:22}{hits:>10}{figures(ours, theirs)}')
 if differing:
     sys.exit('the outputs differ: ' + '; '.join(differing))
 PY

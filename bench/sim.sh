@@ -12,8 +12,10 @@ tool=$here/../crates/arc_tool/out/arc_tool
 work=$(mktemp -d)
 trap 'rm -rf "$work"' EXIT
 rustc --edition 2024 -O -o "$work/arc_sim" "$here/../compare/arc_sim.rs"
-python3 - "$tool" "$work/arc_sim" "$work" <<'PY'
-import hashlib, os, sys
+PYTHONPATH="$here" PYTHONDONTWRITEBYTECODE=1 python3 - "$tool" "$work/arc_sim" "$work" <<'PY'
+import hashlib, sys
+
+from beside import figures, run, same
 
 tool, plain, work = sys.argv[1:]
 ZEROS = hashlib.sha256(bytes(512)).hexdigest()
@@ -43,23 +45,6 @@ def long(out):
             out.write('#' * 119 + '\n')
 
 
-def run(program, pool, trace, report):
-    """The seconds of processor time and the peak kilobytes of one run."""
-    child = os.fork()
-    if child == 0:
-        os.dup2(os.open(trace, os.O_RDONLY), 0)
-        os.dup2(os.open(report, os.O_WRONLY | os.O_CREAT | os.O_TRUNC, 0o600), 1)
-        os.execv(program, [program, pool, '-', 'run'])
-    _, status, usage = os.wait4(child, 0)
-    assert os.waitstatus_to_exitcode(status) == 0, f'{program} ended with {os.waitstatus_to_exitcode(status)}'
-    return usage.ru_utime + usage.ru_stime, usage.ru_maxrss
-
-
-def same(a, b):
-    with open(a, 'rb') as a, open(b, 'rb') as b:
-        return a.read() == b.read()
-
-
 pool, trace = f'{work}/pool', f'{work}/trace'
 with open(pool, 'wb') as out:
     out.truncate(100_000 * 512)
@@ -71,14 +56,13 @@ differing = []
 for name, write in cases:
     with open(trace, 'w') as out:
         write(out)
-    run(plain, pool, trace, f'{work}/plain')  # so that the files are in memory for both
+    run([plain, pool, '-', 'run'], trace, f'{work}/plain')  # so that the files are in memory for both
     # In turn, since how fast a shared machine is changes within a minute; the least counts.
-    turns = [(run(tool, pool, trace, f'{work}/ours'), run(plain, pool, trace, f'{work}/plain')) for _ in range(ROUNDS)]
+    turns = [(run([tool, pool, '-', 'run'], trace, f'{work}/ours'), run([plain, pool, '-', 'run'], trace, f'{work}/plain')) for _ in range(ROUNDS)]
     ours, theirs = (min(runs) for runs in zip(*turns))
     if not same(f'{work}/ours', f'{work}/plain'):
         differing.append(name)
-    print(f'{name:32}{ours[0]:9.2f} s {ours[1] / 1024:5.0f} MB{theirs[0]:9.2f} s {theirs[1] / 1024:5.0f} MB'
-          f'{ours[0] / theirs[0]:7.2f} {ours[1] / theirs[1]:6.2f}')
+    print(f'{name:32}{figures(ours, theirs)}')
 if differing:
     sys.exit('the reports differ: ' + '; '.join(differing))
 PY

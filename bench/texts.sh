@@ -10,8 +10,10 @@ lint=$here/../crates/arc_lint/out/arc_lint
 work=$(mktemp -d)
 trap 'rm -rf "$work"' EXIT
 rustc --edition 2024 -O -o "$work/read_text" "$here/plain/read_text.rs"
-python3 - "$lint" "$work/read_text" "$work" <<'PY'
-import hashlib, os, sys
+PYTHONPATH="$here" PYTHONDONTWRITEBYTECODE=1 python3 - "$lint" "$work/read_text" "$work" <<'PY'
+import hashlib, sys
+
+from beside import figures, run
 
 lint, plain, work = sys.argv[1:]
 ROUNDS, BLOCKS, OPS = 5, 100_000, 1_000_000
@@ -38,18 +40,6 @@ def write(out, kinds):
     out.writelines(KINDS[kinds[i % len(kinds)]](i) + '\n' for i in range(OPS))
 
 
-def run(program, trace, report):
-    """The seconds of processor time and the peak kilobytes of one run."""
-    child = os.fork()
-    if child == 0:
-        os.dup2(os.open(trace, os.O_RDONLY), 0)
-        os.dup2(os.open(report, os.O_WRONLY | os.O_CREAT | os.O_TRUNC, 0o600), 1)
-        os.execv(program, [program])
-    _, status, usage = os.wait4(child, 0)
-    assert os.waitstatus_to_exitcode(status) == 0, f'{program} ended with {os.waitstatus_to_exitcode(status)}'
-    return usage.ru_utime + usage.ru_stime, usage.ru_maxrss
-
-
 def counts(report):
     with open(report) as text:
         return text.read().split()[-6:]
@@ -61,14 +51,13 @@ differing = []
 for name, kinds in [('every kind', list(KINDS))] + [(kind, [kind]) for kind in KINDS]:
     with open(trace, 'w') as out:
         write(out, kinds)
-    run(plain, trace, f'{work}/plain')  # so that the file is in memory for both
+    run([plain], trace, f'{work}/plain')  # so that the file is in memory for both
     # In turn, since how fast a shared machine is changes within a minute; the least counts.
-    turns = [(run(lint, trace, f'{work}/ours'), run(plain, trace, f'{work}/plain')) for _ in range(ROUNDS)]
+    turns = [(run([lint], trace, f'{work}/ours'), run([plain], trace, f'{work}/plain')) for _ in range(ROUNDS)]
     ours, theirs = (min(runs) for runs in zip(*turns))
     if counts(f'{work}/ours') != counts(f'{work}/plain'):
         differing.append(name)
-    print(f'{name:16}{ours[0]:9.2f} s {ours[1] / 1024:5.0f} MB{theirs[0]:9.2f} s {theirs[1] / 1024:5.0f} MB'
-          f'{ours[0] / theirs[0]:7.2f} {ours[1] / theirs[1]:6.2f}', flush=True)
+    print(f'{name:16}{figures(ours, theirs)}', flush=True)
 if differing:
     sys.exit('the counts differ: ' + '; '.join(differing))
 PY
