@@ -18,6 +18,30 @@ def newer():
 
 NEWER = bytes(newer())
 
+# A block of other bytes than its pointer has is asked for by a line of each kind; with any number of callers.
+OTHER_BYTES = '''\
+block 0 512 1 P
+object 7 0 0
+get 0 1 7 0 0 1
+pin 0 2 7 0
+patch 0 3 7 0 0 01
+'''
+OTHER_BYTES_REFUSED = '''\
+arc 1
+0 refused digest Z
+1 refused digest Z
+2 refused digest Z
+e 0 0 miss 0 0 512 1 1
+e 0 1 fail 0 0 512 1 pool
+e 0 2 miss 0 0 512 1 2
+e 0 3 fail 0 0 512 1 pool
+e 0 4 miss 0 0 512 1 3
+e 0 5 fail 0 0 512 1 pool
+shard 0 c 4096 p 2048 anon 0 mru 0 mrug 0 mfu 0 mfug 0 l2 0
+count hit 0 miss 3 past 0 pool 3 l2 0 pass 0 set 0
+end 1
+'''
+
 ONE_CALLER = [
     Row('a block that is put is written by a sync', ['run', '--events'], 512, '''\
 arc 1 1 16 1 4096 0 4096
@@ -927,53 +951,11 @@ count hit 0 miss 2 past 0 pool 0 l2 2 pass 0 set 0
 rebuilt 2 zero
 end 0
 '''], Ring().feed(((512, 512, 1), CD), ((0, 512, 1), AB)).image),
-    Row('whatever a line asks of a block, other bytes than its pointer has are refused', ['run', '--events'], 512, '''\
-arc 1 1 16 1 4096 0 4096
-block 0 512 1 P
-object 7 0 0
-get 0 1 7 0 0 1
-pin 0 2 7 0
-patch 0 3 7 0 0 01
-''', 1, ['''\
-arc 1
-0 refused digest Z
-1 refused digest Z
-2 refused digest Z
-e 0 0 miss 0 0 512 1 1
-e 0 1 fail 0 0 512 1 pool
-e 0 2 miss 0 0 512 1 2
-e 0 3 fail 0 0 512 1 pool
-e 0 4 miss 0 0 512 1 3
-e 0 5 fail 0 0 512 1 pool
-shard 0 c 4096 p 2048 anon 0 mru 0 mrug 0 mfu 0 mfug 0 l2 0
-count hit 0 miss 3 past 0 pool 3 l2 0 pass 0 set 0
-end 1
-''']),
+    Row('whatever a line asks of a block, other bytes than its pointer has are refused', ['run', '--events'], 512, 'arc 1 1 16 1 4096 0 4096\n' + OTHER_BYTES, 1, [OTHER_BYTES_REFUSED]),
 ]
 
 SEVERAL = [
-    Row('other bytes than a pointer has are refused with two callers too', ['run', '--events'], 512, '''\
-arc 2 1 16 1 4096 0 4096
-block 0 512 1 P
-object 7 0 0
-get 0 1 7 0 0 1
-pin 0 2 7 0
-patch 0 3 7 0 0 01
-''', 1, ['''\
-arc 1
-0 refused digest Z
-1 refused digest Z
-2 refused digest Z
-e 0 0 miss 0 0 512 1 1
-e 0 1 fail 0 0 512 1 pool
-e 0 2 miss 0 0 512 1 2
-e 0 3 fail 0 0 512 1 pool
-e 0 4 miss 0 0 512 1 3
-e 0 5 fail 0 0 512 1 pool
-shard 0 c 4096 p 2048 anon 0 mru 0 mrug 0 mfu 0 mfug 0 l2 0
-count hit 0 miss 3 past 0 pool 3 l2 0 pass 0 set 0
-end 1
-''']),
+    Row('other bytes than a pointer has are refused with two callers too', ['run', '--events'], 512, 'arc 2 1 16 1 4096 0 4096\n' + OTHER_BYTES, 1, [OTHER_BYTES_REFUSED]),
     Row('what is evicted is dropped before a capacity that comes behind', ['run', '--events'], 6144, '''\
 arc 2 1 16 1 8192 0 0
 block 0 2048 1 X
