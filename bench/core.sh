@@ -8,8 +8,8 @@ here=$(cd "$(dirname "$0")" && pwd)
 copy=$(mktemp -d)
 trap 'rm -rf "$copy"' EXIT
 mkdir "$copy/crates"
-for name in blk_ptr arc_links key_table arc_lists arc_core; do cp -r "$here/../crates/$name" "$copy/crates/"; done
-grep -E '^(blk_ptr|arc_links|key_table|arc_lists|arc_core):' "$here/../crates.txt" > "$copy/crates.txt"
+for name in blk_ptr arc_links key_table varint arc_lists arc_core; do cp -r "$here/../crates/$name" "$copy/crates/"; done
+grep -E '^(blk_ptr|arc_links|key_table|varint|arc_lists|arc_core):' "$here/../crates.txt" > "$copy/crates.txt"
 printf 'core_bench: arc_core blk_ptr\n' >> "$copy/crates.txt"
 cp "$here/../HANDLES" "$copy/"
 mkdir -p "$copy/crates/core_bench/src"

@@ -1,6 +1,6 @@
 # Read by callers.sh and soak.sh: lays a copy of the crates that the program stands on out in $copy, and the program of bench/callers beside
 # them, for a pool of $blocks blocks.
-names='blk_ptr vdev_io arc_links key_table arc_lists arc_core hash_chain turn_table arc_table arc_examples'
+names='blk_ptr vdev_io arc_links key_table varint arc_lists arc_core hash_chain turn_table arc_table arc_examples'
 mkdir "$copy/crates"
 for name in $names; do
     cp -r "$here/../crates/$name" "$copy/crates/"

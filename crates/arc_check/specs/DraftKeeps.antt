@@ -5,7 +5,7 @@ use Rattle.arc_check.specs.declared.draft.Draft.TheInside.{Inside}
 use Rattle.arc_check.specs.LogText.{LogContent}
 
 abbrev pub content_in : Inside → LogContent
-content_in s = record { config = s.config; bounded = s.bounded; closed = s.closed.items; events = s.events.items; count = s.count }
+content_in s = record { config = s.config; bounded = s.bounded; closed = s.closed.items; events = s.events.events; count = s.count }
 
 pub record DraftKeeps (s : Inside) : Type 0 where
   -- no history is closed before the sizes are read, and one shard at least is left then

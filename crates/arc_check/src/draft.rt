@@ -11,7 +11,7 @@ ghost use Rattle.arc_check.specs.declared.words.Line.TheVariants as line_of;
 use crate::forms::{first_line, next_line};
 use crate::log::Log;
 use crate::words::{Line, LineFault, Made};
-use arc_core::{Bounds, Config, Event};
+use arc_core::{Bounds, Config, Event, History as EventList};
 use blk_ptr::{Key, NoMemory};
 use std::alloc::Global;
 use std::marker::Model;
@@ -30,7 +30,7 @@ pub(crate) struct Draft {
     // The histories of the shards before the one in hand.
     closed: Vec<History>,
     // The history of the shard in hand.
-    events: Vec<Event>,
+    events: EventList,
     // How many events there are.
     count: u32,
 }
@@ -52,7 +52,7 @@ impl Draft {
             config: None,
             bounded: false,
             closed: Vec::new(alloc),
-            events: Vec::new(alloc),
+            events: EventList::new(alloc),
             count: 0,
         }
     }
@@ -159,8 +159,8 @@ impl Draft {
         ensures { OnOk result (self.new ≡ at_shard shard self.old) }
     {
         if shard > self.closed.len() {
-            let alloc = *self.events.allocator();
-            let events = mem::replace(&mut self.events, Vec::new(alloc));
+            let alloc = *self.closed.allocator();
+            let events = mem::replace(&mut self.events, EventList::new(alloc));
             close_to(&mut self.closed, events, shard)?;
         }
         Ok(())
@@ -186,16 +186,16 @@ impl Draft {
     }
 }
 
-/// AddsToLog a history, and empty ones behind it up to so many.
-fn close_to(closed: &mut Vec<History>, events: Vec<Event>, shards: usize) -> Result<(), NoMemory>
+/// Adds a history, and empty ones behind it up to so many.
+fn close_to(closed: &mut Vec<History>, events: EventList, shards: usize) -> Result<(), NoMemory>
     requires { length closed.old.items < shards }
-    ensures closed { OnOk result (closed.new.items ≡ closed.old.items ++ events.items ∷ replicate (shards - (length closed.old.items + 1)) []) }
+    ensures closed { OnOk result (closed.new.items ≡ closed.old.items ++ events.events ∷ replicate (shards - (length closed.old.items + 1)) []) }
     ensures bound { vec_len closed.new ≤ shards }
 {
     let alloc = *closed.allocator();
-    closed.push(History::from_vec(events))?;
+    closed.push(History::of_events(events))?;
     while closed.len() < shards {
-        closed.push(History::from_vec(Vec::new(alloc)))?;
+        closed.push(History::of_events(EventList::new(alloc)))?;
     }
     Ok(())
 }

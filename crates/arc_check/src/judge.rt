@@ -8,7 +8,7 @@ use crate::verdict::Verdict;
 use arc_core::{Config, Event, Shard};
 use blk_ptr::{NoMemory, State};
 use std::alloc::Global;
-use trace_text::{Ends, ShardEnd};
+use trace_text::{Ends, History, ShardEnd};
 
 /// The most room that an event takes in a shard's history, for itself and for what it begins.
 const ROOM_OF_EVENT: usize = 3;
@@ -36,7 +36,7 @@ pub fn check(alloc: Global, log: &Log) -> Result<Verdict, NoMemory>
         let Some(history) = histories.get(number) else {
             unreachable!()
         };
-        match play(alloc, log.config, history.as_slice())? {
+        match play(alloc, log.config, history)? {
             Played::Ended(end) => ends.push(end)?,
             Played::Stuck(index) => {
                 let shard = number as u32;
@@ -49,13 +49,13 @@ pub fn check(alloc: Global, log: &Log) -> Result<Verdict, NoMemory>
 }
 
 /// Plays a history again, from a shard of this cache before all events.
-fn play(alloc: Global, config: Config, history: &[Event]) -> Result<Played, NoMemory>
+fn play(alloc: Global, config: Config, history: &History) -> Result<Played, NoMemory>
     requires { IsConfig config }
     ensures { IfOk result (IsPlayed (log_opening config) history.now) }
 {
     let mut shard = Shard::new(alloc, config.c, config.mintime, config.bounds);
-    for index in 0..history.len() {
-        if !try_event(&mut shard, history[index])? {
+    for (index, event) in history.iter().enumerate() {
+        if !try_event(&mut shard, event)? {
             return Ok(Played::Stuck(index as u64));
         }
     }

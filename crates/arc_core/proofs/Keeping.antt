@@ -1,5 +1,5 @@
 -- A shard keeps its invariant through an event.
-use Rattle.std.proofs.Common.{◌≡◌, ℕ, ◌+◌, ◌≤◌, true, IsTrue, [], ◌∷◌, ◌++◌, refl, sym, ap, subst, ◌∙◌, arith, vec_len, vec_capacity}
+use Rattle.std.proofs.Common.{◌≡◌, ℕ, ◌+◌, ◌≤◌, true, IsTrue, [], ◌∷◌, ◌++◌, refl, sym, ap, subst, ◌∙◌, arith, length}
 use Rattle.blk_ptr.specs.declared.key.Key.{Key}
 use Rattle.arc_lists.specs.Queues.{IsSequenceOf}
 use Rattle.arc_core.specs.declared.shard.Shard.TheInside.{Inside}
@@ -18,12 +18,12 @@ use Rattle.arc_core.proofs.Stepping.{legal-append, replay-append}
 
 -- after an event that is legal, keeps the shard sound, and takes no more room than it may
 pub ShardKeeps-step : (s n : Inside) (e : Event) → ShardKeeps s → IsTrue (legal s.table.shard e) → n.table.shard ≡ after s.table.shard e → IsSound n.table.shard → n.opened ≡ s.opened
-    → n.history.items ≡ s.history.items ++ e ∷ [] → vec_len n.history ≡ vec_len s.history + 1 → vec_capacity s.history ≤ vec_capacity n.history → n.spare_events + room_for e ≡ s.spare_events → IsSequenceOf (members n.table.shard) n.table.marked → AreHalts n.table.shard n.table.marked n.halts
+    → n.history.events ≡ s.history.events ++ e ∷ [] → length n.history.events ≡ length s.history.events + 1 → n.history.room + 1 ≡ s.history.room → n.spare_events + room_for e ≡ s.spare_events → IsSequenceOf (members n.table.shard) n.table.marked → AreHalts n.table.shard n.table.marked n.halts
     → owed_of (after s.table.shard e) + 1 ≤ owed_of s.table.shard + room_for e → ShardKeeps n
 ShardKeeps-step s n e kept ok step sound opened history len capacity spare marked halts owed =
     let opening = (log_in s).opening in
-    let replayed : replay opening (s.history.items ++ e ∷ []) ≡ after s.table.shard e = replay-append opening s.history.items (e ∷ []) ∙ ap (λ (t : PlainShard). after t e) kept.replayed.replayed in
-    let lawful : is_legal_history opening (s.history.items ++ e ∷ []) ≡ true = legal-append opening s.history.items e kept.replayed.legal (subst (λ t. legal t e ≡ true) (sym kept.replayed.replayed) ok) in
+    let replayed : replay opening (s.history.events ++ e ∷ []) ≡ after s.table.shard e = replay-append opening s.history.events (e ∷ []) ∙ ap (λ (t : PlainShard). after t e) kept.replayed.replayed in
+    let lawful : is_legal_history opening (s.history.events ++ e ∷ []) ≡ true = legal-append opening s.history.events e kept.replayed.legal (subst (λ t. legal t e ≡ true) (sym kept.replayed.replayed) ok) in
     record {
       replayed = record {
         sound = sound;

@@ -1,3 +1,4 @@
+mod WorkedRows
 pub mod Accesses
 pub mod Counting
 pub mod Cursor
@@ -21,6 +22,7 @@ pub mod Marking
 pub mod Others
 pub mod Owing
 pub mod OwnEvents
+pub mod Packing
 pub mod PickPlaces
 pub mod Places
 pub mod Placing
@@ -33,4 +35,3 @@ pub mod Tables
 pub mod Tidy
 pub mod Unpicking
 pub mod Victims
-mod WorkedRows

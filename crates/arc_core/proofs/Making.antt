@@ -1,5 +1,5 @@
 -- A call that makes a legal event keeps the shard's invariant.
-use Rattle.std.proofs.Common.{◌≡◌, List, refl, sym, subst, ◌+◌, ◌≤◌, IsTrue, [], ◌∷◌, ◌++◌, vec_len, vec_capacity}
+use Rattle.std.proofs.Common.{◌≡◌, List, refl, sym, subst, ◌+◌, ◌≤◌, IsTrue, [], ◌∷◌, ◌++◌, length}
 use Rattle.blk_ptr.specs.declared.key.Key.{Key}
 use Rattle.arc_lists.specs.declared.member.Member.{Member}
 use Rattle.arc_lists.specs.Queues.{IsSequenceOf}
@@ -17,7 +17,7 @@ use Rattle.arc_core.proofs.Owing.{owed-after}
 use Rattle.arc_core.proofs.Soundness.{IsSound-after}
 
 pub made : (s n : Inside) (e : Event) → ShardKeeps s → IsTrue (legal s.table.shard e) → n.table.shard ≡ after s.table.shard e → n.opened ≡ s.opened
-    → n.history.items ≡ s.history.items ++ e ∷ [] → vec_len n.history ≡ vec_len s.history + 1 → vec_capacity s.history ≤ vec_capacity n.history
+    → n.history.events ≡ s.history.events ++ e ∷ [] → length n.history.events ≡ length s.history.events + 1 → n.history.room + 1 ≡ s.history.room
     → n.spare_events + room_for e ≡ s.spare_events → IsSequenceOf (members n.table.shard) n.table.marked → AreHalts n.table.shard n.table.marked n.halts → ShardKeeps n
 made s n e kept ok step opened history len capacity spare marked halts =
     let sound = kept.replayed.sound in

@@ -8,14 +8,17 @@ pub mod Edits
 pub mod Ending
 pub mod Entries
 pub mod EntryRows
+pub mod EventLog
 pub mod FeedWalk
 pub mod FewKeys
 pub mod Halts
+pub mod HistoryModel
 pub mod Keeps
 pub mod KeyRows
 pub mod Keys
 pub mod Operations
 pub mod Owed
+pub mod Packed
 pub mod PickPlaces
 pub mod Picks
 pub mod Places

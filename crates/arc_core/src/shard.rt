@@ -1,6 +1,6 @@
 //! One shard with the history that leads to it. Each event is a call; here are those of reads, and more stand in `shard/`. A hit's
 //! and a drop's are part of the code that calls them, so an event is written once, in the history.
-ghost use Rattle.std.specs.Prelude.{◌≡◌, ℕ, ◌+◌, ◌≤◌, ◌++◌, ◌∷◌, [], IsTrue, OnOk, OnErr, vec_len, vec_capacity, option_map, ◌<◌};
+ghost use Rattle.std.specs.Prelude.{◌≡◌, ℕ, ◌+◌, ◌≤◌, ◌++◌, ◌∷◌, [], length, IsTrue, OnOk, OnErr, option_map, ◌<◌};
 ghost use Rattle.arc_lists.specs.Adapting.{IsCapacity};
 ghost use Rattle.arc_core.specs.declared.event.Event.{Event};
 ghost use Rattle.arc_core.specs.PlainShard.{entry_of, size_in};
@@ -17,15 +17,13 @@ mod rules;
 use crate::config::Bounds;
 use crate::entry::Entry;
 use crate::event::{Event, FailedAt, Origin};
+use crate::history::History;
 use crate::table::Table;
 use blk_ptr::{Digest, Key, NoMemory, State};
 use halts::Halts;
 use key_table::NO_PLACE;
 use std::alloc::Global;
 use std::marker::Model;
-
-// How many events a history has at most, those that are owed included, so that the holds on an entry are fewer than 2^32.
-const MOST_EVENTS: usize = u32::MAX as usize;
 
 /// What a shard shows of an entry.
 #[derive(Clone, Copy, Debug, PartialEq, Eq)]
@@ -58,7 +56,7 @@ struct Opened {
 pub struct Shard {
     table: Table,
     opened: Opened,
-    history: Vec<Event>,
+    history: History,
     spare_events: usize,
     halts: Halts,
 }
@@ -76,12 +74,11 @@ impl Model for Shard {
 }
 
 // Appends an event for which there is room.
-#[inline]
-fn append(history: &mut Vec<Event>, event: Event)
-    requires { vec_len history.old < vec_capacity history.old }
-    ensures items { history.new.items ≡ history.old.items ++ event ∷ [] }
-    ensures len { vec_len history.new ≡ vec_len history.old + 1 }
-    ensures capacity { vec_capacity history.old ≤ vec_capacity history.new }
+fn append(history: &mut History, event: Event)
+    requires { 0 < history.old.room }
+    ensures items { history.new.events ≡ history.old.events ++ event ∷ [] }
+    ensures len { length history.new.events ≡ length history.old.events + 1 }
+    ensures capacity { history.new.room + 1 ≡ history.old.room }
 {
     history.push_reserved(event);
 }
@@ -118,7 +115,7 @@ impl Shard {
         Shard {
             table: Table::new(alloc, c, mintime, bounds),
             opened: Opened { c, mintime, bounds },
-            history: Vec::new(alloc),
+            history: History::new(alloc),
             spare_events: 0,
             halts: Halts::none(),
         }
@@ -152,15 +149,11 @@ impl Shard {
         ensures kept_entries { self.old.entry_room ≤ self.new.entry_room }
         ensures err { OnErr result (self.new ≡ self.old) }
     {
-        let before = self.history.capacity().min(MOST_EVENTS);
+        let before = self.history.room();
         if self.spare_events < events {
-            let free = before - self.history.len();
-            let more = free
-                .checked_add(events - self.spare_events)
-                .ok_or(NoMemory)?;
-            self.history.reserve(more)?;
+            self.history.reserve(events - self.spare_events)?;
         }
-        let spare = self.spare_events + (self.history.capacity().min(MOST_EVENTS) - before);
+        let spare = self.spare_events + (self.history.room() - before);
         if spare < events {
             return Err(NoMemory);
         }
@@ -293,8 +286,8 @@ impl Shard {
     }
 
     /// The events so far. The shard is sound, and it is their replay.
-    pub fn history(&self) -> &[Event]
-        ensures history { result.now ≡ self.now.history }
+    pub fn history(&self) -> &History
+        ensures history { result.now.events ≡ self.now.history }
         ensures replayed { IsReplayed self.now }
     {
         &self.history

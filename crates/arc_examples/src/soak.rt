@@ -9,7 +9,7 @@ ghost use Rattle.arc_examples.specs.Soaking.{events_of, passes_of};
 use crate::calls::{look_at, read_and_try, read_one, try_one};
 use crate::plain::{Caller, Plain, config_of, draw, ptr_of};
 use crate::scene::{Scene, close_all, opened};
-use arc_core::{Config, Event, Shard};
+use arc_core::{Config, Event, Events, Shard};
 use arc_table::{Arcs, Party};
 use blk_ptr::{NoMemory, State};
 use std::alloc::Global;
@@ -130,9 +130,9 @@ fn make(shard: &mut Shard, event: Event) -> bool {
 }
 
 // Makes all these events, one after another. False where one may not come, or memory is refused.
-fn make_all(shard: &mut Shard, events: &[Event]) -> bool {
+fn make_all(shard: &mut Shard, events: Events<'_>) -> bool {
     for event in events {
-        if !make(shard, *event) {
+        if !make(shard, event) {
             return false;
         }
     }
@@ -144,7 +144,7 @@ fn are_same(one: &Shard, two: &Shard) -> bool {
     let sizes = [State::Mru, State::Mfu, State::MruGhost, State::MfuGhost]
         .iter()
         .all(|state| one.size(*state) == two.size(*state));
-    sizes && one.p() == two.p() && one.history() == two.history()
+    sizes && one.p() == two.p() && one.history().iter().eq(two.history().iter())
 }
 
 // Whether the shard's history replays from its start, each event legal when it comes, and ends where the shard does.
@@ -152,15 +152,15 @@ fn replays(alloc: Global, config: &Config, shard: &Shard) -> bool
     requires { IsConfig config.now }
 {
     let mut fresh = Shard::new(alloc, config.c, config.mintime, config.bounds);
-    make_all(&mut fresh, shard.history()) && are_same(&fresh, shard)
+    make_all(&mut fresh, shard.history().iter()) && are_same(&fresh, shard)
 }
 
 // How many passes these events have.
-fn passes_in(events: &[Event]) -> usize
-    ensures count { result ≡ count_by is_pass events.now }
-    ensures bound { result ≤ length events.now }
+fn passes_in(events: Events<'_>) -> usize
+    ensures count { result ≡ count_by is_pass events.entry }
+    ensures bound { result ≤ length events.entry }
 {
-    events.iter().filter(|event| is_pass(event)).count()
+    events.filter(|event| is_pass(event)).count()
 }
 
 // Whether the event is a pass.
@@ -187,7 +187,7 @@ fn count_passes(shards: &[Shard]) -> u128
 {
     let mut count = 0;
     for shard in shards {
-        count += passes_in(shard.history()) as u128;
+        count += passes_in(shard.history().iter()) as u128;
     }
     count
 }

@@ -104,7 +104,7 @@ fn events_in(histories: &[History]) -> u128
 {
     let mut events = 0;
     for history in histories {
-        events += history.as_slice().len() as u128;
+        events += history.len() as u128;
     }
     events
 }

@@ -1,5 +1,5 @@
 //! The texts of reports.
-use arc_core::{Event, FailedAt, Origin};
+use arc_core::{Event, FailedAt, History as EventList, Origin};
 use blk_ptr::{Digest, Key, KeyFault};
 use std::alloc::{AllocError, Global};
 use std::test::Fail;
@@ -181,6 +181,15 @@ fn lines_of_keys_at_fault(rt: HostRuntime) -> Result<(), Fail> {
     Ok(())
 }
 
+/// A history of these events.
+fn listed(alloc: Global, events: &[Event]) -> Result<History, AllocError> {
+    let mut list = EventList::new(alloc);
+    for event in events {
+        list.push(*event).map_err(|_| AllocError)?;
+    }
+    Ok(History::of_events(list))
+}
+
 /// The events of the first shard.
 fn first_history(alloc: Global) -> Result<History, AllocError> {
     let key = KEY;
@@ -190,7 +199,7 @@ fn first_history(alloc: Global) -> Result<History, AllocError> {
     events.push(Event::Fail { n: 0, key, at })?;
     let owner = 1;
     events.push(Event::Pass { n: 0, key, owner })?;
-    Ok(History::from_vec(events))
+    listed(alloc, &events)
 }
 
 /// The events of the second shard.
@@ -203,7 +212,7 @@ fn second_history(alloc: Global) -> Result<History, AllocError> {
     events.push(Event::Hit { n: 1, key, t: 4 })?;
     events.push(Event::Past { n: 0, key, kept })?;
     events.push(Event::Set { n: 1, key, place })?;
-    Ok(History::from_vec(events))
+    listed(alloc, &events)
 }
 
 /// What the two shards end with.
@@ -295,7 +304,7 @@ fn reads_of_the_pool_and_of_the_cache_device(rt: HostRuntime) -> Result<(), Fail
     }
     let at = FailedAt::Pool;
     events.push(Event::Fail { n: 0, key, at })?;
-    let counts = counts_of(&[History::from_vec(events)]);
+    let counts = counts_of(&[listed(rt.alloc(), &events)?]);
     assert!(rt; counts.pool == 2 && counts.l2 == 1);
     assert!(rt; counts.hit == 0 && counts.miss == 0 && counts.past == 0);
     Ok(())

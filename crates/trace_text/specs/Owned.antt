@@ -17,5 +17,5 @@ history_at logs number = history_of (slice_get logs number)
 
 -- the events that lie there
 abbrev pub events_in : Events → List Event
-events_in (Listed events) = events.items
+events_in (Listed events) = events.events
 events_in (InShard shards number) = history_at (arc_value shards).items number

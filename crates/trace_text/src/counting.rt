@@ -4,7 +4,7 @@ ghost use Rattle.trace_text.specs.Counting.{AreAtMost, AreFew, counts_in, counts
 
 use crate::counts::Counts;
 use crate::items::History;
-use arc_core::{Event, FailedAt, Origin};
+use arc_core::{Event, Events, FailedAt, Origin};
 
 /// What no events are counted as.
 const NONE: Counts = Counts {
@@ -23,7 +23,7 @@ pub fn counts_of(histories: &[History]) -> Counts
 {
     let mut counts = NONE;
     for history in histories {
-        let counted = events_counted(history.as_slice());
+        let counted = events_counted(history.iter());
         counts = sum_of(counts, counted);
     }
     counts
@@ -46,13 +46,13 @@ fn sum_of(some: Counts, others: Counts) -> Counts
 }
 
 /// Counts the events of one shard.
-fn events_counted(events: &[Event]) -> Counts
-    ensures counts { result ≡ counts_of_shard events.now }
-    ensures bound { AreAtMost (length events.now) result }
+fn events_counted(events: Events<'_>) -> Counts
+    ensures counts { result ≡ counts_of_shard events.entry }
+    ensures bound { AreAtMost (length events.entry) result }
 {
     let mut counts = NONE;
     for event in events {
-        count(&mut counts, event);
+        count(&mut counts, &event);
     }
     counts
 }

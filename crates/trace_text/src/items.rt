@@ -7,7 +7,7 @@ use crate::ends::ShardEnd;
 use crate::mapping::Mapping;
 use crate::op::Op;
 use crate::reply::Reply;
-use arc_core::{Event, Restored, Shard};
+use arc_core::{History as EventList, Restored, Shard};
 use blk_ptr::Ptr;
 use std::alloc::AllocError;
 use std::marker::Model;
@@ -48,7 +48,7 @@ impl<T> Model for Items<T> {
     ghost view = { λ all. all.items.items };
 }
 
-/// The events of one shard, in their order: in a list of their own, or in the shard, which a closed cache owns too. Contracts see the list.
+/// The events of one shard, in their order: in a list of their own, or in the shard, which a closed cache owns too. Contracts see the events.
 #[derive(Debug, Drop)]
 pub struct History {
     events: Events,
@@ -57,7 +57,7 @@ pub struct History {
 /// Where the events of a shard lie.
 #[derive(Debug, Drop)]
 enum Events {
-    Listed(Vec<Event>),
+    Listed(EventList),
     InShard(Arc<Vec<Shard>>, usize),
 }
 
@@ -74,8 +74,8 @@ impl Model for History {
 
 impl History {
     /// Takes the list as it is. It takes no memory.
-    pub fn from_vec(events: Vec<Event>) -> History
-        ensures { result ≡ events.items }
+    pub fn of_events(events: EventList) -> History
+        ensures { result ≡ events.events }
     {
         History {
             events: Events::Listed(events),
@@ -93,16 +93,36 @@ impl History {
     }
 
     /// The events, in their order.
-    pub fn as_slice(&self) -> &[Event]
-        ensures { result.now ≡ self.now }
+    pub fn iter(&self) -> arc_core::Events<'_>
+        ensures { result ≡ self.now }
     {
         match &self.events {
-            Events::Listed(events) => events,
+            Events::Listed(events) => events.iter(),
             Events::InShard(shards, number) => match shards.get(*number) {
-                Some(shard) => shard.history(),
-                None => &[],
+                Some(shard) => shard.history().iter(),
+                None => arc_core::Events::none(),
             },
         }
+    }
+
+    /// How many there are.
+    pub fn len(&self) -> usize
+        ensures { result ≡ length self.now }
+    {
+        match &self.events {
+            Events::Listed(events) => events.len(),
+            Events::InShard(shards, number) => match shards.get(*number) {
+                Some(shard) => shard.history().len(),
+                None => 0,
+            },
+        }
+    }
+
+    /// Whether there is none.
+    pub fn is_empty(&self) -> bool
+        ensures { IsTrue result ↔ (length self.now ≡ 0) }
+    {
+        self.len() == 0
     }
 }
 

@@ -6,7 +6,7 @@ ghost use Rattle.trace_text.specs.EventText.{event_line, event_lines, history_li
 use crate::ends::ShardEnd;
 use crate::event_words::EventWords;
 use crate::items::History;
-use arc_core::Event;
+use arc_core::{Event, Events};
 use std::alloc::{AllocError, Global};
 use std::fmt::Write;
 
@@ -20,7 +20,7 @@ pub(crate) fn write_histories(
 {
     let mut line = String::new(alloc);
     for (shard, history) in histories.iter().enumerate() {
-        write_events(text, &mut line, shard, history.as_slice())?;
+        write_events(text, &mut line, shard, history.iter())?;
     }
     Ok(())
 }
@@ -30,12 +30,12 @@ fn write_events(
     text: &mut Vec<u8>,
     line: &mut String,
     shard: usize,
-    events: &[Event],
+    events: Events<'_>,
 ) -> Result<(), AllocError>
-    ensures { OnOk result (text.new.items ≡ text.old.items ++ event_lines shard 0 events.now) }
+    ensures { OnOk result (text.new.items ≡ text.old.items ++ event_lines shard 0 events.entry) }
 {
-    for (number, event) in events.iter().enumerate() {
-        write_event(text, line, shard, number, event)?;
+    for (number, event) in events.enumerate() {
+        write_event(text, line, shard, number, &event)?;
     }
     Ok(())
 }

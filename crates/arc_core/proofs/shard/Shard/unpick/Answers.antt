@@ -1,4 +1,5 @@
-use Rattle.std.proofs.Common.{take, refl, sym, ap, subst, ◌∙◌, arith}
+use Rattle.std.proofs.lemmas.List.{length-take}
+use Rattle.std.proofs.Common.{length, take, refl, sym, ap, subst, ◌∙◌, arith}
 use Rattle.arc_core.specs.ShardLog.{MayUnpick}
 use Rattle.arc_core.specs.ShardModel.{log_in}
 use Rattle.arc_core.specs.Owed.{owed_of}
@@ -19,11 +20,11 @@ invariant_of-self c =
     record {
       replayed = record {
         sound = rw now (sound-unpicked s.table.shard kept.replayed.sound);
-        replayed = rw (c.truncate.ensures.items, now) (sym before);
-        legal = rw c.truncate.ensures.items (front-legal log c.args.len kept.replayed.legal);
+        replayed = rw (c.truncate.ensures.events, now) (sym before);
+        legal = rw c.truncate.ensures.events (front-legal log c.args.len kept.replayed.legal);
       };
-      room = omega (arith, kept.room, ap owed_of now, c.truncate.ensures.len, c.truncate.ensures.capacity);
-      few = omega (arith, kept.few, ap owed_of now, c.truncate.ensures.len);
+      room = omega (arith, kept.room, ap owed_of now, c.truncate.ensures.room);
+      few = omega (arith, kept.few, ap owed_of now, ap length c.truncate.ensures.events, length-take c.args.len s.history.events);
       marked = none-marked _ _ (ap (λ t. t.marked) c.unpick.ensures.now);
       halts = none-halted _ _ _ c.forget.ensures;
     }
@@ -36,7 +37,7 @@ returns c =
     let before = before-scan log c.args.len may c.self.invariant.replayed.replayed (λ is. refl) in
     record {
       now = ap (λ t. t.shard) c.unpick.ensures.now ∙ before ∙ ap (λ (l : ShardLog). replay l.opening (take c.args.len l.history)) c.self.view_is;
-      history = c.truncate.ensures.items ∙ ap (λ (l : ShardLog). take c.args.len l.history) c.self.view_is;
+      history = c.truncate.ensures.events ∙ ap (λ (l : ShardLog). take c.args.len l.history) c.self.view_is;
       opening = ap (λ (l : ShardLog). l.opening) c.self.view_is;
       event_room = omega (arith, ap (λ (l : ShardLog). l.event_room) c.self.view_is, ap (λ t. t.marks) c.unpick.ensures.now);
       entry_room = omega (arith, ap (λ (l : ShardLog). l.entry_room) c.self.view_is, ap (λ t. t.spare) c.unpick.ensures.now);

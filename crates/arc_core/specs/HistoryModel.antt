@@ -1,0 +1,18 @@
+-- What the parts of a history mean, and what they keep.
+use Rattle.std.specs.Prelude.{◌≡◌, ◌+◌, ◌*◌, ◌<◌, ◌≤◌, ◌^◌, vec_len, vec_capacity}
+use Rattle.std.specs.List.{AllByRecursion}
+use Rattle.arc_core.specs.declared.history.History.TheInside.{Inside}
+use Rattle.arc_core.specs.declared.packed.bytes.TheConstants.{LONGEST_EVENT}
+use Rattle.arc_core.specs.EventLog.{EventLog, bytes_of, events_in}
+use Rattle.arc_core.specs.Packed.{IsPackable}
+
+abbrev pub log_of : Inside → EventLog
+log_of h = record { events = events_in h.len h.bytes.items; room = h.room }
+
+pub record HistoryKeeps (h : Inside) : Type 0 where
+  -- there is nothing but the events, and each is read back
+  pub bytes : h.bytes.items ≡ bytes_of (events_in h.len h.bytes.items)
+  pub packable : AllByRecursion IsPackable (events_in h.len h.bytes.items)
+  -- there is room for as many of the longest
+  pub room : h.room * LONGEST_EVENT + vec_len h.bytes ≤ vec_capacity h.bytes
+  pub few : h.room + h.len < 2 ^ 32
