@@ -8,12 +8,10 @@ use Rattle.blk_ptr.specs.Order.{key_eq}
 use Rattle.blk_ptr.proofs.Keys.{key_eq-is, key_eq-same}
 use Rattle.arc_links.specs.PlainLinks.{AreApart, Placed, element_at, placed, without_place}
 use Rattle.arc_links.proofs.Places.{AreApart-without, element_at-head, element_at-other, element_at-without_other, length-without, without_place-absent}
-use Rattle.arc_lists.specs.declared.post.Post.{Post}
-use Rattle.arc_lists.specs.declared.post.Standing.{Standing}
 use Rattle.arc_lists.specs.declared.queues.Queues.{Queues}
 use Rattle.arc_lists.specs.ByKey.{item_at, with_change, with_item, without}
 use Rattle.arc_lists.specs.PlainLists.{member, member_key}
-use Rattle.arc_lists.specs.Posts.{member_of, members_of, post, post_key, standing}
+use Rattle.arc_lists.specs.Posts.{Post, Standing, member_of, members_of, post, post_key, standing}
 use Rattle.arc_lists.specs.Queues.{AreNodesApart, HaveCapacity, HaveRoom, IsOnlyOn, IsPlaced, nodes_of, pushed, removed, sequences_in}
 use Rattle.arc_lists.specs.Sequences.{has_sequence, is_distinct, put_at_head, sequence_of, stands_on, taken_off, without_key}
 use Rattle.arc_lists.proofs.InState.{left}

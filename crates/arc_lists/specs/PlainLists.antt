@@ -1,12 +1,11 @@
 -- What the lists of the cache are, as plain data: who is there in which state, the four sequences, and the target.
-use Rattle.std.specs.Prelude.{◌≡◌, ℕ, ◌+◌, ◌-◌, Bool, false, IsTrue, if◌then◌else◌, List, [], ◌∷◌, IsSomeAnd}
-use Rattle.std.specs.Option.{option_map_or}
+use Rattle.std.specs.Prelude.{ℕ, ◌+◌, ◌-◌, Bool, if◌then◌else◌, List, [], ◌∷◌}
 use Rattle.blk_ptr.specs.declared.key.Key.{Key}
 use Rattle.blk_ptr.specs.declared.state.State.{State}
 use Rattle.blk_ptr.specs.State.{is_same_state}
 use Rattle.arc_lists.specs.declared.member.Member.{Member}
-use Rattle.arc_lists.specs.ByKey.{item_at, with_item, without}
-use Rattle.arc_lists.specs.Sequences.{Sequences, has_sequence, no_keys, put_at_head, stands, taken_off}
+use Rattle.arc_lists.specs.ByKey.{with_item, without}
+use Rattle.arc_lists.specs.Sequences.{Sequences, put_at_head, taken_off}
 
 pub record PlainLists : Type 0 where
   -- each key that is there, with its state, in rising order of keys
@@ -35,10 +34,6 @@ size_of s (m ∷ ms) = share_of s m + size_of s ms
 abbrev pub member : Key → State → Member
 member k s = record { key = k; state = s }
 
--- nothing is there, and half of the capacity is for MRU
-abbrev pub opening_lists : ℕ → ℕ → PlainLists
-opening_lists p c = record { members = []; sequences = no_keys; p = p; c = c; spare = 0 }
-
 -- the key comes in under a state, and where nobody holds it, it stands at that state's head
 abbrev pub put : Key → State → Bool → PlainLists → PlainLists
 put k s unheld l = record l {
@@ -54,12 +49,3 @@ take_out k l = record l {
   sequences = taken_off k l.sequences;
   spare = l.spare + 1;
 }
-
--- the key is put at the head of the sequence of its state
-abbrev pub freed : Key → PlainLists → PlainLists
-freed k l = option_map_or (λ m. record l { sequences = put_at_head m.state k l.sequences }) (item_at member_key k l.members) l
-
--- the key has a state with a sequence, and doesn't stand on it
-pub record IsBound (k : Key) (l : PlainLists) : Type 0 where
-  pub has_sequence : IsSomeAnd (item_at member_key k l.members) (λ m. IsTrue (has_sequence m.state))
-  pub off : stands k l.sequences ≡ false

@@ -3,7 +3,7 @@ use Rattle.std.specs.Option.{option_map_or}
 use Rattle.arc_links.specs.PlainLinks.{element_at, in_front}
 use Rattle.arc_lists.specs.Sequences.{oldest_unskipped}
 use Rattle.arc_lists.proofs.Oldest.{chosen, fewer, init-keys, keys_up_to, next-keys, skipped, there-front, there-last}
-use Rattle.arc_lists.proofs.queues.oldest.Goals as goal
+use Rattle.arc_lists.proofs.queues.oldest_unskipped.Goals as goal
 
 pub loop-at-init : goal.loop-at-init
 loop-at-init g c =

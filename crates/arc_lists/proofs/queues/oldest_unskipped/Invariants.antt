@@ -4,7 +4,7 @@ use Rattle.blk_ptr.specs.declared.key.Key.{Key}
 use Rattle.arc_links.specs.PlainLinks.{element_at, elements, in_front}
 use Rattle.arc_lists.specs.Sequences.{oldest_unskipped}
 use Rattle.arc_lists.proofs.Oldest.{keys_up_to}
-use Rattle.arc_lists.proofs.queues.oldest.Given as goal
+use Rattle.arc_lists.proofs.queues.oldest_unskipped.Given as goal
 
 -- what is left to look at, from the head up to the node in hand, decides
 abbrev pub invariant-loop-at : goal.invariant-loop-at

@@ -1,6 +1,6 @@
 use Rattle.std.proofs.Common.{sym, ◌∙◌}
 use Rattle.arc_lists.proofs.Oldest.{last-there, last_key-is, last_key-none}
-use Rattle.arc_lists.proofs.lists.walks.last_of.Goals as goal
+use Rattle.arc_lists.proofs.queues.last_of.Goals as goal
 
 pub returns-in_err-last : goal.returns-in_err-last
 returns-in_err-last c = c.from_residual.ensures ∙ sym (last_key-none c.args.sequence.now.nodes (sym c.in_err-last.ensures))
