@@ -9,13 +9,13 @@ use Rattle.arc_lists.specs.declared.member.Member.{Member}
 use Rattle.arc_lists.specs.declared.queues.Queues.{Queues}
 use Rattle.arc_lists.specs.declared.sizes.Sizes.{Sizes}
 use Rattle.arc_lists.specs.ByKey.{IsRising, has_key, item_at, with_change, with_item, without}
-use Rattle.arc_lists.specs.Kept.{Parts, ListsKeep, plain}
-use Rattle.arc_lists.specs.PlainLists.{member, member_key, put, share_of, take_out}
+use Rattle.arc_lists.specs.Kept.{ListsKeep, Parts}
+use Rattle.arc_lists.specs.Members.{member, share_of}
 use Rattle.arc_lists.specs.Posts.{Post, Standing, Posts, members_of, post, post_key, standing}
 use Rattle.arc_lists.specs.Queues.{HaveRoom, IsEntered, left, sequences_in, size_at}
 use Rattle.arc_lists.specs.Sequences.{Sequences, put_at_head, taken_off}
-use Rattle.arc_lists.proofs.Keeping.{ListsKeep-put, ListsKeep-take_out, left-of, length-members, lists, lists-same, rising-members, sequences-entered}
-use Rattle.arc_lists.proofs.Placing.{member-at, members-come, members-go}
+use Rattle.arc_lists.proofs.Keeping.{ListsKeep-put, ListsKeep-take_out, left-of, length-members, rising-members, sequences-entered}
+use Rattle.arc_lists.proofs.Placing.{member-at}
 use Rattle.arc_lists.proofs.SizeSums.{size_of-without}
 use Rattle.arc_lists.proofs.Standing.{HaveRoom-more}
 use Rattle.arc_lists.proofs.Tables.{item_at-without_same, with_item-without}
@@ -87,18 +87,9 @@ ListsKeep-change_state l n k before s at unheld kept item small is sizes entered
     (λ t. omega (arith, sizes t, smaller-at before.state t k.size l.sizes, kept.sizes t, size_of-without t k (members_of l.members.posts) (member k before.state) (member-at k l.members.posts before item)))
     entered (room_without l k before kept item)
 
-same_lists : (ms ms' : List Member) (q q' : Sequences) (p c m n : ℕ) → ms ≡ ms' → q ≡ q' → m ≡ n → lists ms q p c m ≡ lists ms' q' p c n
-same_lists ms ms' q q' p c m n one two three = lists-same ms ms' q q' p c m one two ∙ ap (λ z. lists ms' q' p c z) three
-
--- and what they are then
-pub changed_state : (l : Parts) (k : Key) (before : Standing) (s : State) (at : Option ℕ) (unheld : Bool) (q : Queues) → ListsKeep l → item_at post_key k l.members.posts ≡ Some (post k before)
+-- and what the sequences are then
+pub changed-sequences : (l : Parts) (k : Key) (before : Standing) (s : State) (at : Option ℕ) (unheld : Bool) (q : Queues) → ListsKeep l → item_at post_key k l.members.posts ≡ Some (post k before)
     → IsEntered unheld s k at (left before.state before.at l.queues) q
-    → lists (members_of (with_change post_key k (λ _. post k (standing s at)) l.members.posts)) (sequences_in q) l.p l.c l.members.spare ≡ put k s unheld (take_out k (plain l))
-changed_state l k before s at unheld q kept item entered =
-    let posts = l.members.posts in
-    let r = standing s at in
-    let members : members_of (with_change post_key k (λ _. post k r) posts) ≡ with_item member_key (member k s) (without member_key k (members_of posts)) =
-    ap members_of (posts_are posts k r before kept.rising item) ∙ members-come k r (without post_key k posts) ∙ ap (λ ms. with_item member_key (member k s) ms) (members-go k posts) in
-    let sequences : sequences_in q ≡ (if unheld then put_at_head s k (taken_off k (sequences_in l.queues)) else taken_off k (sequences_in l.queues)) =
-    sequences-entered unheld s k at (left before.state before.at l.queues) q entered ∙ ap (λ z. if unheld then put_at_head s k z else z) (left-of l k before kept item).sequences in
-    same_lists _ _ _ _ _ _ _ _ members sequences (omega arith)
+    → sequences_in q ≡ (if unheld then put_at_head s k (taken_off k (sequences_in l.queues)) else taken_off k (sequences_in l.queues))
+changed-sequences l k before s at unheld q kept item entered =
+    sequences-entered unheld s k at (left before.state before.at l.queues) q entered ∙ ap (λ z. if unheld then put_at_head s k z else z) (left-of l k before kept item).sequences

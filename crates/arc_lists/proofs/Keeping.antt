@@ -12,13 +12,13 @@ use Rattle.arc_links.specs.PlainLinks.{AreApart, element_at}
 use Rattle.arc_lists.specs.declared.member.Member.{Member}
 use Rattle.arc_lists.specs.declared.queues.Queues.{Queues}
 use Rattle.arc_lists.specs.ByKey.{IsAbove, IsRising, has_key, item_at, with_change, with_item, without}
-use Rattle.arc_lists.specs.Kept.{Parts, ListsKeep, plain}
-use Rattle.arc_lists.specs.PlainLists.{PlainLists, member, member_key, share_of, size_of}
+use Rattle.arc_lists.specs.Kept.{ListsKeep, Parts}
+use Rattle.arc_lists.specs.Members.{member, member_key, share_of, size_of}
 use Rattle.arc_lists.specs.Posts.{Post, Standing, Posts, member_of, members_of, post, post_key, standing}
 use Rattle.arc_lists.specs.Queues.{AreInState, AreNodesApart, ArePlaced, AreSequencesOf, HaveCapacity, HaveRoom, HaveSameNodes, IsEntered, IsOn, IsOnlyOn, IsPlaced, IsPushed, left, nodes_of, pushed, sequences_in, size_at}
 use Rattle.arc_lists.specs.Sequences.{Sequences, has_sequence, is_distinct, put_at_head, sequence_of, stands, stands_on, taken_off}
 use Rattle.arc_lists.proofs.InState.{AreInState-head, AreInState-off, AreInState-with_item, AreInState-without, only_on}
-use Rattle.arc_lists.proofs.Placing.{apart-pushed, apart-removed, member-at, members-come, members-go, members-stay, placed-new, room-pushed, room-removed, sequences-pushed, sequences-removed, stays-pushed, stays-removed}
+use Rattle.arc_lists.proofs.Placing.{apart-pushed, apart-removed, member-at, members-come, members-go, placed-new, room-pushed, room-removed, sequences-pushed, sequences-removed, stays-pushed, stays-removed}
 use Rattle.arc_lists.proofs.SizeSums.{size_of-with_item, size_of-without, size_of-le}
 use Rattle.arc_lists.proofs.Standing.{AreSequencesOf-head, AreSequencesOf-off, AreSequencesOf-with_item, AreSequencesOf-without, HaveCapacity-le, IsOff, off_absent, off_each, stands_on-without_same, without_key-absent}
 use Rattle.arc_lists.proofs.Tables.{cases_true, some_is, item_at-map, All-with_item, All-without, IsRising-with_change, IsRising-with_item, IsRising-without, item_at-with_change_other, item_at-with_change_same, item_at-with_item_other, item_at-with_item_same, item_at-without_other, item_at-without_same, length-with_change, length-with_item, length-without}
@@ -99,22 +99,6 @@ module _ (k : Key) (posts : List Post) where
     | inl same ↦ absurd (cc (sym (subst (λ h. item_at post_key h (without post_key k posts) ≡ None) (sym (key_eq-is j k same)) (item_at-without_same post_key k posts rising)) ∙ item))
     | inr differs ↦ stays j s (key_eq-sym k j ∙ differs) (placed j s (sym (item_at-without_other post_key j k posts differs) ∙ item))
   ]
-
-  placed-change : (r before : Standing) (q q' : Queues) → item_at post_key k posts ≡ Some (post k before) → ((j : Key) (s : Standing) → key_eq k j ≡ false → IsPlaced j s q → IsPlaced j s q') → IsPlaced k r q'
-      → ArePlaced posts q → ArePlaced (with_change post_key k (λ _. post k r) posts) q'
-  placed-change r before q q' was stays here placed j s item = elim (cases_true (key_eq j k)) [
-    | inl same ↦
-        let is = key_eq-is j k same in
-        let at : post k r ≡ post j s =
-        some_is (sym (item_at-with_change_same post_key k (λ _. post k r) posts (post k before) (key_eq-same k) was) ∙ ap (λ h. item_at post_key h (with_change post_key k (λ _. post k r) posts)) (sym is) ∙ item) in
-        subst (λ (p : Post). IsPlaced p.key p.standing q') at here
-    | inr differs ↦
-        let keeps : (p : Post) → key_eq (post_key p) k ≡ true → k ≡ post_key p = λ p same. sym (key_eq-is (post_key p) k same) in
-        stays j s (key_eq-sym k j ∙ differs) (placed j s (sym (item_at-with_change_other post_key j k (λ _. post k r) posts keeps differs) ∙ item))
-  ]
-
-  change-rising : (r : Standing) → IsRising post_key posts → IsRising post_key (with_change post_key k (λ _. post k r) posts)
-  change-rising r rising = IsRising-with_change post_key k (λ _. post k r) posts (λ p same. sym (key_eq-is (post_key p) k same)) rising
 
 off-each : (s : State) (q : Sequences) {k : Key} → IsOff k q → stands_on k (sequence_of s q) ≡ false
 off-each Anon q off = refl
@@ -338,79 +322,6 @@ ListsKeep-take_out l n k s kept item is sizes queues =
     (subst (ArePlaced (without post_key k posts)) (sym queues) (placed-go k posts l.queues q kept.rising gone.stays kept.placed))
     (subst AreNodesApart (sym queues) gone.apart)
 
--- ---- a member is put on its sequence, or taken off
-
-kept-change : (l n : Parts) (k : Key) (s : Standing) (at : Option ℕ) (q : Queues) → ListsKeep l → item_at post_key k l.members.posts ≡ Some (post k s)
-    → n.members ≡ record { posts = with_change post_key k (λ _. post k (standing s.state at)) l.members.posts; spare = l.members.spare } → n.sizes ≡ l.sizes → n.queues ≡ q
-    → HaveCapacity (length l.members.posts + l.members.spare) q → AreSequencesOf (members_of l.members.posts) (sequences_in q) → AreInState (members_of l.members.posts) (sequences_in q)
-    → ((j : Key) (r : Standing) → key_eq k j ≡ false → IsPlaced j r l.queues → IsPlaced j r q) → IsPlaced k (standing s.state at) q → AreNodesApart q → ListsKeep n
-kept-change l n k s at q kept item is sizes queues room listed stated stays here apart =
-    let posts = l.members.posts in
-    let after = with_change post_key k (λ _. post k (standing s.state at)) posts in
-    let same = members-stay k s.state s.at at posts item in
-    let count = length-with_change post_key k (λ _. post k (standing s.state at)) posts in
-    kept-of n after l.members.spare is (change-rising k posts (standing s.state at) kept.rising)
-    (subst (AllByRecursion (λ m. m.key.size ≤ largest_block)) (sym same) kept.small)
-    (λ t. ap (size_at t) sizes ∙ kept.sizes t ∙ ap (size_of t) (sym same))
-    (omega (arith, kept.few, count))
-    (subst (HaveCapacity _) (sym queues) (HaveCapacity-le _ _ q (omega (arith, count)) room))
-    (subst (λ z. AreSequencesOf (members_of after) (sequences_in z)) (sym queues) (subst (λ z. AreSequencesOf z (sequences_in q)) (sym same) listed))
-    (subst (λ z. AreInState (members_of after) (sequences_in z)) (sym queues) (subst (λ z. AreInState z (sequences_in q)) (sym same) stated))
-    (subst (ArePlaced after) (sym queues) (placed-change k posts (standing s.state at) s l.queues q item stays here kept.placed))
-    (subst AreNodesApart (sym queues) apart)
-
-pub ListsKeep-free : (l n : Parts) (k : Key) (s : Standing) (at : Option ℕ) → ListsKeep l → item_at post_key k l.members.posts ≡ Some (post k s) → stands k (sequences_in l.queues) ≡ false
-    → n.members ≡ record { posts = with_change post_key k (λ _. post k (standing s.state at)) l.members.posts; spare = l.members.spare } → n.sizes ≡ l.sizes
-    → IsPushed s.state k at l.queues n.queues → HaveRoom l.queues → ListsKeep n
-ListsKeep-free l n k s at kept item off is sizes entered room = elim (entered-cases true s.state k at l.queues n.queues entered) [
-  | inl stayed ↦
-      kept-change l n k s at l.queues kept item is sizes stayed.same kept.queues kept.listed kept.stated (λ j r differs placed. placed)
-      (subst (λ o. IsPlaced k (standing s.state o) l.queues) (sym stayed.at_is) (off-each s.state (sequences_in l.queues) away)) kept.apart
-  | inr came ↦
-      let q = pushed s.state k came.place l.queues in
-      let seq = sequences-pushed s.state k came.place l.queues in
-      let at_member = member-at k l.members.posts s item in
-      let there : IsTrue (has_key member_key k (members_of l.members.posts)) = ap is_some at_member in
-      kept-change l n k s at q kept item is sizes came.new_is (room-pushed s.state k came.place _ l.queues room kept.queues)
-      (subst (AreSequencesOf (members_of l.members.posts)) (sym seq) (AreSequencesOf-head s.state _ k (sequences_in l.queues) there away kept.listed))
-      (subst (AreInState (members_of l.members.posts)) (sym seq) (AreInState-head s.state _ k (sequences_in l.queues) at_member kept.stated))
-      (λ j r differs placed. stays-pushed s.state j k r came.place l.queues came.free differs placed)
-      (subst (λ o. IsPlaced k (standing s.state o) q) (sym came.at_is) (placed-new s.state k came.place l.queues came.has))
-      (apart-pushed s.state k came.place l.queues came.free kept.apart)
-]
-  where
-    away : IsOff k (sequences_in l.queues)
-    away = off_each k (sequences_in l.queues) off
-
-pub ListsKeep-bind : (l n : Parts) (k : Key) (s : Standing) → ListsKeep l → item_at post_key k l.members.posts ≡ Some (post k s)
-    → n.members ≡ record { posts = with_change post_key k (λ _. post k (standing s.state None)) l.members.posts; spare = l.members.spare } → n.sizes ≡ l.sizes
-    → n.queues ≡ left s.state s.at l.queues → ListsKeep n
-ListsKeep-bind l n k s kept item is sizes queues =
-    let q = left s.state s.at l.queues in
-    let gone = left-of l k s kept item in
-    let ms = members_of l.members.posts in
-    let off : stands_on k (sequence_of s.state (sequences_in q)) ≡ false = ap (λ z. stands_on k (sequence_of s.state z)) gone.sequences ∙ taken s.state (sequences_in l.queues) in
-    kept-change l n k s None q kept item is sizes queues (gone.room _ kept.queues)
-    (subst (AreSequencesOf ms) (sym gone.sequences) (AreSequencesOf-off ms k (sequences_in l.queues) kept.listed))
-    (subst (AreInState ms) (sym gone.sequences) (AreInState-off ms k (sequences_in l.queues) kept.stated)) gone.stays off gone.apart
-  where
-    taken : (t : State) (q : Sequences) → stands_on k (sequence_of t (taken_off k q)) ≡ false
-    taken Anon q = refl
-    taken Mru q = stands_on-without_same k q.mru
-    taken MruGhost q = stands_on-without_same k q.mru_ghost
-    taken Mfu q = stands_on-without_same k q.mfu
-    taken MfuGhost q = stands_on-without_same k q.mfu_ghost
-    taken L2Only q = refl
-
--- ---- the view
-
-abbrev pub lists : List Member → Sequences → ℕ → ℕ → ℕ → PlainLists
-lists ms q p c spare = record { members = ms; sequences = q; p = p; c = c; spare = spare }
-
-pub lists-same : (ms ms' : List Member) (q q' : Sequences) (p c spare : ℕ) → ms ≡ ms' → q ≡ q'
-    → lists ms q p c spare ≡ lists ms' q' p c spare
-lists-same ms ms' q q' p c spare one two = ap (λ z. lists z q p c spare) one ∙ ap (λ z. lists ms' z p c spare) two
-
 -- ---- more room
 
 same-sequences : (old new : Queues) → HaveSameNodes old new → sequences_in new ≡ sequences_in old
@@ -447,8 +358,3 @@ ListsKeep-reserve l m q n kept is spare few same room =
             → MatchOption at (stands_on k (sequence_of s.state (sequences_in q)) ≡ false) (λ p. element_at p (nodes_of s.state q) ≡ Some k)
         go None off = ap (λ z. stands_on k (sequence_of s.state z)) (same-sequences l.queues q same) ∙ off
         go (Some p) node = ap (element_at p) (same-nodes s.state l.queues q same) ∙ node
-
--- a reserve leaves at most the room that was asked for
-pub reserved-le : {A E : Type 0} (r : Result A E) (old new : Posts) (n : ℕ) → old.spare ≤ n → OnOk r (new.spare ≡ max old.spare n) → OnErr r (new ≡ old) → new.spare ≤ n
-reserved-le (Ok a) old new n le ok err = omega (arith, ok)
-reserved-le (Err e) old new n le ok err = omega (arith, ap (λ (z : Posts). z.spare) err)

@@ -6,7 +6,7 @@ use Rattle.blk_ptr.specs.declared.state.State.{State}
 use Rattle.arc_lists.specs.declared.queues.Queues.{Queues}
 use Rattle.arc_lists.specs.declared.sizes.Sizes.{Sizes}
 use Rattle.arc_lists.specs.ByKey.{IsRising}
-use Rattle.arc_lists.specs.PlainLists.{PlainLists, size_of}
+use Rattle.arc_lists.specs.Members.{size_of}
 use Rattle.arc_lists.specs.Posts.{Posts, members_of, post_key}
 use Rattle.arc_lists.specs.Queues.{AreInState, AreNodesApart, ArePlaced, AreSequencesOf, HaveCapacity, sequences_in, size_at}
 
@@ -17,10 +17,6 @@ pub record Parts : Type 0 where
   pub sizes : Sizes
   pub p : ℕ
   pub c : ℕ
-
--- the plain lists that they hold
-abbrev pub plain : Parts → PlainLists
-plain l = record { members = members_of l.members.posts; sequences = sequences_in l.queues; p = l.p; c = l.c; spare = l.members.spare }
 
 pub record ListsKeep (l : Parts) : Type 0 where
   -- the members rise by their keys, and none is larger than a block

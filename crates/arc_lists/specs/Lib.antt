@@ -2,7 +2,7 @@ pub mod Adapting
 pub mod ByKey
 pub mod Kept
 pub mod LastKeys
-pub mod PlainLists
+pub mod Members
 pub mod Posts
 pub mod Queues
 pub mod Room

@@ -10,7 +10,7 @@ use Rattle.arc_lists.specs.declared.member.Member.{Member}
 use Rattle.arc_lists.specs.declared.queues.Queues.{Queues}
 use Rattle.arc_lists.specs.declared.sizes.Sizes.{Sizes}
 use Rattle.arc_lists.specs.ByKey.{has_key, item_at}
-use Rattle.arc_lists.specs.PlainLists.{member, member_key}
+use Rattle.arc_lists.specs.Members.{member, member_key}
 use Rattle.arc_lists.specs.Posts.{Post, Standing, post, post_key}
 use Rattle.arc_lists.specs.Sequences.{Sequences, is_distinct, sequence_of, stands_on}
 

@@ -2,7 +2,7 @@ use Rattle.std.proofs.Common.{length, ap, refl, ◌≡◌, IsSome, IsTrue, arith
 use Rattle.std.proofs.lemmas.List.{length-map}
 use Rattle.blk_ptr.specs.declared.key.Key.{Key}
 use Rattle.arc_lists.specs.ByKey.{has_key}
-use Rattle.arc_lists.specs.PlainLists.{member_key}
+use Rattle.arc_lists.specs.Members.{member_key}
 use Rattle.arc_lists.specs.Queues.{IsSequenceOf}
 use Rattle.arc_lists.specs.Sequences.{stands_on}
 use Rattle.arc_core.specs.PlainShard.{entry_of, member_of, members}
