@@ -58,3 +58,11 @@ none-there (Some x) P has none = absurd (none (has refl))
 
 pub seat-nowhere : (rows : List (Row Name Linked)) (k : Key) → AreApart rows → (HasKey (name k) rows → ⊥) → item_at seat_key k (seated rows) ≡ None
 seat-nowhere rows k apart none = none-there (item_at seat_key k (seated rows)) (HasKey (name k) rows) (has-name rows k apart) none
+
+-- a search finds what is there
+pub found-some : {A : Type 0} (o : Option A) (there : Option Seat) → IsSome there → IfNone o (there ≡ None) → IsSome o
+found-some None there has none = subst IsSome none has
+found-some (Some a) there has none = refl
+
+pub some-at : {A : Type 0} (o : Option A) (a : A) (P : A → Type 0) → o ≡ Some a → IfSome o P → P a
+some-at o a P is some = subst (λ z. IfSome z P) is some

@@ -74,7 +74,8 @@ impl Entries {
         ensures { (s : State) → IsTrue (stands_on key (sequence_of s self.now.sequences)) → result ≡ next_to key (oldest_first s self.now.sequences) }
     {
         let linked = self.rows.find(key).unwrap();
-        self.queues.key_ahead(linked.entry.state, linked.at.unwrap())
+        self.queues
+            .key_ahead(linked.entry.state, linked.at.unwrap())
     }
 
     /// Gives the cache a new capacity in bytes, from 4,096 to 2^32. The target goes no lower than a sixteenth of it, and no higher

@@ -30,8 +30,6 @@ invariant_of-self c =
     let unmarked : stands_on c.args.key c.self.inside.marked.items ≡ false = subst (λ p. stands_on c.args.key p.marked ≡ false) (sym c.self.view_is) c.requires.unmarked in
     record {
       tidy = IsTidy-same (shard_in c.self.inside) _ refl refl kept.tidy;
-      members = kept.members;
-      room = kept.room;
       few = kept.few;
       marked_room = omega (arith, kept.marked_room, ap length c.add.ensures.items, length-with_item (λ (k : Key). k) c.args.key c.self.inside.marked.items, c.add.ensures.spare);
       passed_room = kept.passed_room;
