@@ -5,7 +5,6 @@ use Rattle.blk_ptr.specs.State.{is_same_state}
 use Rattle.blk_ptr.specs.declared.key.Key.{Key}
 use Rattle.blk_ptr.specs.declared.state.State.{State}
 use Rattle.blk_ptr.specs.declared.state.State.TheVariants.{Anon, Mru, MruGhost, Mfu, MfuGhost, L2Only}
-use Rattle.arc_lists.specs.declared.member.Member.{Member}
 use Rattle.arc_lists.specs.declared.queues.Queues.{Queues}
 use Rattle.arc_lists.specs.declared.sizes.Sizes.{Sizes}
 use Rattle.arc_lists.specs.ByKey.{IsRising, has_key, item_at, with_change, with_item, without}
@@ -13,7 +12,7 @@ use Rattle.arc_lists.specs.Kept.{ListsKeep, Parts}
 use Rattle.arc_lists.specs.Members.{member, share_of}
 use Rattle.arc_lists.specs.Posts.{Post, Standing, Posts, members_of, post, post_key, standing}
 use Rattle.arc_lists.specs.Queues.{HaveRoom, IsEntered, left, sequences_in, size_at}
-use Rattle.arc_lists.specs.Sequences.{Sequences, put_at_head, taken_off}
+use Rattle.arc_lists.specs.Sequences.{put_at_head, taken_off}
 use Rattle.arc_lists.proofs.Keeping.{ListsKeep-put, ListsKeep-take_out, left-of, length-members, rising-members, sequences-entered}
 use Rattle.arc_lists.proofs.Placing.{member-at}
 use Rattle.arc_lists.proofs.SizeSums.{size_of-without}

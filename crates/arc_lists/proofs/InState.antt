@@ -33,9 +33,6 @@ stood s j k q there = elim (cases_true (stands_on j (sequence_of s q))) [
   | inr off ↦ absurd (false≢true (sym (stands_on-without_key j k (sequence_of s q) off) ∙ ap (stands_on j) (sym (sequence_of-taken_off s k q)) ∙ there))
 ]
 
-pub AreInState-off : (ms : List Member) (k : Key) (q : Sequences) → AreInState ms q → AreInState ms (taken_off k q)
-AreInState-off ms k q stated s j there = stated s j (stood s j k q there)
-
 pub AreInState-without : (k : Key) (ms : List Member) (q : Sequences) → AreInState ms q → AreInState (without member_key k ms) (taken_off k q)
 AreInState-without k ms q stated s j there = elim (cases_true (key_eq k j)) [
   | inl same ↦

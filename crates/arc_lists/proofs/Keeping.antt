@@ -1,5 +1,5 @@
 -- What a key that comes, goes, is put on its sequence or taken off keeps of the lists' invariant.
-use Rattle.std.proofs.Common.{◌≡◌, ℕ, suc, ◌+◌, ◌-◌, ◌<◌, ◌≤◌, ◌^◌, Bool, true, false, List, [], ◌∷◌, length, Option, Some, None, IsTrue, IsSome, IsSomeAnd, MatchOption, OnErr, OnOk, Result, Ok, Err, max, is_some, option_map, if◌then◌else◌, ◌⊎◌, inl, inr, refl, sym, ap, subst, ◌∙◌, arith}
+use Rattle.std.proofs.Common.{◌≡◌, ℕ, suc, ◌+◌, ◌-◌, ◌<◌, ◌≤◌, ◌^◌, Bool, true, false, List, [], ◌∷◌, length, Option, Some, None, IsTrue, IsSome, MatchOption, is_some, option_map, if◌then◌else◌, ◌⊎◌, inl, inr, refl, sym, ap, subst, ◌∙◌, arith}
 use Rattle.std.specs.List.{AllByRecursion}
 use Rattle.std.proofs.lemmas.Bool.{false≢true}
 use Rattle.blk_ptr.specs.Size.{largest_block}
@@ -7,21 +7,21 @@ use Rattle.blk_ptr.specs.declared.key.Key.{Key}
 use Rattle.blk_ptr.specs.declared.state.State.{State}
 use Rattle.blk_ptr.specs.declared.state.State.TheVariants.{Anon, Mru, MruGhost, Mfu, MfuGhost, L2Only}
 use Rattle.blk_ptr.specs.Order.{key_eq}
-use Rattle.blk_ptr.proofs.Keys.{key_eq-is, key_eq-same, key_eq-sym}
+use Rattle.blk_ptr.proofs.Keys.{key_eq-is, key_eq-sym}
 use Rattle.arc_links.specs.PlainLinks.{AreApart, element_at}
 use Rattle.arc_lists.specs.declared.member.Member.{Member}
 use Rattle.arc_lists.specs.declared.queues.Queues.{Queues}
-use Rattle.arc_lists.specs.ByKey.{IsAbove, IsRising, has_key, item_at, with_change, with_item, without}
+use Rattle.arc_lists.specs.ByKey.{IsAbove, IsRising, has_key, item_at, with_item, without}
 use Rattle.arc_lists.specs.Kept.{ListsKeep, Parts}
 use Rattle.arc_lists.specs.Members.{member, member_key, share_of, size_of}
 use Rattle.arc_lists.specs.Posts.{Post, Standing, Posts, member_of, members_of, post, post_key, standing}
-use Rattle.arc_lists.specs.Queues.{AreInState, AreNodesApart, ArePlaced, AreSequencesOf, HaveCapacity, HaveRoom, HaveSameNodes, IsEntered, IsOn, IsOnlyOn, IsPlaced, IsPushed, left, nodes_of, pushed, sequences_in, size_at}
+use Rattle.arc_lists.specs.Queues.{AreInState, AreNodesApart, ArePlaced, AreSequencesOf, HaveCapacity, HaveRoom, HaveSameNodes, IsEntered, IsOn, IsOnlyOn, IsPlaced, left, nodes_of, pushed, sequences_in, size_at}
 use Rattle.arc_lists.specs.Sequences.{Sequences, has_sequence, is_distinct, put_at_head, sequence_of, stands, stands_on, taken_off}
-use Rattle.arc_lists.proofs.InState.{AreInState-head, AreInState-off, AreInState-with_item, AreInState-without, only_on}
+use Rattle.arc_lists.proofs.InState.{AreInState-head, AreInState-with_item, AreInState-without, only_on}
 use Rattle.arc_lists.proofs.Placing.{apart-pushed, apart-removed, member-at, members-come, members-go, placed-new, room-pushed, room-removed, sequences-pushed, sequences-removed, stays-pushed, stays-removed}
 use Rattle.arc_lists.proofs.SizeSums.{size_of-with_item, size_of-without, size_of-le}
-use Rattle.arc_lists.proofs.Standing.{AreSequencesOf-head, AreSequencesOf-off, AreSequencesOf-with_item, AreSequencesOf-without, HaveCapacity-le, IsOff, off_absent, off_each, stands_on-without_same, without_key-absent}
-use Rattle.arc_lists.proofs.Tables.{cases_true, some_is, item_at-map, All-with_item, All-without, IsRising-with_change, IsRising-with_item, IsRising-without, item_at-with_change_other, item_at-with_change_same, item_at-with_item_other, item_at-with_item_same, item_at-without_other, item_at-without_same, length-with_change, length-with_item, length-without}
+use Rattle.arc_lists.proofs.Standing.{AreSequencesOf-head, AreSequencesOf-with_item, AreSequencesOf-without, HaveCapacity-le, IsOff, off_absent, without_key-absent}
+use Rattle.arc_lists.proofs.Tables.{cases_true, some_is, item_at-map, All-with_item, All-without, IsRising-with_item, IsRising-without, item_at-with_item_other, item_at-with_item_same, item_at-without_other, item_at-without_same, length-with_item, length-without}
 
 pub length-members : (posts : List Post) → length (members_of posts) ≡ length posts
 length-members [] = refl
@@ -46,13 +46,6 @@ no-member posts k absent = ap is_some (item_at-map post_key member_key member_of
     none : (o : Option Post) → is_some o ≡ false → is_some (option_map member_of o) ≡ false
     none None off = refl
     none (Some p) off = off
-
-pub no-post : (posts : List Post) (k : Key) → has_key member_key k (members_of posts) ≡ false → has_key post_key k posts ≡ false
-no-post posts k absent = some (item_at post_key k posts) (sym (ap is_some (item_at-map post_key member_key member_of (λ p. refl) k posts)) ∙ absent)
-  where
-    some : (o : Option Post) → is_some (option_map member_of o) ≡ false → is_some o ≡ false
-    some None off = refl
-    some (Some p) off = off
 
 -- a key that is a member has a post
 pub post-of : (posts : List Post) (k : Key) → IsSome (item_at member_key k (members_of posts)) → IsSome (item_at post_key k posts)

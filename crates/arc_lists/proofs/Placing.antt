@@ -9,7 +9,7 @@ use Rattle.blk_ptr.proofs.Keys.{key_eq-is, key_eq-same}
 use Rattle.arc_links.specs.PlainLinks.{AreApart, Placed, element_at, placed, without_place}
 use Rattle.arc_links.proofs.Places.{AreApart-without, element_at-head, element_at-other, element_at-without_other, length-without, without_place-absent}
 use Rattle.arc_lists.specs.declared.queues.Queues.{Queues}
-use Rattle.arc_lists.specs.ByKey.{item_at, with_change, with_item, without}
+use Rattle.arc_lists.specs.ByKey.{item_at, with_item, without}
 use Rattle.arc_lists.specs.Members.{member, member_key}
 use Rattle.arc_lists.specs.Posts.{Post, Standing, member_of, members_of, post, post_key, standing}
 use Rattle.arc_lists.specs.Queues.{AreNodesApart, HaveCapacity, HaveRoom, IsOnlyOn, IsPlaced, nodes_of, pushed, removed, sequences_in}
@@ -153,10 +153,6 @@ placed-new Mfu k p q has = element_at-head (placed p k) q.mfu.nodes
 placed-new MfuGhost k p q has = element_at-head (placed p k) q.mfu_ghost.nodes
 placed-new Anon k p q has = absurd (false≢true has)
 placed-new L2Only k p q has = absurd (false≢true has)
-
--- what a list has at a place is a key of its state's sequence
-pub at-stands : (s : State) (k : Key) (p : ℕ) (q : Queues) → element_at p (nodes_of s q) ≡ Some k → stands_on k (sequence_of s (sequences_in q)) ≡ true
-at-stands s k p q there = ap (stands_on k) (sequence-nodes s q) ∙ node-stands p k (nodes_of s q) there
 
 pub apart-of : (s : State) (q : Queues) → AreNodesApart q → AreApart (nodes_of s q)
 apart-of Anon q apart = tt

@@ -1,4 +1,4 @@
-use Rattle.std.proofs.Common.{◌≡◌, Some, IsSome, refl, sym, ap, subst, ◌∙◌, arith}
+use Rattle.std.proofs.Common.{◌≡◌, Some, IsSome, refl, sym, ap, subst, arith}
 use Rattle.std.specs.Fn.{FnOnceReturnsAtMut}
 use Rattle.arc_lists.specs.ByKey.{item_at}
 use Rattle.arc_lists.specs.Posts.{members_of, standing}

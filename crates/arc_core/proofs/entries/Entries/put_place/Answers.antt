@@ -1,4 +1,4 @@
-use Rattle.std.proofs.Common.{IsSome, refl, sym, ap, subst}
+use Rattle.std.proofs.Common.{IsSome, refl, sym, subst}
 use Rattle.arc_lists.specs.ByKey.{item_at}
 use Rattle.arc_lists.specs.Kept.{ListsKeep}
 use Rattle.arc_core.specs.PlainShard.{entry_key}

@@ -1,5 +1,4 @@
-use Rattle.std.proofs.Common.{◌≡◌, ◌<◌, true, length, None, is_some, sym, ap, subst, arith, rules}
-use Rattle.blk_ptr.specs.declared.key.Key.{Key}
+use Rattle.std.proofs.Common.{◌≡◌, ◌<◌, length, None, is_some, sym, ap, subst, arith}
 use Rattle.arc_lists.proofs.Tables.{length-with_item}
 use Rattle.arc_core.specs.PlainShard.{entry_key, entry_of}
 use Rattle.arc_core.specs.Changes.{come}
