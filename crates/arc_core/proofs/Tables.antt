@@ -7,7 +7,7 @@ use Rattle.blk_ptr.specs.Order.{key_eq}
 use Rattle.blk_ptr.proofs.Keys.{key_eq-is}
 use Rattle.arc_lists.specs.declared.member.Member.{Member}
 use Rattle.arc_lists.specs.ByKey.{IsAbove, IsRising, has_key, item_at, with_item, without, with_change}
-use Rattle.arc_lists.specs.PlainLists.{member_key}
+use Rattle.arc_lists.specs.Members.{member_key}
 use Rattle.arc_lists.proofs.Tables.{cases_true, some_is, item_at-map, item_at-without_same, map-with_change, with_item-without}
 use Rattle.arc_core.specs.declared.entry.Entry.{Entry}
 use Rattle.arc_lists.specs.Sequences.{Sequences}

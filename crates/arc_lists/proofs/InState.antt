@@ -9,7 +9,7 @@ use Rattle.blk_ptr.specs.State.{is_same_state}
 use Rattle.blk_ptr.proofs.Keys.{key_eq-is, key_eq-sym}
 use Rattle.arc_lists.specs.declared.member.Member.{Member}
 use Rattle.arc_lists.specs.ByKey.{has_key, item_at, with_item, without}
-use Rattle.arc_lists.specs.PlainLists.{member, member_key}
+use Rattle.arc_lists.specs.Members.{member, member_key}
 use Rattle.arc_lists.specs.Queues.{AreInState, IsOnlyOn}
 use Rattle.arc_lists.specs.Sequences.{Sequences, has_sequence, put_at_head, sequence_of, stands, stands_on, taken_off, without_key}
 use Rattle.arc_lists.proofs.SizeSums.{is_same_state-same}

@@ -10,7 +10,7 @@ use Rattle.blk_ptr.proofs.Keys.{key_eq-is, key_eq-sym}
 use Rattle.arc_links.specs.PlainLinks.{Placed, PlainLinks, elements}
 use Rattle.arc_lists.specs.declared.member.Member.{Member}
 use Rattle.arc_lists.specs.ByKey.{IsRising, has_key, item_at, with_item, without}
-use Rattle.arc_lists.specs.PlainLists.{member_key}
+use Rattle.arc_lists.specs.Members.{member_key}
 use Rattle.arc_lists.specs.declared.queues.Queues.{Queues}
 use Rattle.arc_lists.specs.Queues.{AreSequencesOf, HaveCapacity, HaveRoom, IsSequenceOf, sequences_in}
 use Rattle.arc_lists.specs.Sequences.{Sequences, is_distinct, put_at_head, stands, stands_on, taken_off, without_key}
