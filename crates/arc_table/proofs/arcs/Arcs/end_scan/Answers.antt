@@ -1,4 +1,4 @@
-use Rattle.std.proofs.Common.{◌≡◌, ℕ, List, [], ◌∷◌, ◌++◌, IsTrue, sym, ap, ◌∙◌, subst}
+use Rattle.std.proofs.Common.{◌≡◌, ℕ, List, [], ◌∷◌, ◌++◌, sym, ap, ◌∙◌, subst}
 use Rattle.arc_core.specs.declared.config.Config.{Config}
 use Rattle.arc_core.specs.declared.event.Event.{Event}
 use Rattle.arc_core.specs.ShardLog.{ShardLog}
@@ -12,7 +12,6 @@ use Rattle.arc_table.specs.InHand.{buckets_of, made_since}
 use Rattle.arc_table.specs.Items.{Meanings}
 use Rattle.arc_table.specs.scans.Scanning.{AllPairs, IsInHand, gave_all, pairs_of}
 use Rattle.arc_table.specs.ShardGiving.{IsGivenShard, after_shard}
-use Rattle.arc_table.specs.scans.Sparing.{AreHeadsBut}
 use Rattle.arc_table.specs.Views.{after_same}
 use Rattle.arc_table.proofs.scans.Scans.{all_in_hand_else, scan_among, scan_config}
 use Rattle.arc_table.proofs.scans.ScanEnds.{all_heads, all_in_hand, gave_shard, hand_apart, made_events, marked_in_hand, may_give, still_apart}
