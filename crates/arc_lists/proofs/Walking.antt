@@ -1,5 +1,5 @@
 -- The key in front of a key is the one that comes next where the sequence is walked from its oldest key on.
-use Rattle.std.proofs.Common.{◌≡◌, Bool, true, false, not, ◌||◌, if◌then◌else◌, List, [], ◌∷◌, ◌++◌, reverse, Option, Some, None, inl, inr, refl, sym, ap, subst, ◌∙◌}
+use Rattle.std.proofs.Common.{◌≡◌, ℕ, Bool, true, false, not, ◌||◌, if◌then◌else◌, List, [], ◌∷◌, ◌++◌, reverse, Option, Some, None, inl, inr, refl, sym, ap, subst, ◌∙◌}
 use Rattle.std.proofs.lemmas.Bool.{false≢true}
 use Rattle.std.proofs.lemmas.List.{reverse-append}
 use Rattle.blk_ptr.specs.declared.key.Key.{Key}
@@ -9,14 +9,15 @@ use Rattle.arc_lists.specs.Room.{or_else}
 use Rattle.blk_ptr.specs.declared.state.State.{State}
 use Rattle.blk_ptr.specs.declared.state.State.TheVariants.{Anon, Mru, MruGhost, Mfu, MfuGhost, L2Only}
 use Rattle.arc_lists.specs.declared.member.Member.{Member}
-use Rattle.arc_lists.specs.ByKey.{item_at}
+use Rattle.arc_links.specs.PlainLinks.{element_at, in_front}
 use Rattle.arc_lists.specs.Kept.{ListsKeep, Parts}
-use Rattle.arc_lists.specs.Members.{member, member_key}
-use Rattle.arc_lists.specs.Posts.{Standing, members_of, post, post_key}
-use Rattle.arc_lists.specs.Queues.{AreSequencesOf, sequences_in}
+use Rattle.arc_lists.specs.LastKeys.{last_key}
+use Rattle.arc_lists.specs.Posts.{members_of}
+use Rattle.arc_lists.specs.Queues.{AreSequencesOf, nodes_of, sequences_in}
 use Rattle.arc_lists.specs.Sequences.{Sequences, is_distinct, sequence_of, stands_on}
 use Rattle.arc_lists.specs.Walks.{ahead_of, first_of, next_to, oldest_first}
-use Rattle.arc_lists.proofs.Placing.{member-at}
+use Rattle.arc_lists.proofs.Oldest.{ahead-is}
+use Rattle.arc_lists.proofs.Placing.{keys_of, node-stands, sequence-nodes}
 use Rattle.arc_lists.proofs.Standing.{and_left, and_right, both, not_true, not_true_is, or_left_false, or_right_false}
 use Rattle.arc_lists.proofs.Tables.{cases_true, some_is}
 
@@ -101,12 +102,17 @@ distinct-sequence Mfu ms q listed = listed.mfu.once
 distinct-sequence MfuGhost ms q listed = listed.mfu_ghost.once
 distinct-sequence L2Only ms q listed = refl
 
-pub newer-is : (l : Parts) (k : Key) (s : Standing) (r : Option Key) (t : State) → ListsKeep l → item_at post_key k l.members.posts ≡ Some (post k s)
-    → r ≡ ahead_of None k (sequence_of s.state (sequences_in l.queues)) → stands_on k (sequence_of t (sequences_in l.queues)) ≡ true → r ≡ next_to k (oldest_first t (sequences_in l.queues))
-newer-is l k s r t kept item is there =
+-- the key in front of a key's node comes next to it on each sequence on which it stands, since that is the node's own
+pub newer-on : (l : Parts) (k : Key) (s : State) (at : ℕ) (r : Option Key) (t : State) → ListsKeep l → element_at at (nodes_of s l.queues) ≡ Some k
+    → r ≡ last_key (in_front at (nodes_of s l.queues)) → stands_on k (sequence_of t (sequences_in l.queues)) ≡ true → r ≡ next_to k (oldest_first t (sequences_in l.queues))
+newer-on l k s at r t kept node front there =
     let q = sequences_in l.queues in
-    let at : item_at member_key k (members_of l.members.posts) ≡ Some (member k s.state) = member-at k l.members.posts s item in
-    let same : s.state ≡ t = ap (λ m. m.state) (some_is (sym at ∙ kept.stated t k there)) in
+    let nodes = nodes_of s l.queues in
+    let keys : sequence_of s q ≡ keys_of nodes = sequence-nodes s l.queues in
+    let once = ap is_distinct (sym keys) ∙ distinct-sequence s (members_of l.members.posts) q kept.listed in
+    let is : r ≡ ahead_of None k (sequence_of s q) = front ∙ sym (ahead-is at k nodes once node) ∙ ap (ahead_of None k) (sym keys) in
+    let on : stands_on k (sequence_of s q) ≡ true = ap (stands_on k) keys ∙ node-stands at k nodes node in
+    let same : s ≡ t = ap (λ m. m.state) (some_is (sym (kept.stated s k on) ∙ kept.stated t k there)) in
     is ∙ ap (λ u. ahead_of None k (sequence_of u q)) same ∙ ahead-is-next k (sequence_of t q) (distinct-sequence t (members_of l.members.posts) q kept.listed) there
 
 -- no key stands twice on a list turned round

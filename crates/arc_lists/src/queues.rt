@@ -1,8 +1,9 @@
 //! The four sequences, each a linked list with the newest key first.
-ghost use Rattle.std.specs.Prelude.{◌≡◌, ℕ, ◌+◌, ◌<◌, ◌≤◌, Bool, IsSome, OnOk};
+ghost use Rattle.std.specs.Prelude.{◌≡◌, ℕ, ◌+◌, ◌<◌, ◌≤◌, Bool, IfSome, IsSome, OnOk};
 ghost use Rattle.blk_ptr.specs.declared.key.Key.{Key};
+ghost use Rattle.blk_ptr.specs.declared.state.State.{State};
 ghost use Rattle.arc_links.specs.PlainLinks.{AreApart, element_at, elements, in_front};
-ghost use Rattle.arc_lists.specs.LastKeys.{last_key};
+ghost use Rattle.arc_lists.specs.LastKeys.{IsAheadIn, last_key};
 ghost use Rattle.arc_lists.specs.Sequences.{oldest_unskipped};
 ghost use Rattle.arc_lists.specs.Walks.{first_of, oldest_first};
 
@@ -53,6 +54,19 @@ fn key_ahead(sequence: &Links<Key>, at: usize) -> Option<Key>
 {
     let ahead = sequence.toward_head(at)?;
     Some(sequence.key_at(ahead))
+}
+
+// The key in front of this one, where it is the last of a sequence.
+fn ahead_of_last(sequence: &Links<Key>, key: Key) -> Option<Option<Key>>
+    requires { AreApart sequence.now.nodes }
+    ensures { IfSome result (λ ahead. IsAheadIn key sequence.now.nodes ahead) }
+{
+    let last = sequence.last()?;
+    if sequence.key_at(last) == key {
+        Some(key_ahead(sequence, last))
+    } else {
+        None
+    }
 }
 
 /// The oldest key of a sequence that `skip` doesn't pass over.
@@ -150,6 +164,26 @@ impl Queues {
             State::MfuGhost => self.mfu_ghost.remove(at),
             State::Anon | State::L2Only => unreachable!(),
         };
+    }
+
+    /// The key in front of this one, where it is the last of one of the sequences.
+    pub fn ahead_of_last(&self, key: Key) -> Option<Option<Key>>
+        requires { AreNodesApart self.now }
+        ensures { IfSome result (λ ahead. (s : State) × IsAheadIn key (nodes_of s self.now) ahead) }
+    {
+        let mru = ahead_of_last(&self.mru, key);
+        if mru.is_some() {
+            return mru;
+        }
+        let mfu = ahead_of_last(&self.mfu, key);
+        if mfu.is_some() {
+            return mfu;
+        }
+        let mru_ghost = ahead_of_last(&self.mru_ghost, key);
+        if mru_ghost.is_some() {
+            return mru_ghost;
+        }
+        ahead_of_last(&self.mfu_ghost, key)
     }
 
     /// The key in front of the node at a place of a state's sequence, toward the head.

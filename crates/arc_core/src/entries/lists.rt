@@ -73,6 +73,10 @@ impl Entries {
         requires { IsTrue (stands key self.now.sequences) }
         ensures { (s : State) → IsTrue (stands_on key (sequence_of s self.now.sequences)) → result ≡ next_to key (oldest_first s self.now.sequences) }
     {
+        // Victims go from the oldest key on, and what stands in front of that one is found without a search.
+        if let Some(ahead) = self.queues.ahead_of_last(key) {
+            return ahead;
+        }
         let linked = self.rows.find(key).unwrap();
         self.queues
             .key_ahead(linked.entry.state, linked.at.unwrap())
