@@ -1,5 +1,5 @@
 //! A soak: four callers do drawn calls at the same time on few keys and little room, and then the histories are replayed.
-ghost use Rattle.std.specs.Prelude.{◌≡◌, ◌≤◌, count_by, length};
+ghost use Rattle.std.specs.Prelude.{◌≡◌, ◌<◌, ◌≤◌, ◌^◌, count_by, length};
 ghost use Rattle.std.specs.Thread.{IsSync};
 ghost use Rattle.arc_core.specs.Config.{IsConfig};
 ghost use Rattle.arc_core.specs.Operations.{is_pass};
@@ -157,6 +157,7 @@ fn replays(alloc: Global, config: &Config, shard: &Shard) -> bool
 
 // How many passes these events have.
 fn passes_in(events: Events<'_>) -> usize
+    requires { length events < 2 ^ 32 }
     ensures count { result ≡ count_by is_pass events.entry }
     ensures bound { result ≤ length events.entry }
 {
