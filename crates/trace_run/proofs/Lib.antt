@@ -27,10 +27,12 @@ pub mod RestoreLemmas
 pub mod RunLemmas
 pub mod ServeLemmas
 pub mod TakenLemmas
+pub mod TraceLines
 pub mod WorkLemmas
 pub mod callers
 pub mod deeds
 pub mod one_caller
 pub mod theorem
 pub mod feeds
+pub mod in_place
 pub mod syncs

@@ -6,6 +6,7 @@ pub mod DeedLemmas
 pub mod MadeCells
 pub mod MadeLemmas
 pub mod MakesLemmas
+pub mod NotedCells
 pub mod ObjectAnswers
 pub mod ObjectReplies
 pub mod ObjectWork

@@ -3,6 +3,7 @@ pub mod Answering
 pub mod Answers
 pub mod Bounded
 pub mod CheckText
+pub mod Complete
 pub mod Deeds
 pub mod DeviceReads
 pub mod DeviceUse
@@ -13,6 +14,7 @@ pub mod Explaining
 pub mod FeedEvents
 pub mod FeedSeries
 pub mod Feeds
+pub mod InPlace
 pub mod KeptBlocks
 pub mod KeptQueue
 pub mod KeptReads

@@ -15,6 +15,7 @@ mod groups;
 mod in_order;
 mod in_turn;
 mod kept_blocks;
+mod laws;
 mod lines;
 mod objects;
 mod opening;
@@ -30,5 +31,6 @@ mod top;
 mod words;
 mod zero_pool;
 
+pub use laws::{nothing_in_place_is_refused, traces_in_place_are_done};
 pub use status::{Outcome, Status};
 pub use top::run;

@@ -89,7 +89,7 @@ module _ (place : ℕ) (ptr : Ptr) (le : key_end ptr.key ≤ place) where
 
 -- a line on no object is answered by blocks that end before the place
 module _ (len : ℕ) (image now : Option (List ℕ)) (place : ℕ) (front : HasFront place image now) (ptr : Ptr) (behind : IsValid len ptr.key → key_end ptr.key ≤ place) where
-  refusal-front : (why : Refusal) → IsReadRefusal len now ptr why → IsReadRefusal len image ptr why
+  pub refusal-front : (why : Refusal) → IsReadRefusal len now ptr why → IsReadRefusal len image ptr why
   refusal-front refusals.PoolFault r = r
   refusal-front (refusals.Mismatch found) r = (r.0, mismatch-front place ptr (behind r.0) found image now front r.1)
   refusal-front (refusals.Key why) r = r
