@@ -23,7 +23,7 @@ use Rattle.arc_core.specs.Digests.{same_digest}
 use Rattle.arc_core.specs.PlainShard.{PlainShard, entry_is, entry_of, is_at_rest, is_number}
 use Rattle.arc_core.specs.Step.{is_writing, legal, may_be_placed, may_set}
 use Rattle.turn_table.specs.Places.{Place}
-use Rattle.arc_table.specs.declared.feeds.Cleared.TheVariants as cleared
+use Rattle.arc_table.specs.declared.feeds.Cleared.TheVariants as answer
 use Rattle.arc_table.specs.declared.picks.Picked.{Picked as Block}
 use Rattle.arc_table.specs.declared.view.Known.{Known}
 use Rattle.arc_table.specs.Booking.{digest_at}
@@ -156,10 +156,10 @@ module _ {C : Type 0} (m : Meanings C) (g : Config) (calls : List DeviceCall) wh
   clears_told : (turn : ℕ) (blocks : List Block) (ls : List Live) (acts : List Act) (p q : Place (Known C)) → Knows g p → Lists turn blocks p → AreCleared ls acts → DoesActs m g acts p q → AreTold g calls acts p q × Lists turn blocks q
   clears_told turn blocks [] [] p q knows lists are did = (told_none g calls p q did, subst (Lists turn blocks) (sym did) lists)
   clears_told turn blocks (l ∷ ls) (Cleared k x ∷ acts) p q knows lists are (r, d, more) =
-      let rest = clears_told turn blocks ls acts r q (act_knows m g p r knows (Cleared k x) d) (subst (λ (ps : List Pick_of). ArePicksOf g turn ps blocks) (sym (clear_picks m g k p r (feeder_of p knows) x cleared.Done d turn)) lists) are.1 more in
+      let rest = clears_told turn blocks ls acts r q (act_knows m g p r knows (Cleared k x) d) (subst (λ (ps : List Pick_of). ArePicksOf g turn ps blocks) (sym (clear_picks m g k p r (feeder_of p knows) x answer.Done d turn)) lists) are.1 more in
       (act_then (Cleared k x) acts p r q knows d (act_told m g p r knows calls (Cleared k x) d tt) rest.0, rest.1)
   clears_told turn blocks (l ∷ ls) (Absent k x ∷ acts) p q knows lists are (r, d, more) =
-      let rest = clears_told turn blocks ls acts r q (act_knows m g p r knows (Absent k x) d) (subst (λ (ps : List Pick_of). ArePicksOf g turn ps blocks) (sym (clear_picks m g k p r (feeder_of p knows) x (cleared.Not d.0) d.1 turn)) lists) are.1 more in
+      let rest = clears_told turn blocks ls acts r q (act_knows m g p r knows (Absent k x) d) (subst (λ (ps : List Pick_of). ArePicksOf g turn ps blocks) (sym (clear_picks m g k p r (feeder_of p knows) x (answer.Not d.0) d.1 turn)) lists) are.1 more in
       (act_then (Absent k x) acts p r q knows d (act_told m g p r knows calls (Absent k x) d tt) rest.0, rest.1)
   clears_told turn blocks (l ∷ ls) (Refused k x ∷ acts) p q knows lists are (r, d, more) =
       let rest = clears_told turn blocks ls acts r q (act_knows m g p r knows (Refused k x) d) (subst (λ (ps : List Pick_of). ArePicksOf g turn ps blocks) (sym (same_picks m g k [] p r (feeder_of p knows) d refl turn)) lists) are.1 more in
