@@ -9,7 +9,7 @@ use Rattle.blk_ptr.specs.Order.{key_eq}
 use Rattle.blk_ptr.specs.State.{is_same_state}
 use Rattle.arc_lists.specs.Adapting.{clamped_target}
 use Rattle.arc_lists.specs.ByKey.{without}
-use Rattle.arc_lists.specs.PlainLists.{member_key, share_of, size_of}
+use Rattle.arc_lists.specs.Members.{member_key, share_of, size_of}
 use Rattle.arc_lists.specs.Sequences.{Sequences, sequence_of, taken_off, without_key}
 use Rattle.arc_lists.specs.Walks.{first_of, oldest_first}
 use Rattle.arc_lists.proofs.SizeSums.{size_of-with_item, size_of-without}

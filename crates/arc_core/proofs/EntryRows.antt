@@ -1,89 +1,144 @@
--- The rows of the entries and the entries in rising order.
-use Rattle.std.proofs.Common.{◌≡◌, false, List, length, Option, Some, None, IfSome, IfNone, IsSome, is_some, option_map, inl, inr, refl, sym, ap, subst, ◌∙◌}
-use Rattle.std.proofs.lemmas.Bool.{false≢true}
+-- The seats of the entries, and what the lists know of them.
+use Rattle.std.proofs.Common.{◌≡◌, ℕ, ◌≤◌, false, List, [], ◌∷◌, map, max, Option, Some, None, OnErr, OnOk, Result, Ok, Err, IsSome, is_some, option_map, inl, inr, refl, sym, ap, subst, ◌∙◌, arith}
 use Rattle.blk_ptr.specs.declared.key.Key.{Key}
-use Rattle.key_table.specs.PlainTable.{AreApart, Changes, Gains, HasKey, IsAmong, Loses, Row, row}
-use Rattle.arc_lists.specs.declared.name.Name.{Name}
+use Rattle.blk_ptr.specs.Order.{key_eq}
 use Rattle.arc_lists.specs.ByKey.{has_key, item_at, with_change, with_item, without}
-use Rattle.arc_lists.proofs.Enrolled.{name, one}
-use Rattle.arc_lists.proofs.Rising.{has-row, length-listed, listed, listed-changes, listed-gains, listed-loses, row-item}
-use Rattle.arc_lists.proofs.Tables.{is_some_of}
+use Rattle.arc_lists.specs.Kept.{ListsKeep}
+use Rattle.arc_lists.specs.Members.{size_of}
+use Rattle.arc_lists.specs.Posts.{Posts, members_of, post, post_key, standing}
+use Rattle.arc_lists.specs.Sequences.{Sequences}
+use Rattle.arc_lists.proofs.Tables.{cases_true, some_is, item_at-map, map-with_change, map-with_item, map-without, All-item, All-with_change, All-with_item, All-without}
+use Rattle.arc_core.specs.declared.entries.Entries.TheInside.{Inside}
 use Rattle.arc_core.specs.declared.entry.Entry.{Entry}
-use Rattle.arc_core.specs.EntryRows.{AreKeyed, entry_in}
-use Rattle.arc_core.specs.PlainShard.{entry_key}
+use Rattle.arc_core.specs.declared.rows.Linked.{Linked}
+use Rattle.arc_core.specs.Changes.{with_place}
+use Rattle.arc_core.specs.Entries.{PlainEntries}
+use Rattle.arc_core.specs.EntryRows.{AreKeyed, EntriesKeep, parts}
+use Rattle.arc_core.specs.PlainShard.{entry_key, member_of}
+use Rattle.arc_core.specs.Seats.{Seat, Seats, entries_in, entry_in, post_in, posts_in, seat, seat_key}
 
-pub spells : (r : Row Name Entry) → name (entry_key (entry_in r)) ≡ r.key
-spells r = refl
+-- the lists know each entry's key and state
+pub members-in : (ss : List Seat) → members_of (posts_in ss) ≡ map member_of (entries_in ss)
+members-in [] = refl
+members-in (s ∷ ss) = ap (λ ms. member_of (entry_in s) ∷ ms) (members-in ss)
 
--- the entries of the rows
-abbrev pub entered : List (Row Name Entry) → List Entry
-entered rows = listed entry_key name entry_in spells one rows
+pub keeps : (t : Inside) → AreKeyed t.rows.seats → ListsKeep (parts t) → EntriesKeep t
+keeps t keyed lists = record { keyed = keyed; lists = lists; sizes = λ s. lists.sizes s ∙ ap (size_of s) (members-in t.rows.seats) }
 
-pub length-entered : (rows : List (Row Name Entry)) → length (entered rows) ≡ length rows
-length-entered rows = length-listed entry_key name entry_in spells one rows
-
-pub has-name : (rows : List (Row Name Entry)) (k : Key) → AreApart rows → IsSome (item_at entry_key k (entered rows)) → HasKey (name k) rows
-has-name rows k apart there = let x = is_some_of (item_at entry_key k (entered rows)) there in has-row entry_key name entry_in spells one rows k x.0 apart x.1
-
-pub no-name : (rows : List (Row Name Entry)) (k : Key) → AreApart rows → has_key entry_key k (entered rows) ≡ false → HasKey (name k) rows → ⊥
-no-name rows k apart absent has =
-    false≢true (sym absent ∙ ap is_some (row-item entry_key name entry_in spells one rows (row (name k) has.0) apart has.1))
+-- ---- what is there of a key
 
 -- a row's entry is its key's
-pub entry-is : (k : Key) (e : Entry) → e.key ≡ k → entry_in (row (name k) e) ≡ e
+entry-is : (k : Key) (e : Entry) → e.key ≡ k → record e { key = k } ≡ e
 entry-is k e is = ap (λ j. record e { key = j }) (sym is)
 
-pub entry-there : (rows : List (Row Name Entry)) (k : Key) (e : Entry) → AreApart rows → AreKeyed rows → IsAmong (row (name k) e) rows → item_at entry_key k (entered rows) ≡ Some e
-entry-there rows k e apart keyed there =
-    row-item entry_key name entry_in spells one rows (row (name k) e) apart there ∙ ap (λ x. Some x) (entry-is k e (keyed (row (name k) e) there))
+module _ (ss : List Seat) (k : Key) where
+  pub post-at : (l : Linked) → item_at seat_key k ss ≡ Some (seat k l) → item_at post_key k (posts_in ss) ≡ Some (post k (standing l.entry.state l.at))
+  post-at l item = item_at-map seat_key post_key post_in (λ s. refl) k ss ∙ ap (option_map post_in) item
 
-none-there : (o : Option Entry) (P : Type 0) → (IsSome o → P) → (P → ⊥) → o ≡ None
-none-there None P has none = refl
-none-there (Some e) P has none = absurd (none (has refl))
+  pub keyed-at : (l : Linked) → AreKeyed ss → item_at seat_key k ss ≡ Some (seat k l) → l.entry.key ≡ k
+  keyed-at l keyed item = All-item seat_key (λ s. s.linked.entry.key ≡ s.key) k ss (seat k l) keyed item
 
-pub entry-nowhere : (rows : List (Row Name Entry)) (k : Key) → AreApart rows → (HasKey (name k) rows → ⊥) → item_at entry_key k (entered rows) ≡ None
-entry-nowhere rows k apart none = none-there (item_at entry_key k (entered rows)) (HasKey (name k) rows) (has-name rows k apart) none
+  pub entry-at : (l : Linked) → AreKeyed ss → item_at seat_key k ss ≡ Some (seat k l) → item_at entry_key k (entries_in ss) ≡ Some l.entry
+  entry-at l keyed item =
+      item_at-map seat_key entry_key entry_in (λ s. refl) k ss ∙ ap (option_map entry_in) item ∙ ap (λ e. Some e) (entry-is k l.entry (keyed-at l keyed item))
 
--- what a look finds
-pub found-entry : {X : Type 0} (o : Option X) (of : X → Entry) (rows : List (Row Name Entry)) (k : Key) → AreApart rows → AreKeyed rows
-    → IfSome o (λ x. IsAmong (row (name k) (of x)) rows) → IfNone o (HasKey (name k) rows → ⊥) → option_map of o ≡ item_at entry_key k (entered rows)
-found-entry None of rows k apart keyed some none = sym (entry-nowhere rows k apart none)
-found-entry (Some x) of rows k apart keyed some none = sym (entry-there rows k (of x) apart keyed some)
+  pub entry-nowhere : item_at seat_key k ss ≡ None → item_at entry_key k (entries_in ss) ≡ None
+  entry-nowhere none = item_at-map seat_key entry_key entry_in (λ s. refl) k ss ∙ ap (option_map entry_in) none
 
-pub comes : (old new : List (Row Name Entry)) (e : Entry) → AreApart old → AreApart new → has_key entry_key e.key (entered old) ≡ false → Gains old new (row (name e.key) e)
-    → entered new ≡ with_item entry_key e (entered old)
-comes old new e apart apart' absent gains = listed-gains entry_key name entry_in spells one old new (row (name e.key) e) apart apart' (no-name old e.key apart absent) gains
+  pub seat-some : IsSome (item_at entry_key k (entries_in ss)) → IsSome (item_at seat_key k ss)
+  seat-some there = go (item_at seat_key k ss) (subst IsSome (item_at-map seat_key entry_key entry_in (λ s. refl) k ss) there)
+    where
+      go : (o : Option Seat) → IsSome (option_map entry_in o) → IsSome o
+      go None off = off
+      go (Some s) on = refl
 
-pub goes : (old new : List (Row Name Entry)) (k : Key) → AreApart old → AreApart new → Loses old new (name k) → entered new ≡ without entry_key k (entered old)
-goes old new k apart apart' loses = listed-loses entry_key name entry_in spells one old new k apart apart' loses
+  pub post-some : IsSome (item_at post_key k (posts_in ss)) → IsSome (item_at seat_key k ss)
+  post-some there = go (item_at seat_key k ss) (subst IsSome (item_at-map seat_key post_key post_in (λ s. refl) k ss) there)
+    where
+      go : (o : Option Seat) → IsSome (option_map post_in o) → IsSome o
+      go None off = off
+      go (Some s) on = refl
 
-pub turns : (old new : List (Row Name Entry)) (e : Entry) → AreApart old → AreApart new → HasKey (name e.key) old → Changes old new (row (name e.key) e)
-    → entered new ≡ with_change entry_key e.key (λ _. e) (entered old)
-turns old new e apart apart' has changes = listed-changes entry_key name entry_in spells one old new (row (name e.key) e) apart apart' has changes
+  pub no-seat : has_key entry_key k (entries_in ss) ≡ false → has_key seat_key k ss ≡ false
+  no-seat absent = go (item_at seat_key k ss) (sym (ap is_some (item_at-map seat_key entry_key entry_in (λ s. refl) k ss)) ∙ absent)
+    where
+      go : (o : Option Seat) → is_some (option_map entry_in o) ≡ false → is_some o ≡ false
+      go None off = refl
+      go (Some s) on = on
 
--- the same of an entry that is changed in place, and keeps its key
-pub changes-entry : (old new : List (Row Name Entry)) (k : Key) (e : Entry) → AreApart old → AreApart new → HasKey (name k) old → e.key ≡ k → Changes old new (row (name k) e)
-    → entered new ≡ with_change entry_key k (λ _. e) (entered old)
-changes-entry old new k e apart apart' has is changes =
-    subst (λ h. entered new ≡ with_change entry_key h (λ _. e) (entered old)) is
-    (turns old new e apart apart' (subst (λ h. HasKey (name h) old) (sym is) has) (subst (λ h. Changes old new (row (name h) e)) (sym is) changes))
+  pub no-post : has_key entry_key k (entries_in ss) ≡ false → has_key post_key k (posts_in ss) ≡ false
+  no-post absent = ap is_some (item_at-map seat_key post_key post_in (λ s. refl) k ss) ∙ go (item_at seat_key k ss) (no-seat absent)
+    where
+      go : (o : Option Seat) → is_some o ≡ false → is_some (option_map post_in o) ≡ false
+      go None off = refl
+      go (Some s) on = on
 
--- ---- each row keeps the entry of its key
+  -- ---- a seat that comes, goes or changes
 
-pub keyed-comes : (old new : List (Row Name Entry)) (e : Entry) → AreKeyed old → Gains old new (row (name e.key) e) → AreKeyed new
-keyed-comes old new e keyed gains r there = elim ((gains r).0 there) [
-  | inl is ↦ subst (λ (z : Row Name Entry). z.value.key ≡ z.key.0) (sym is) refl
-  | inr before ↦ keyed r before
+  pub posts-come : (l : Linked) → posts_in (with_item seat_key (seat k l) ss) ≡ with_item post_key (post k (standing l.entry.state l.at)) (posts_in ss)
+  posts-come l = map-with_item seat_key post_key post_in (λ s. refl) (seat k l) ss
+
+  pub entries-come : (l : Linked) → l.entry.key ≡ k → entries_in (with_item seat_key (seat k l) ss) ≡ with_item entry_key l.entry (entries_in ss)
+  entries-come l is = map-with_item seat_key entry_key entry_in (λ s. refl) (seat k l) ss ∙ ap (λ e. with_item entry_key e (entries_in ss)) (entry-is k l.entry is)
+
+  pub keyed-comes : (l : Linked) → l.entry.key ≡ k → AreKeyed ss → AreKeyed (with_item seat_key (seat k l) ss)
+  keyed-comes l is keyed = All-with_item seat_key (λ s. s.linked.entry.key ≡ s.key) (seat k l) ss is keyed
+
+  pub posts-go : posts_in (without seat_key k ss) ≡ without post_key k (posts_in ss)
+  posts-go = map-without seat_key post_key post_in (λ s. refl) k ss
+
+  pub entries-go : entries_in (without seat_key k ss) ≡ without entry_key k (entries_in ss)
+  entries-go = map-without seat_key entry_key entry_in (λ s. refl) k ss
+
+  pub keyed-goes : AreKeyed ss → AreKeyed (without seat_key k ss)
+  keyed-goes keyed = All-without seat_key (λ s. s.linked.entry.key ≡ s.key) k ss keyed
+
+  pub posts-change : (l : Linked) → posts_in (with_change seat_key k (λ _. seat k l) ss) ≡ with_change post_key k (λ _. post k (standing l.entry.state l.at)) (posts_in ss)
+  posts-change l = map-with_change seat_key post_key post_in (λ s. refl) k (λ _. seat k l) (λ _. post k (standing l.entry.state l.at)) ss (λ x item. refl)
+
+  pub entries-change : (l : Linked) → l.entry.key ≡ k → entries_in (with_change seat_key k (λ _. seat k l) ss) ≡ with_change entry_key k (λ _. l.entry) (entries_in ss)
+  entries-change l is = map-with_change seat_key entry_key entry_in (λ s. refl) k (λ _. seat k l) (λ _. l.entry) ss (λ x item. entry-is k l.entry is)
+
+  pub keyed-changes : (l : Linked) → l.entry.key ≡ k → AreKeyed ss → AreKeyed (with_change seat_key k (λ _. seat k l) ss)
+  keyed-changes l is keyed = All-with_change seat_key (λ s. s.linked.entry.key ≡ s.key) k (λ _. seat k l) ss (λ x item. is) keyed
+
+-- ---- a seat with another place on the cache device
+
+-- the row where its entry has another place
+abbrev pub placed_at : Option ℕ → Linked → Linked
+placed_at place l = record l { entry = with_place place l.entry }
+
+pub entries-place : (ss : List Seat) (k : Key) (l : Linked) (place : Option ℕ) → item_at seat_key k ss ≡ Some (seat k l)
+    → entries_in (with_change seat_key k (λ _. seat k (placed_at place l)) ss) ≡ with_change entry_key k (with_place place) (entries_in ss)
+entries-place ss k l place item =
+    map-with_change seat_key entry_key entry_in (λ s. refl) k (λ _. seat k (placed_at place l)) (with_place place) ss
+    (λ x at. ap (λ s. with_place place (entry_in s)) (some_is (sym item ∙ at)))
+
+pub posts-stay : (ss : List Seat) (k : Key) (l made : Linked) → item_at seat_key k ss ≡ Some (seat k l) → post_in (seat k made) ≡ post_in (seat k l)
+    → posts_in (with_change seat_key k (λ _. seat k made) ss) ≡ posts_in ss
+posts-stay [] k l made item alike = cc
+posts-stay (s ∷ ss) k l made item alike = elim (cases_true (key_eq s.key k)) [
+  | inl same ↦
+      let is : s ≡ seat k l = some_is (rw same at item) in
+      rw same (ap (λ p. p ∷ posts_in ss) (alike ∙ ap post_in (sym is)))
+  | inr differs ↦ rw differs (ap (λ ps. post_in s ∷ ps) (posts-stay ss k l made (rw differs at item) alike))
 ]
 
-pub keyed-goes : (old new : List (Row Name Entry)) (k : Key) → AreKeyed old → Loses old new (name k) → AreKeyed new
-keyed-goes old new k keyed loses r there = keyed r ((loses r).0 there).1
+-- ---- more room
 
-pub keyed-turns : (old new : List (Row Name Entry)) (e : Entry) → AreKeyed old → Changes old new (row (name e.key) e) → AreKeyed new
-keyed-turns old new e keyed changes r there = elim ((changes r).0 there) [
-  | inl is ↦ subst (λ (z : Row Name Entry). z.value.key ≡ z.key.0) (sym is) refl
-  | inr before ↦ keyed r before.1
-]
+-- a reserve leaves at most the room that was asked for
+pub reserved-le : {A E : Type 0} (r : Result A E) (old new : Seats) (n : ℕ) → old.spare ≤ n → OnOk r (new.spare ≡ max old.spare n) → OnErr r (new ≡ old) → new.spare ≤ n
+reserved-le (Ok a) old new n le ok err = omega (arith, ok)
+reserved-le (Err e) old new n le ok err = omega (arith, ap (λ (z : Seats). z.spare) err)
 
-pub keyed-changes : (old new : List (Row Name Entry)) (k : Key) (e : Entry) → e.key ≡ k → AreKeyed old → Changes old new (row (name k) e) → AreKeyed new
-keyed-changes old new k e is keyed changes = keyed-turns old new e keyed (subst (λ h. Changes old new (row (name h) e)) (sym is) changes)
+-- ---- the view
+
+abbrev pub made : List Entry → Sequences → ℕ → ℕ → ℕ → PlainEntries
+made es q p c spare = record { items = es; sequences = q; p = p; c = c; spare = spare }
+
+pub entries-same : (es es' : List Entry) (q q' : Sequences) (p c spare : ℕ) → es ≡ es' → q ≡ q' → made es q p c spare ≡ made es' q' p c spare
+entries-same es es' q q' p c spare one two = ap (λ z. made z q p c spare) one ∙ ap (λ z. made es' z p c spare) two
+
+-- what the lists know of some seats
+abbrev pub posts_of : Seats → Posts
+posts_of m = record { posts = posts_in m.seats; spare = m.spare }

@@ -1,5 +1,5 @@
 -- What room evicts and trim drops: keys of sequences, whose entries are as their sequences say.
-use Rattle.std.proofs.Common.{◌≡◌, ℕ, zero, suc, ◌+◌, ◌-◌, ◌<◌, ◌≤◌, Bool, true, false, not, ◌&&◌, ◌||◌, if◌then◌else◌, nat_lt, ◌==◌, IsTrue, List, [], ◌∷◌, ◌++◌, map, reverse, sum, Option, Some, None, is_some, is_none, IsSome, ◌⊎◌, inl, inr, refl, sym, ap, subst, ◌∙◌, arith}
+use Rattle.std.proofs.Common.{◌≡◌, ℕ, zero, suc, ◌+◌, ◌-◌, ◌<◌, ◌≤◌, Bool, true, false, not, ◌&&◌, ◌||◌, if◌then◌else◌, nat_lt, ◌==◌, IsTrue, List, [], ◌∷◌, ◌++◌, map, reverse, sum, Option, Some, None, is_some, is_none, IsSome, ◌⊎◌, inl, inr, refl, sym, ap, subst, ◌∙◌, arith, rules}
 use Rattle.std.specs.List.{find, list_all}
 use Rattle.std.specs.Option.{option_and_then, option_map_or}
 use Rattle.std.proofs.lemmas.Bool.{false≢true}
@@ -19,8 +19,9 @@ use Rattle.arc_lists.specs.Sequences.{Sequences, oldest_unskipped, put_at_head, 
 use Rattle.arc_lists.proofs.Standing.{and_left, and_right, both, not_true_is}
 use Rattle.arc_lists.proofs.Tables.{cases_true, head_differs, item_at-without_same, without-absent, some_is, All-item, item_at-key, item_at-with_change_same, with_change-same}
 use Rattle.arc_core.specs.declared.entry.Entry.{Entry}
+use Rattle.blk_ptr.specs.Size.{IsBlockSize}
 use Rattle.blk_ptr.specs.Key.{is_well_formed}
-use Rattle.arc_lists.specs.PlainLists.{member, size_of}
+use Rattle.arc_lists.specs.Members.{member, size_of}
 use Rattle.arc_lists.proofs.SizeSums.{member-le}
 use Rattle.arc_core.proofs.Tables.{item_at-members}
 use Rattle.arc_core.proofs.Tidy.{absent_fails, off_sequences}
@@ -323,6 +324,9 @@ entry-le k s e item =
 
 pub sized : (k : Key) → IsTrue (is_well_formed k) → 0 < k.size
 sized k formed = grind (arith, nat_tests)
+
+pub block-size : (k : Key) → IsTrue (is_well_formed k) → IsBlockSize k.size
+block-size k formed = search rules
 
 -- what is not there is nothing
 pub is_none_of : {A : Type 0} (o : Option A) → is_some o ≡ false → o ≡ None

@@ -8,7 +8,7 @@ use Rattle.key_table.specs.PlainTable.{AreApart, Gains, HasKey, Loses, Row, row}
 use Rattle.arc_lists.specs.declared.name.Name.{Name}
 use Rattle.arc_lists.specs.ByKey.{with_item}
 use Rattle.arc_lists.specs.Sequences.{stands_on}
-use Rattle.arc_lists.proofs.Enrolled.{one}
+use Rattle.arc_lists.proofs.Names.{one}
 use Rattle.arc_lists.proofs.Rising.{absent-row, length-listed, listed, listed-gains, listed-loses, row-item}
 use Rattle.arc_lists.proofs.Tables.{cases_true, length-with_item, length-without}
 use Rattle.arc_core.specs.KeyRows.{AreListed, key_in, name}

@@ -28,6 +28,7 @@ pub mod Places
 pub mod Placing
 pub mod Scan
 pub mod Scanning
+pub mod SeatRows
 pub mod Soundness
 pub mod Sparing
 pub mod Stepping

@@ -1,5 +1,5 @@
 -- A call that makes a legal event keeps the shard's invariant.
-use Rattle.std.proofs.Common.{◌≡◌, List, refl, sym, subst, ◌+◌, ◌≤◌, IsTrue, [], ◌∷◌, ◌++◌, length}
+use Rattle.std.proofs.Common.{◌≡◌, List, refl, sym, subst, ◌+◌, IsTrue, [], ◌∷◌, ◌++◌, length}
 use Rattle.blk_ptr.specs.declared.key.Key.{Key}
 use Rattle.arc_lists.specs.declared.member.Member.{Member}
 use Rattle.arc_lists.specs.Queues.{IsSequenceOf}

@@ -6,7 +6,7 @@ use Rattle.blk_ptr.specs.Order.{key_eq, key_lt}
 use Rattle.blk_ptr.proofs.Keys.{key_eq-sym}
 use Rattle.arc_lists.specs.declared.member.Member.{Member}
 use Rattle.arc_lists.specs.ByKey.{IsRising, has_key, with_item}
-use Rattle.arc_lists.specs.PlainLists.{member_key}
+use Rattle.arc_lists.specs.Members.{member_key}
 use Rattle.arc_lists.specs.Queues.{IsSequenceOf}
 use Rattle.arc_lists.specs.Sequences.{is_distinct, stands_on}
 use Rattle.arc_lists.proofs.Tables.{cases_true}

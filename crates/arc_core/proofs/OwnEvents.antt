@@ -2,7 +2,7 @@
 use Rattle.std.proofs.Common.{◌≡◌, ℕ, Bool, true, false, not, ◌&&◌, ◌==◌, if◌then◌else◌, List, [], ◌∷◌, map, refl, sym, ap, ◌∙◌}
 use Rattle.arc_core.specs.declared.event.Event.{Event}
 use Rattle.arc_core.specs.PlainShard.{PlainShard}
-use Rattle.arc_core.specs.Operations.{Moment, is_pass, moments, number_of, own_events, own_moments}
+use Rattle.arc_core.specs.Operations.{is_pass, moments, number_of, own_events, own_moments}
 use Rattle.arc_core.specs.Step.{after}
 
 -- the events of a number's moments are its events

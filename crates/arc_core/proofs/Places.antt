@@ -1,5 +1,5 @@
 -- What events make of places, and of which events an entry with more than a place comes.
-use Rattle.std.proofs.Common.{◌≡◌, ℕ, ◌+◌, nat_lt, Bool, true, false, not, ◌&&◌, ◌||◌, ◌⊎◌, if◌then◌else◌, IsTrue, List, [], ◌∷◌, Option, Some, None, inl, inr, refl, sym, ap, subst, ◌∙◌}
+use Rattle.std.proofs.Common.{◌≡◌, ℕ, ◌+◌, nat_lt, Bool, true, false, not, ◌||◌, ◌⊎◌, if◌then◌else◌, IsTrue, List, [], ◌∷◌, Option, Some, None, inl, inr, refl, sym, ap, subst, ◌∙◌}
 use Rattle.std.specs.List.{list_any}
 use Rattle.std.specs.Option.{option_and_then, option_map, option_map_or}
 use Rattle.std.proofs.lemmas.Bool.{false≢true}
@@ -24,7 +24,7 @@ use Rattle.arc_core.specs.Places.{gives_place, takes_in}
 use Rattle.arc_core.specs.Replay.{is_legal_history, replay}
 use Rattle.arc_core.specs.Rules.{access, arrived_state}
 use Rattle.arc_core.specs.Sound.{IsSound}
-use Rattle.arc_core.specs.Sparing.{IsSpared, may_go}
+use Rattle.arc_core.specs.Sparing.{IsSpared}
 use Rattle.arc_core.specs.Step.{after, arrived, is_new_here, legal}
 use Rattle.arc_core.proofs.Counting.{about-key}
 use Rattle.arc_core.proofs.Evictions.{entry_of-is}

@@ -1,5 +1,5 @@
 -- Places on the cache device that entries gain and lose.
-use Rattle.std.proofs.Common.{◌≡◌, ℕ, Bool, true, false, not, ◌||◌, if◌then◌else◌, IsTrue, IsSome, IsSomeAnd, IfSome, IfNone, Option, Some, None, is_some, refl, sym, ap, subst}
+use Rattle.std.proofs.Common.{◌≡◌, ℕ, Bool, true, false, not, ◌||◌, if◌then◌else◌, IsTrue, IsSome, IsSomeAnd, Option, Some, None, is_some, refl, sym, ap, subst}
 use Rattle.std.specs.Option.{option_map_or}
 use Rattle.std.proofs.lemmas.Bool.{false≢true}
 use Rattle.blk_ptr.specs.declared.key.Key.{Key}
@@ -31,9 +31,6 @@ needs-place false false h is = absurd (false≢true is)
 pub sound-place : (place : Option ℕ) (k : Key) (s : PlainShard) (e : Entry) → Found k s e → IsTrue (entry_is (may_have place) k s) → IsSoundEntry (with_place place e)
 sound-place place k s e at may = IsSoundEntry-place place e (needs-place (is_some place) (is_same_state e.state L2Only) (passes (may_have place) k s e at.item may)) at.sound
 
-pub no-entry : (test : Entry → Bool) (k : Key) (s : PlainShard) → IsTrue (entry_is test k s) → None ≡ entry_of k s → ⊥
-no-entry test k s holds none = false≢true (subst (λ o. option_map_or test o false ≡ true) (sym none) holds)
-
 -- ---- a key that is set, and one that is cleared
 
 pub set-has : (n : ℕ) (k : Key) (place : ℕ) (s : PlainShard) → IsTrue (legal s (Set n k place)) → IsTrue (entry_is (may_have (Some place)) k s)
@@ -52,8 +49,3 @@ clear-has n k s ok more =
 
 pub cleared-is : (k : Key) (s : PlainShard) (b : Bool) → entry_is (λ e. is_same_state e.state L2Only) k s ≡ b → (if b then gone k s else changed k (with_place None) s) ≡ cleared k s
 cleared-is k s b is = ap (λ x. if x then gone k s else changed k (with_place None) s) (sym is)
-
--- the answer of a change of an entry that is there
-pub answered : {A : Type 0} (P : A → Type 0) (Q : Type 0) (o : Option A) → IfSome o P → IfNone o Q → (Q → ⊥) → record { value : A; fact : P value }
-answered P Q None some none there = absurd (there none)
-answered P Q (Some a) some none there = record { value = a; fact = some }

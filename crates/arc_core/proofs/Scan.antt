@@ -10,7 +10,7 @@ use Rattle.blk_ptr.specs.Order.{key_eq}
 use Rattle.blk_ptr.specs.State.{is_same_state}
 use Rattle.blk_ptr.proofs.Keys.{key_eq-is, key_eq-same}
 use Rattle.arc_lists.specs.ByKey.{item_at, with_change, without}
-use Rattle.arc_lists.specs.PlainLists.{member_key, share_of, size_of}
+use Rattle.arc_lists.specs.Members.{member_key, share_of, size_of}
 use Rattle.arc_lists.specs.Sequences.{is_distinct, oldest_unskipped, put_at_head, sequence_of, stands_on, taken_off, without_key}
 use Rattle.arc_lists.specs.Walks.{first_of, next_to}
 use Rattle.arc_lists.proofs.SizeSums.{size_of-without}

@@ -1,14 +1,11 @@
 -- The table's vectors keep their invariant through the edits.
-use Rattle.std.proofs.Common.{◌≡◌, false, IsTrue, IsSomeAnd, List, [], ◌∷◌, map, Option, Some, None, is_some, inl, inr, refl, sym, ap, subst, ◌∙◌}
+use Rattle.std.proofs.Common.{◌≡◌, IsSomeAnd, List, [], ◌∷◌, map, Option, Some, None, is_some, refl, ap, subst, ◌∙◌}
 use Rattle.std.specs.Option.{option_map}
 use Rattle.blk_ptr.specs.declared.key.Key.{Key}
 use Rattle.blk_ptr.specs.declared.state.State.{State}
-use Rattle.blk_ptr.specs.Order.{key_eq}
-use Rattle.blk_ptr.proofs.Keys.{key_eq-is}
-use Rattle.arc_lists.specs.declared.member.Member.{Member}
-use Rattle.arc_lists.specs.ByKey.{IsAbove, IsRising, has_key, item_at, with_item, without, with_change}
-use Rattle.arc_lists.specs.PlainLists.{member_key}
-use Rattle.arc_lists.proofs.Tables.{cases_true, some_is, item_at-map, item_at-without_same, map-with_change, with_item-without}
+use Rattle.arc_lists.specs.ByKey.{IsAbove, IsRising, has_key, item_at}
+use Rattle.arc_lists.specs.Members.{member_key}
+use Rattle.arc_lists.proofs.Tables.{item_at-map}
 use Rattle.arc_core.specs.declared.entry.Entry.{Entry}
 use Rattle.arc_lists.specs.Sequences.{Sequences}
 use Rattle.arc_core.specs.PlainShard.{PlainShard, entry_key, member_of}
@@ -34,17 +31,6 @@ pub members-rising : (es : List Entry) → IsRising entry_key es → IsRising me
 members-rising [] rising = tt
 members-rising (e ∷ es) rising = (above-members e.key es rising.0, members-rising es rising.1)
 
--- a key that was taken out of the lists is not there
-pub absent-taken : (k : Key) (ms : List Member) → IsRising member_key ms → has_key member_key k (without member_key k ms) ≡ false
-absent-taken k ms rising = ap is_some (item_at-without_same member_key k ms rising)
-
--- the lists after an entry was written over its key's, if the key was taken out and put in again
-pub members-placed : (e : Entry) (es : List Entry) → IsRising member_key (map member_of es) → IsTrue (has_key entry_key e.key es)
-    → with_item member_key (member_of e) (without member_key e.key (map member_of es)) ≡ map member_of (with_change entry_key e.key (λ old. e) es)
-members-placed e es rising there =
-    with_item-without member_key (member_of e) (map member_of es) rising (has_key-members e.key es ∙ there)
-    ∙ sym (map-with_change entry_key member_key member_of (λ x. refl) e.key (λ old. e) (λ old. member_of e) es (λ x item. refl))
-
 -- ---- tidy is a matter of the entries and the sequences alone
 
 tidy_again : (s : PlainShard) (es : List Entry) (q : Sequences) (t : PlainShard) → t.entries ≡ es → t.sequences ≡ q → IsTidy (record s { entries = es; sequences = q }) → IsTidy t
@@ -68,17 +54,6 @@ IsTidy-same s t entries sequences tidy = tidy_again s s.entries s.sequences t en
 pub some_and : {A : Type 0} (P : A → Type 0) (o : Option A) → IsSomeAnd o P → record { value : A; is : o ≡ Some value; fact : P value }
 some_and P None h = absurd h
 some_and P (Some a) h = record { value = a; is = refl; fact = h }
-
--- an entry of the same key and state leaves the members as they are
-pub members-amended : (e old : Entry) (es : List Entry) → item_at entry_key e.key es ≡ Some old → old.state ≡ e.state → map member_of (with_change entry_key e.key (λ o. e) es) ≡ map member_of es
-members-amended e old [] item state = cc
-members-amended e old (x ∷ xs) item state = elim (cases_true (key_eq x.key e.key)) [
-  | inl same ↦
-      let is : x ≡ old = some_is (rw same at item) in
-      let alike : member_of e ≡ member_of x = rw (sym (key_eq-is x.key e.key same), is, state) refl in
-      rw same (ap (λ m. m ∷ map member_of xs) alike)
-  | inr differs ↦ rw differs (ap (λ ms. member_of x ∷ ms) (members-amended e old xs (rw differs at item) state))
-]
 
 pub belongs_on-alike : (e old : Entry) → old.state ≡ e.state → old.holds ≡ e.holds → (state : State) → belongs_on state e ≡ belongs_on state old
 belongs_on-alike e old states holds state = rw (states, holds) refl

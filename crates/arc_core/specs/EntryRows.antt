@@ -1,24 +1,26 @@
--- The entries as the rows of a table. No public clause cites this module.
-use Rattle.std.specs.Prelude.{◌≡◌, List, map}
-use Rattle.key_table.specs.PlainTable.{AreApart, IsAmong, Row}
-use Rattle.arc_lists.specs.declared.name.Name.{Name}
-use Rattle.arc_lists.specs.ByKey.{in_order}
+-- The entries as seats, linked lists and sizes. No public clause cites this module.
+use Rattle.std.specs.Prelude.{◌≡◌, List}
+use Rattle.std.specs.List.{AllByRecursion}
+use Rattle.blk_ptr.specs.declared.state.State.{State}
+use Rattle.arc_lists.specs.Kept.{ListsKeep, Parts}
+use Rattle.arc_lists.specs.Queues.{sequences_in, size_at}
 use Rattle.arc_core.specs.declared.entries.Entries.TheInside.{Inside}
-use Rattle.arc_core.specs.declared.entry.Entry.{Entry}
-use Rattle.arc_core.specs.Entries.{PlainEntries}
-use Rattle.arc_core.specs.PlainShard.{entry_key}
-
--- the entry that a row stands for: the row's key decides
-abbrev pub entry_in : Row Name Entry → Entry
-entry_in r = record r.value { key = r.key.0 }
+use Rattle.arc_core.specs.Entries.{PlainEntries, bytes_in}
+use Rattle.arc_core.specs.Seats.{Seat, entries_in, posts_in}
 
 abbrev pub entries : Inside → PlainEntries
-entries t = record { items = in_order entry_key (map entry_in t.rows.rows); spare = t.rows.spare }
+entries t = record { items = entries_in t.rows.seats; sequences = sequences_in t.queues; p = t.p; c = t.c; spare = t.rows.spare }
+
+-- what the lists know of the entries
+abbrev pub parts : Inside → Parts
+parts t = record { members = record { posts = posts_in t.rows.seats; spare = t.rows.spare }; queues = t.queues; sizes = t.sizes; p = t.p; c = t.c }
 
 -- each row has the entry of its key
-abbrev pub AreKeyed : List (Row Name Entry) → Type 0
-AreKeyed rows = (r : Row Name Entry) → IsAmong r rows → r.value.key ≡ r.key.0
+abbrev pub AreKeyed : List Seat → Type 0
+AreKeyed = AllByRecursion (λ s. s.linked.entry.key ≡ s.key)
 
 pub record EntriesKeep (t : Inside) : Type 0 where
-  pub apart : AreApart t.rows.rows
-  pub keyed : AreKeyed t.rows.rows
+  pub keyed : AreKeyed t.rows.seats
+  pub lists : ListsKeep (parts t)
+  -- each size that is counted along the way is the sum that it stands for
+  pub sizes : (s : State) → size_at s t.sizes ≡ bytes_in s (entries t)

@@ -28,6 +28,9 @@ pub mod Replay
 pub mod Rules
 pub mod Scan
 pub mod Search
+pub mod SeatLends
+pub mod SeatRows
+pub mod Seats
 pub mod ShardLog
 pub mod ShardModel
 pub mod Sound

@@ -1,5 +1,5 @@
 -- What events make of a key's place on the cache device, and of which events an entry with more than a place comes.
-use Rattle.std.specs.Prelude.{◌≡◌, Bool, true, false, not, ◌&&◌, IsTrue, ◌⊎◌, List, None}
+use Rattle.std.specs.Prelude.{◌≡◌, Bool, false, not, IsTrue, ◌⊎◌, List, None}
 use Rattle.std.specs.List.{list_any}
 use Rattle.blk_ptr.specs.declared.key.Key.{Key}
 use Rattle.blk_ptr.specs.Order.{key_eq}

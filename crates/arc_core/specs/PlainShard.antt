@@ -10,7 +10,7 @@ use Rattle.blk_ptr.specs.State.{is_cached}
 use Rattle.arc_lists.specs.declared.member.Member.{Member}
 use Rattle.arc_lists.specs.ByKey.{item_at}
 use Rattle.arc_lists.specs.Sequences.{Sequences, no_keys, stands_on}
-use Rattle.arc_lists.specs.PlainLists.{member, size_of}
+use Rattle.arc_lists.specs.Members.{member, size_of}
 use Rattle.arc_core.specs.declared.entry.Entry.{Entry}
 use Rattle.arc_core.specs.declared.entry.Picked.{Picked}
 use Rattle.arc_core.specs.declared.entry.Phase.{Phase}

@@ -68,6 +68,7 @@ impl<'a> Iterator for Events<'a> {
 
     ghost remaining = { item_count (λ events. events) };
 
+    #[inline(always)]
     fn next(&mut self) -> Option<Event> {
         if self.left == 0 {
             return None;

@@ -12,6 +12,7 @@ mod keys;
 mod laws;
 mod packed;
 mod picks;
+mod rows;
 mod served;
 mod shard;
 mod table;

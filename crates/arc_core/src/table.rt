@@ -21,17 +21,15 @@ use crate::entries::Entries;
 use crate::entry::{Entry, Phase};
 use crate::keys::Keys;
 use crate::picks::Picks;
-use arc_lists::Lists;
 use blk_ptr::{Key, NoMemory, State};
 use key_table::NO_PLACE;
 use std::alloc::Global;
 use std::marker::Model;
 
-/// The entries of a shard, with the lists on which they stand. Contracts see a plain shard.
+/// The entries of a shard, with what a feed and a scan for room have in hand. Contracts see a plain shard.
 #[derive(Debug, Drop)]
 pub struct Table {
     entries: Entries,
-    lists: Lists,
     mintime: u64,
     bounds: Bounds,
     passed: Keys,
@@ -61,8 +59,7 @@ impl Table {
         ensures marked { result.marked ≡ [] }
     {
         Table {
-            entries: Entries::new(alloc),
-            lists: Lists::new(alloc, c),
+            entries: Entries::new(alloc, c),
             mintime,
             bounds,
             passed: Keys::new(alloc),
@@ -81,17 +78,16 @@ impl Table {
         ensures marks { OnOk result (self.new.marks ≡ max self.old.marks marks) }
         ensures err { OnErr result (self.new ≡ self.old) }
     {
-        // What there is room for in the lists has room everywhere.
-        if entries <= self.lists.spare() && marks <= self.marks {
+        // What there is room for in the entries has room everywhere.
+        if entries <= self.entries.spare() && marks <= self.marks {
             return Ok(());
         }
         let all = self.marks.max(marks);
         self.passed.reserve(all)?;
         self.picked.reserve(all)?;
-        self.entries.reserve(entries)?;
         let most = self.entries.len().checked_add(entries).ok_or(NoMemory)?;
         self.marked.reserve(most)?;
-        self.lists.reserve(entries)?;
+        self.entries.reserve(entries)?;
         self.marks = all;
         Ok(())
     }
@@ -137,10 +133,7 @@ impl Table {
         ensures tidy { IsTidy self.old.shard }
         ensures placed { (e made : Entry) × (entry_of key self.old.shard ≡ Some e) × FnOnceReturnsAtMut F.FnOnce change e tt made × (self.new ≡ record self.old { shard = placed made self.old.shard }) }
     {
-        // The entries and the lists get and lose their rows together, so a key's row mostly stands at one place in both.
-        if let Some((state, unheld)) = self.entries.change_near(near, key, change) {
-            self.lists.change_state_near(near, key, state, unheld);
-        }
+        self.entries.change_near(near, key, change);
     }
 
     /// Adds an entry of a key that has none, on no sequence.
@@ -151,7 +144,6 @@ impl Table {
         requires sound { IsSoundEntry entry.now }
         ensures { self.new ≡ record self.old { shard = come entry.now self.old.shard; spare = self.old.spare - 1 } }
     {
-        self.lists.put(entry.key, entry.state, false);
         self.entries.add(entry);
     }
 
@@ -160,7 +152,6 @@ impl Table {
         requires { IsSome (entry_of key self.old.shard) }
         ensures { self.new ≡ record self.old { shard = gone key self.old.shard; spare = self.old.spare + 1 } }
     {
-        self.lists.take_out(key);
         self.entries.remove(key);
     }
 
@@ -177,20 +168,20 @@ impl Table {
     pub fn size(&self, state: State) -> u128
         ensures { result ≡ size_in state self.now.shard }
     {
-        self.lists.size(state)
+        self.entries.size(state)
     }
 
     /// The target in bytes.
     pub fn p(&self) -> u64
         ensures { result ≡ self.now.shard.p }
     {
-        self.lists.p()
+        self.entries.p()
     }
 
     /// The capacity in bytes.
     pub fn c(&self) -> u64
         ensures { result ≡ self.now.shard.c }
     {
-        self.lists.c()
+        self.entries.c()
     }
 }

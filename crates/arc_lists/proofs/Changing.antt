@@ -5,20 +5,16 @@ use Rattle.blk_ptr.specs.State.{is_same_state}
 use Rattle.blk_ptr.specs.declared.key.Key.{Key}
 use Rattle.blk_ptr.specs.declared.state.State.{State}
 use Rattle.blk_ptr.specs.declared.state.State.TheVariants.{Anon, Mru, MruGhost, Mfu, MfuGhost, L2Only}
-use Rattle.arc_lists.specs.declared.lists.Lists.TheInside.{Inside}
-use Rattle.arc_lists.specs.declared.member.Member.{Member}
-use Rattle.arc_lists.specs.declared.post.Post.{Post}
-use Rattle.arc_lists.specs.declared.post.Standing.{Standing}
 use Rattle.arc_lists.specs.declared.queues.Queues.{Queues}
 use Rattle.arc_lists.specs.declared.sizes.Sizes.{Sizes}
 use Rattle.arc_lists.specs.ByKey.{IsRising, has_key, item_at, with_change, with_item, without}
-use Rattle.arc_lists.specs.Kept.{ListsKeep, plain}
-use Rattle.arc_lists.specs.PlainLists.{member, member_key, put, share_of, take_out}
-use Rattle.arc_lists.specs.Posts.{Posts, members_of, post, post_key, standing}
+use Rattle.arc_lists.specs.Kept.{ListsKeep, Parts}
+use Rattle.arc_lists.specs.Members.{member, share_of}
+use Rattle.arc_lists.specs.Posts.{Post, Standing, Posts, members_of, post, post_key, standing}
 use Rattle.arc_lists.specs.Queues.{HaveRoom, IsEntered, left, sequences_in, size_at}
-use Rattle.arc_lists.specs.Sequences.{Sequences, put_at_head, taken_off}
-use Rattle.arc_lists.proofs.Keeping.{ListsKeep-put, ListsKeep-take_out, left-of, length-members, lists, lists-same, rising-members, sequences-entered}
-use Rattle.arc_lists.proofs.Placing.{member-at, members-come, members-go}
+use Rattle.arc_lists.specs.Sequences.{put_at_head, taken_off}
+use Rattle.arc_lists.proofs.Keeping.{ListsKeep-put, ListsKeep-take_out, left-of, length-members, rising-members, sequences-entered}
+use Rattle.arc_lists.proofs.Placing.{member-at}
 use Rattle.arc_lists.proofs.SizeSums.{size_of-without}
 use Rattle.arc_lists.proofs.Standing.{HaveRoom-more}
 use Rattle.arc_lists.proofs.Tables.{item_at-without_same, with_item-without}
@@ -43,7 +39,7 @@ smaller-at s MfuGhost z r = refl
 smaller-at s L2Only z r = refl
 
 -- the lists without the key
-abbrev pub without_it : (l : Inside) (k : Key) (s : Standing) → Inside
+abbrev pub without_it : (l : Parts) (k : Key) (s : Standing) → Parts
 without_it l k s = record {
   members = record { posts = without post_key k l.members.posts; spare = l.members.spare + 1 };
   queues = left s.state s.at l.queues;
@@ -52,14 +48,14 @@ without_it l k s = record {
   c = l.c;
 }
 
-kept_without : (l : Inside) (k : Key) (s : Standing) → ListsKeep l → item_at post_key k l.members.posts ≡ Some (post k s) → ListsKeep (without_it l k s)
+kept_without : (l : Parts) (k : Key) (s : Standing) → ListsKeep l → item_at post_key k l.members.posts ≡ Some (post k s) → ListsKeep (without_it l k s)
 kept_without l k s kept item = ListsKeep-take_out l (without_it l k s) k s kept item refl less refl
   where
     less : (t : State) → size_at t (smaller s.state k.size l.sizes) + share_of t (member k s.state) ≡ size_at t l.sizes
     less t = omega (arith, smaller-at s.state t k.size l.sizes, kept.sizes t, size_of-without t k (members_of l.members.posts) (member k s.state) (member-at k l.members.posts s item))
 
 -- there is room for a key then
-pub room_without : (l : Inside) (k : Key) (s : Standing) → ListsKeep l → item_at post_key k l.members.posts ≡ Some (post k s) → HaveRoom (left s.state s.at l.queues)
+pub room_without : (l : Parts) (k : Key) (s : Standing) → ListsKeep l → item_at post_key k l.members.posts ≡ Some (post k s) → HaveRoom (left s.state s.at l.queues)
 room_without l k s kept item =
     let n = kept_without l k s kept item in
     let posts = without post_key k l.members.posts in
@@ -76,7 +72,7 @@ posts_with posts spare = record { posts = posts; spare = spare }
 posts_same : (ps qs : List Post) (m n : ℕ) → ps ≡ qs → m ≡ n → posts_with ps m ≡ posts_with qs n
 posts_same ps qs m n one two = ap (λ z. posts_with z m) one ∙ ap (λ z. posts_with qs z) two
 
-pub ListsKeep-change_state : (l n : Inside) (k : Key) (before : Standing) (s : State) (at : Option ℕ) (unheld : Bool) → ListsKeep l → item_at post_key k l.members.posts ≡ Some (post k before)
+pub ListsKeep-change_state : (l n : Parts) (k : Key) (before : Standing) (s : State) (at : Option ℕ) (unheld : Bool) → ListsKeep l → item_at post_key k l.members.posts ≡ Some (post k before)
     → k.size ≤ largest_block → n.members ≡ posts_with (with_change post_key k (λ _. post k (standing s at)) l.members.posts) l.members.spare
     → ((t : State) → size_at t n.sizes + share_of t (member k before.state) ≡ size_at t l.sizes + share_of t (member k s))
     → IsEntered unheld s k at (left before.state before.at l.queues) n.queues → ListsKeep n
@@ -90,18 +86,9 @@ ListsKeep-change_state l n k before s at unheld kept item small is sizes entered
     (λ t. omega (arith, sizes t, smaller-at before.state t k.size l.sizes, kept.sizes t, size_of-without t k (members_of l.members.posts) (member k before.state) (member-at k l.members.posts before item)))
     entered (room_without l k before kept item)
 
-same_lists : (ms ms' : List Member) (q q' : Sequences) (p c m n : ℕ) → ms ≡ ms' → q ≡ q' → m ≡ n → lists ms q p c m ≡ lists ms' q' p c n
-same_lists ms ms' q q' p c m n one two three = lists-same ms ms' q q' p c m one two ∙ ap (λ z. lists ms' q' p c z) three
-
--- and what they are then
-pub changed_state : (l : Inside) (k : Key) (before : Standing) (s : State) (at : Option ℕ) (unheld : Bool) (q : Queues) → ListsKeep l → item_at post_key k l.members.posts ≡ Some (post k before)
+-- and what the sequences are then
+pub changed-sequences : (l : Parts) (k : Key) (before : Standing) (s : State) (at : Option ℕ) (unheld : Bool) (q : Queues) → ListsKeep l → item_at post_key k l.members.posts ≡ Some (post k before)
     → IsEntered unheld s k at (left before.state before.at l.queues) q
-    → lists (members_of (with_change post_key k (λ _. post k (standing s at)) l.members.posts)) (sequences_in q) l.p l.c l.members.spare ≡ put k s unheld (take_out k (plain l))
-changed_state l k before s at unheld q kept item entered =
-    let posts = l.members.posts in
-    let r = standing s at in
-    let members : members_of (with_change post_key k (λ _. post k r) posts) ≡ with_item member_key (member k s) (without member_key k (members_of posts)) =
-    ap members_of (posts_are posts k r before kept.rising item) ∙ members-come k r (without post_key k posts) ∙ ap (λ ms. with_item member_key (member k s) ms) (members-go k posts) in
-    let sequences : sequences_in q ≡ (if unheld then put_at_head s k (taken_off k (sequences_in l.queues)) else taken_off k (sequences_in l.queues)) =
-    sequences-entered unheld s k at (left before.state before.at l.queues) q entered ∙ ap (λ z. if unheld then put_at_head s k z else z) (left-of l k before kept item).sequences in
-    same_lists _ _ _ _ _ _ _ _ members sequences (omega arith)
+    → sequences_in q ≡ (if unheld then put_at_head s k (taken_off k (sequences_in l.queues)) else taken_off k (sequences_in l.queues))
+changed-sequences l k before s at unheld q kept item entered =
+    sequences-entered unheld s k at (left before.state before.at l.queues) q entered ∙ ap (λ z. if unheld then put_at_head s k z else z) (left-of l k before kept item).sequences

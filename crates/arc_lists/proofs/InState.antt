@@ -9,7 +9,7 @@ use Rattle.blk_ptr.specs.State.{is_same_state}
 use Rattle.blk_ptr.proofs.Keys.{key_eq-is, key_eq-sym}
 use Rattle.arc_lists.specs.declared.member.Member.{Member}
 use Rattle.arc_lists.specs.ByKey.{has_key, item_at, with_item, without}
-use Rattle.arc_lists.specs.PlainLists.{member, member_key}
+use Rattle.arc_lists.specs.Members.{member, member_key}
 use Rattle.arc_lists.specs.Queues.{AreInState, IsOnlyOn}
 use Rattle.arc_lists.specs.Sequences.{Sequences, has_sequence, put_at_head, sequence_of, stands, stands_on, taken_off, without_key}
 use Rattle.arc_lists.proofs.SizeSums.{is_same_state-same}
@@ -32,9 +32,6 @@ stood s j k q there = elim (cases_true (stands_on j (sequence_of s q))) [
   | inl before ↦ before
   | inr off ↦ absurd (false≢true (sym (stands_on-without_key j k (sequence_of s q) off) ∙ ap (stands_on j) (sym (sequence_of-taken_off s k q)) ∙ there))
 ]
-
-pub AreInState-off : (ms : List Member) (k : Key) (q : Sequences) → AreInState ms q → AreInState ms (taken_off k q)
-AreInState-off ms k q stated s j there = stated s j (stood s j k q there)
 
 pub AreInState-without : (k : Key) (ms : List Member) (q : Sequences) → AreInState ms q → AreInState (without member_key k ms) (taken_off k q)
 AreInState-without k ms q stated s j there = elim (cases_true (key_eq k j)) [

@@ -1,5 +1,5 @@
 -- What a key that comes, goes, is put on its sequence or taken off keeps of the lists' invariant.
-use Rattle.std.proofs.Common.{◌≡◌, ℕ, suc, ◌+◌, ◌-◌, ◌<◌, ◌≤◌, ◌^◌, Bool, true, false, List, [], ◌∷◌, length, Option, Some, None, IsTrue, IsSome, IsSomeAnd, MatchOption, OnErr, OnOk, Result, Ok, Err, max, is_some, option_map, if◌then◌else◌, ◌⊎◌, inl, inr, refl, sym, ap, subst, ◌∙◌, arith}
+use Rattle.std.proofs.Common.{◌≡◌, ℕ, suc, ◌+◌, ◌-◌, ◌<◌, ◌≤◌, ◌^◌, Bool, true, false, List, [], ◌∷◌, length, Option, Some, None, IsTrue, IsSome, MatchOption, is_some, option_map, if◌then◌else◌, ◌⊎◌, inl, inr, refl, sym, ap, subst, ◌∙◌, arith}
 use Rattle.std.specs.List.{AllByRecursion}
 use Rattle.std.proofs.lemmas.Bool.{false≢true}
 use Rattle.blk_ptr.specs.Size.{largest_block}
@@ -7,31 +7,28 @@ use Rattle.blk_ptr.specs.declared.key.Key.{Key}
 use Rattle.blk_ptr.specs.declared.state.State.{State}
 use Rattle.blk_ptr.specs.declared.state.State.TheVariants.{Anon, Mru, MruGhost, Mfu, MfuGhost, L2Only}
 use Rattle.blk_ptr.specs.Order.{key_eq}
-use Rattle.blk_ptr.proofs.Keys.{key_eq-is, key_eq-same, key_eq-sym}
+use Rattle.blk_ptr.proofs.Keys.{key_eq-is, key_eq-sym}
 use Rattle.arc_links.specs.PlainLinks.{AreApart, element_at}
-use Rattle.arc_lists.specs.declared.lists.Lists.TheInside.{Inside}
 use Rattle.arc_lists.specs.declared.member.Member.{Member}
-use Rattle.arc_lists.specs.declared.post.Post.{Post}
-use Rattle.arc_lists.specs.declared.post.Standing.{Standing}
 use Rattle.arc_lists.specs.declared.queues.Queues.{Queues}
-use Rattle.arc_lists.specs.ByKey.{IsAbove, IsRising, has_key, item_at, with_change, with_item, without}
-use Rattle.arc_lists.specs.Kept.{ListsKeep, plain}
-use Rattle.arc_lists.specs.PlainLists.{IsBound, PlainLists, member, member_key, share_of, size_of}
-use Rattle.arc_lists.specs.Posts.{Posts, member_of, members_of, post, post_key, standing}
-use Rattle.arc_lists.specs.Queues.{AreInState, AreNodesApart, ArePlaced, AreSequencesOf, HaveCapacity, HaveRoom, HaveSameNodes, IsEntered, IsOn, IsOnlyOn, IsPlaced, IsPushed, left, nodes_of, pushed, sequences_in, size_at}
+use Rattle.arc_lists.specs.ByKey.{IsAbove, IsRising, has_key, item_at, with_item, without}
+use Rattle.arc_lists.specs.Kept.{ListsKeep, Parts}
+use Rattle.arc_lists.specs.Members.{member, member_key, share_of, size_of}
+use Rattle.arc_lists.specs.Posts.{Post, Standing, Posts, member_of, members_of, post, post_key, standing}
+use Rattle.arc_lists.specs.Queues.{AreInState, AreNodesApart, ArePlaced, AreSequencesOf, HaveCapacity, HaveRoom, HaveSameNodes, IsEntered, IsOn, IsOnlyOn, IsPlaced, left, nodes_of, pushed, sequences_in, size_at}
 use Rattle.arc_lists.specs.Sequences.{Sequences, has_sequence, is_distinct, put_at_head, sequence_of, stands, stands_on, taken_off}
-use Rattle.arc_lists.proofs.InState.{AreInState-head, AreInState-off, AreInState-with_item, AreInState-without, only_on}
-use Rattle.arc_lists.proofs.Placing.{apart-pushed, apart-removed, member-at, members-come, members-go, members-stay, placed-new, room-pushed, room-removed, sequences-pushed, sequences-removed, stays-pushed, stays-removed}
+use Rattle.arc_lists.proofs.InState.{AreInState-head, AreInState-with_item, AreInState-without, only_on}
+use Rattle.arc_lists.proofs.Placing.{apart-pushed, apart-removed, member-at, members-come, members-go, placed-new, room-pushed, room-removed, sequences-pushed, sequences-removed, stays-pushed, stays-removed}
 use Rattle.arc_lists.proofs.SizeSums.{size_of-with_item, size_of-without, size_of-le}
-use Rattle.arc_lists.proofs.Standing.{AreSequencesOf-head, AreSequencesOf-off, AreSequencesOf-with_item, AreSequencesOf-without, HaveCapacity-le, IsOff, off_absent, off_each, stands_on-without_same, without_key-absent}
-use Rattle.arc_lists.proofs.Tables.{cases_true, some_is, item_at-map, All-with_item, All-without, IsRising-with_change, IsRising-with_item, IsRising-without, item_at-with_change_other, item_at-with_change_same, item_at-with_item_other, item_at-with_item_same, item_at-without_other, item_at-without_same, length-with_change, length-with_item, length-without}
+use Rattle.arc_lists.proofs.Standing.{AreSequencesOf-head, AreSequencesOf-with_item, AreSequencesOf-without, HaveCapacity-le, IsOff, off_absent, without_key-absent}
+use Rattle.arc_lists.proofs.Tables.{cases_true, some_is, item_at-map, All-with_item, All-without, IsRising-with_item, IsRising-without, item_at-with_item_other, item_at-with_item_same, item_at-without_other, item_at-without_same, length-with_item, length-without}
 
 pub length-members : (posts : List Post) → length (members_of posts) ≡ length posts
 length-members [] = refl
 length-members (p ∷ posts) = ap (λ n. suc n) (length-members posts)
 
 -- every size is far from the end of its type
-pub size_at-lt : (l : Inside) (s : State) (z : ℕ) → ListsKeep l → z < 2 ^ 64 → size_at s l.sizes + z < 2 ^ 90
+pub size_at-lt : (l : Parts) (s : State) (z : ℕ) → ListsKeep l → z < 2 ^ 64 → size_at s l.sizes + z < 2 ^ 90
 size_at-lt l s z kept small =
     omega (arith, kept.sizes s, size_of-le s (members_of l.members.posts) kept.small, length-members l.members.posts, kept.few)
 
@@ -50,13 +47,6 @@ no-member posts k absent = ap is_some (item_at-map post_key member_key member_of
     none None off = refl
     none (Some p) off = off
 
-pub no-post : (posts : List Post) (k : Key) → has_key member_key k (members_of posts) ≡ false → has_key post_key k posts ≡ false
-no-post posts k absent = some (item_at post_key k posts) (sym (ap is_some (item_at-map post_key member_key member_of (λ p. refl) k posts)) ∙ absent)
-  where
-    some : (o : Option Post) → is_some (option_map member_of o) ≡ false → is_some o ≡ false
-    some None off = refl
-    some (Some p) off = off
-
 -- a key that is a member has a post
 pub post-of : (posts : List Post) (k : Key) → IsSome (item_at member_key k (members_of posts)) → IsSome (item_at post_key k posts)
 post-of posts k there = some (item_at post_key k posts) (sym (ap is_some (item_at-map post_key member_key member_of (λ p. refl) k posts)) ∙ there)
@@ -66,7 +56,7 @@ post-of posts k there = some (item_at post_key k posts) (sym (ap is_some (item_a
     some (Some p) off = refl
 
 -- the invariant, from what the members are
-kept-of : (n : Inside) (posts : List Post) (spare : ℕ) → n.members ≡ record { posts = posts; spare = spare } → IsRising post_key posts
+kept-of : (n : Parts) (posts : List Post) (spare : ℕ) → n.members ≡ record { posts = posts; spare = spare } → IsRising post_key posts
     → AllByRecursion (λ m. m.key.size ≤ largest_block) (members_of posts) → ((s : State) → size_at s n.sizes ≡ size_of s (members_of posts)) → length posts + spare < 2 ^ 64
     → HaveCapacity (length posts + spare) n.queues → AreSequencesOf (members_of posts) (sequences_in n.queues) → AreInState (members_of posts) (sequences_in n.queues)
     → ArePlaced posts n.queues → AreNodesApart n.queues → ListsKeep n
@@ -103,22 +93,6 @@ module _ (k : Key) (posts : List Post) where
     | inr differs ↦ stays j s (key_eq-sym k j ∙ differs) (placed j s (sym (item_at-without_other post_key j k posts differs) ∙ item))
   ]
 
-  placed-change : (r before : Standing) (q q' : Queues) → item_at post_key k posts ≡ Some (post k before) → ((j : Key) (s : Standing) → key_eq k j ≡ false → IsPlaced j s q → IsPlaced j s q') → IsPlaced k r q'
-      → ArePlaced posts q → ArePlaced (with_change post_key k (λ _. post k r) posts) q'
-  placed-change r before q q' was stays here placed j s item = elim (cases_true (key_eq j k)) [
-    | inl same ↦
-        let is = key_eq-is j k same in
-        let at : post k r ≡ post j s =
-        some_is (sym (item_at-with_change_same post_key k (λ _. post k r) posts (post k before) (key_eq-same k) was) ∙ ap (λ h. item_at post_key h (with_change post_key k (λ _. post k r) posts)) (sym is) ∙ item) in
-        subst (λ (p : Post). IsPlaced p.key p.standing q') at here
-    | inr differs ↦
-        let keeps : (p : Post) → key_eq (post_key p) k ≡ true → k ≡ post_key p = λ p same. sym (key_eq-is (post_key p) k same) in
-        stays j s (key_eq-sym k j ∙ differs) (placed j s (sym (item_at-with_change_other post_key j k (λ _. post k r) posts keeps differs) ∙ item))
-  ]
-
-  change-rising : (r : Standing) → IsRising post_key posts → IsRising post_key (with_change post_key k (λ _. post k r) posts)
-  change-rising r rising = IsRising-with_change post_key k (λ _. post k r) posts (λ p same. sym (key_eq-is (post_key p) k same)) rising
-
 off-each : (s : State) (q : Sequences) {k : Key} → IsOff k q → stands_on k (sequence_of s q) ≡ false
 off-each Anon q off = refl
 off-each Mru q off = off.mru
@@ -130,7 +104,7 @@ off-each L2Only q off = refl
 -- ---- a key comes
 
 -- and stands on no sequence
-pub ListsKeep-put_held : (l n : Inside) (k : Key) (s : State) → ListsKeep l → 0 < l.members.spare → has_key post_key k l.members.posts ≡ false → k.size ≤ largest_block
+pub ListsKeep-put_held : (l n : Parts) (k : Key) (s : State) → ListsKeep l → 0 < l.members.spare → has_key post_key k l.members.posts ≡ false → k.size ≤ largest_block
     → n.members ≡ record { posts = with_item post_key (post k (standing s None)) l.members.posts; spare = l.members.spare - 1 }
     → ((t : State) → size_at t n.sizes ≡ size_at t l.sizes + share_of t (member k s)) → n.queues ≡ l.queues → ListsKeep n
 ListsKeep-put_held l n k s kept some absent small is sizes queues =
@@ -153,7 +127,7 @@ ListsKeep-put_held l n k s kept some absent small is sizes queues =
     (subst AreNodesApart (sym queues) kept.apart)
 
 -- and stands at the head of its state's
-pub ListsKeep-put_free : (l n : Inside) (k : Key) (s : State) (p : ℕ) → ListsKeep l → 0 < l.members.spare → has_key post_key k l.members.posts ≡ false → k.size ≤ largest_block
+pub ListsKeep-put_free : (l n : Parts) (k : Key) (s : State) (p : ℕ) → ListsKeep l → 0 < l.members.spare → has_key post_key k l.members.posts ≡ false → k.size ≤ largest_block
     → n.members ≡ record { posts = with_item post_key (post k (standing s (Some p))) l.members.posts; spare = l.members.spare - 1 }
     → ((t : State) → size_at t n.sizes ≡ size_at t l.sizes + share_of t (member k s)) → n.queues ≡ pushed s k p l.queues
     → has_sequence s ≡ true → element_at p (nodes_of s l.queues) ≡ None → HaveRoom l.queues → ListsKeep n
@@ -214,7 +188,7 @@ sequences-entered unheld s k at old new entered = elim (entered-cases unheld s k
   | inr came ↦ ap sequences_in came.new_is ∙ sequences-pushed s k came.place old ∙ sym (came.head (sequences_in old))
 ]
 
-pub ListsKeep-put : (l n : Inside) (k : Key) (s : State) (at : Option ℕ) (unheld : Bool) → ListsKeep l → 0 < l.members.spare → has_key post_key k l.members.posts ≡ false → k.size ≤ largest_block
+pub ListsKeep-put : (l n : Parts) (k : Key) (s : State) (at : Option ℕ) (unheld : Bool) → ListsKeep l → 0 < l.members.spare → has_key post_key k l.members.posts ≡ false → k.size ≤ largest_block
     → n.members ≡ record { posts = with_item post_key (post k (standing s at)) l.members.posts; spare = l.members.spare - 1 }
     → ((t : State) → size_at t n.sizes ≡ size_at t l.sizes + share_of t (member k s)) → IsEntered unheld s k at l.queues n.queues → HaveRoom l.queues → ListsKeep n
 ListsKeep-put l n k s at unheld kept some absent small is sizes entered room = elim (entered-cases unheld s k at l.queues n.queues entered) [
@@ -241,16 +215,16 @@ on_some k q there = elim (cases_true (stands_on k q.mru)) [
 ]
 
 -- a member that stands on a sequence does so on its state's, at its place
-pub record OnPlace (l : Inside) (k : Key) (s : Standing) : Type 0 where
+pub record OnPlace (l : Parts) (k : Key) (s : Standing) : Type 0 where
   pub place : ℕ
   pub at_is : s.at ≡ Some place
   pub node : element_at place (nodes_of s.state l.queues) ≡ Some k
   pub on : stands_on k (sequence_of s.state (sequences_in l.queues)) ≡ true
 
-abbrev OnPlaceAt : Inside → Key → Standing → Option ℕ → Type 0
+abbrev OnPlaceAt : Parts → Key → Standing → Option ℕ → Type 0
 OnPlaceAt l k s at = (p : ℕ) × (at ≡ Some p) × (element_at p (nodes_of s.state l.queues) ≡ Some k) × (stands_on k (sequence_of s.state (sequences_in l.queues)) ≡ true)
 
-pub on-place : (l : Inside) (k : Key) (s : Standing) → ListsKeep l → item_at post_key k l.members.posts ≡ Some (post k s) → stands k (sequences_in l.queues) ≡ true → OnPlace l k s
+pub on-place : (l : Parts) (k : Key) (s : Standing) → ListsKeep l → item_at post_key k l.members.posts ≡ Some (post k s) → stands k (sequences_in l.queues) ≡ true → OnPlace l k s
 on-place l k s kept item there =
     let some = on_some k (sequences_in l.queues) there in
     let same : s.state ≡ some.0 = ap (λ (m : Member). m.state) (some_is (sym (member-at k l.members.posts s item) ∙ kept.stated some.0 k some.1)) in
@@ -263,7 +237,7 @@ on-place l k s kept item there =
     go None on off = absurd (false≢true (sym off ∙ on))
     go (Some p) on node = (p, refl, node, on)
 
-pub is-on : (l : Inside) (k : Key) (s : Standing) → ListsKeep l → item_at post_key k l.members.posts ≡ Some (post k s) → IsOn s.state s.at l.queues
+pub is-on : (l : Parts) (k : Key) (s : Standing) → ListsKeep l → item_at post_key k l.members.posts ≡ Some (post k s) → IsOn s.state s.at l.queues
 is-on l k s kept item = go s.at (kept.placed k s item)
   where
     go : (at : Option ℕ) → MatchOption at (stands_on k (sequence_of s.state (sequences_in l.queues)) ≡ false) (λ p. element_at p (nodes_of s.state l.queues) ≡ Some k) → IsOn s.state at l.queues
@@ -290,13 +264,13 @@ off-of k Mfu q only off = record { mru = only Mru refl; mru_ghost = only MruGhos
 off-of k MfuGhost q only off = record { mru = only Mru refl; mru_ghost = only MruGhost refl; mfu = only Mfu refl; mfu_ghost = off }
 
 -- the lists after a member's node went, where it had one
-pub record Left (l : Inside) (k : Key) (s : Standing) (q : Queues) : Type 0 where
+pub record Left (l : Parts) (k : Key) (s : Standing) (q : Queues) : Type 0 where
   pub sequences : sequences_in q ≡ taken_off k (sequences_in l.queues)
   pub stays : (j : Key) (r : Standing) → key_eq k j ≡ false → IsPlaced j r l.queues → IsPlaced j r q
   pub apart : AreNodesApart q
   pub room : (n : ℕ) → HaveCapacity n l.queues → HaveCapacity n q
 
-pub left-of : (l : Inside) (k : Key) (s : Standing) → ListsKeep l → item_at post_key k l.members.posts ≡ Some (post k s) → Left l k s (left s.state s.at l.queues)
+pub left-of : (l : Parts) (k : Key) (s : Standing) → ListsKeep l → item_at post_key k l.members.posts ≡ Some (post k s) → Left l k s (left s.state s.at l.queues)
 left-of l k s kept item = go s.at (kept.placed k s item)
   where
     only : IsOnlyOn s.state k (sequences_in l.queues)
@@ -318,7 +292,7 @@ left-of l k s kept item = go s.at (kept.placed k s item)
 
 -- ---- a key goes
 
-pub ListsKeep-take_out : (l n : Inside) (k : Key) (s : Standing) → ListsKeep l → item_at post_key k l.members.posts ≡ Some (post k s)
+pub ListsKeep-take_out : (l n : Parts) (k : Key) (s : Standing) → ListsKeep l → item_at post_key k l.members.posts ≡ Some (post k s)
     → n.members ≡ record { posts = without post_key k l.members.posts; spare = l.members.spare + 1 }
     → ((t : State) → size_at t n.sizes + share_of t (member k s.state) ≡ size_at t l.sizes) → n.queues ≡ left s.state s.at l.queues → ListsKeep n
 ListsKeep-take_out l n k s kept item is sizes queues =
@@ -341,87 +315,6 @@ ListsKeep-take_out l n k s kept item is sizes queues =
     (subst (ArePlaced (without post_key k posts)) (sym queues) (placed-go k posts l.queues q kept.rising gone.stays kept.placed))
     (subst AreNodesApart (sym queues) gone.apart)
 
--- ---- a member is put on its sequence, or taken off
-
-kept-change : (l n : Inside) (k : Key) (s : Standing) (at : Option ℕ) (q : Queues) → ListsKeep l → item_at post_key k l.members.posts ≡ Some (post k s)
-    → n.members ≡ record { posts = with_change post_key k (λ _. post k (standing s.state at)) l.members.posts; spare = l.members.spare } → n.sizes ≡ l.sizes → n.queues ≡ q
-    → HaveCapacity (length l.members.posts + l.members.spare) q → AreSequencesOf (members_of l.members.posts) (sequences_in q) → AreInState (members_of l.members.posts) (sequences_in q)
-    → ((j : Key) (r : Standing) → key_eq k j ≡ false → IsPlaced j r l.queues → IsPlaced j r q) → IsPlaced k (standing s.state at) q → AreNodesApart q → ListsKeep n
-kept-change l n k s at q kept item is sizes queues room listed stated stays here apart =
-    let posts = l.members.posts in
-    let after = with_change post_key k (λ _. post k (standing s.state at)) posts in
-    let same = members-stay k s.state s.at at posts item in
-    let count = length-with_change post_key k (λ _. post k (standing s.state at)) posts in
-    kept-of n after l.members.spare is (change-rising k posts (standing s.state at) kept.rising)
-    (subst (AllByRecursion (λ m. m.key.size ≤ largest_block)) (sym same) kept.small)
-    (λ t. ap (size_at t) sizes ∙ kept.sizes t ∙ ap (size_of t) (sym same))
-    (omega (arith, kept.few, count))
-    (subst (HaveCapacity _) (sym queues) (HaveCapacity-le _ _ q (omega (arith, count)) room))
-    (subst (λ z. AreSequencesOf (members_of after) (sequences_in z)) (sym queues) (subst (λ z. AreSequencesOf z (sequences_in q)) (sym same) listed))
-    (subst (λ z. AreInState (members_of after) (sequences_in z)) (sym queues) (subst (λ z. AreInState z (sequences_in q)) (sym same) stated))
-    (subst (ArePlaced after) (sym queues) (placed-change k posts (standing s.state at) s l.queues q item stays here kept.placed))
-    (subst AreNodesApart (sym queues) apart)
-
-pub ListsKeep-free : (l n : Inside) (k : Key) (s : Standing) (at : Option ℕ) → ListsKeep l → item_at post_key k l.members.posts ≡ Some (post k s) → stands k (sequences_in l.queues) ≡ false
-    → n.members ≡ record { posts = with_change post_key k (λ _. post k (standing s.state at)) l.members.posts; spare = l.members.spare } → n.sizes ≡ l.sizes
-    → IsPushed s.state k at l.queues n.queues → HaveRoom l.queues → ListsKeep n
-ListsKeep-free l n k s at kept item off is sizes entered room = elim (entered-cases true s.state k at l.queues n.queues entered) [
-  | inl stayed ↦
-      kept-change l n k s at l.queues kept item is sizes stayed.same kept.queues kept.listed kept.stated (λ j r differs placed. placed)
-      (subst (λ o. IsPlaced k (standing s.state o) l.queues) (sym stayed.at_is) (off-each s.state (sequences_in l.queues) away)) kept.apart
-  | inr came ↦
-      let q = pushed s.state k came.place l.queues in
-      let seq = sequences-pushed s.state k came.place l.queues in
-      let at_member = member-at k l.members.posts s item in
-      let there : IsTrue (has_key member_key k (members_of l.members.posts)) = ap is_some at_member in
-      kept-change l n k s at q kept item is sizes came.new_is (room-pushed s.state k came.place _ l.queues room kept.queues)
-      (subst (AreSequencesOf (members_of l.members.posts)) (sym seq) (AreSequencesOf-head s.state _ k (sequences_in l.queues) there away kept.listed))
-      (subst (AreInState (members_of l.members.posts)) (sym seq) (AreInState-head s.state _ k (sequences_in l.queues) at_member kept.stated))
-      (λ j r differs placed. stays-pushed s.state j k r came.place l.queues came.free differs placed)
-      (subst (λ o. IsPlaced k (standing s.state o) q) (sym came.at_is) (placed-new s.state k came.place l.queues came.has))
-      (apart-pushed s.state k came.place l.queues came.free kept.apart)
-]
-  where
-    away : IsOff k (sequences_in l.queues)
-    away = off_each k (sequences_in l.queues) off
-
-pub ListsKeep-bind : (l n : Inside) (k : Key) (s : Standing) → ListsKeep l → item_at post_key k l.members.posts ≡ Some (post k s)
-    → n.members ≡ record { posts = with_change post_key k (λ _. post k (standing s.state None)) l.members.posts; spare = l.members.spare } → n.sizes ≡ l.sizes
-    → n.queues ≡ left s.state s.at l.queues → ListsKeep n
-ListsKeep-bind l n k s kept item is sizes queues =
-    let q = left s.state s.at l.queues in
-    let gone = left-of l k s kept item in
-    let ms = members_of l.members.posts in
-    let off : stands_on k (sequence_of s.state (sequences_in q)) ≡ false = ap (λ z. stands_on k (sequence_of s.state z)) gone.sequences ∙ taken s.state (sequences_in l.queues) in
-    kept-change l n k s None q kept item is sizes queues (gone.room _ kept.queues)
-    (subst (AreSequencesOf ms) (sym gone.sequences) (AreSequencesOf-off ms k (sequences_in l.queues) kept.listed))
-    (subst (AreInState ms) (sym gone.sequences) (AreInState-off ms k (sequences_in l.queues) kept.stated)) gone.stays off gone.apart
-  where
-    taken : (t : State) (q : Sequences) → stands_on k (sequence_of t (taken_off k q)) ≡ false
-    taken Anon q = refl
-    taken Mru q = stands_on-without_same k q.mru
-    taken MruGhost q = stands_on-without_same k q.mru_ghost
-    taken Mfu q = stands_on-without_same k q.mfu
-    taken MfuGhost q = stands_on-without_same k q.mfu_ghost
-    taken L2Only q = refl
-
--- ---- the view
-
-abbrev pub lists : List Member → Sequences → ℕ → ℕ → ℕ → PlainLists
-lists ms q p c spare = record { members = ms; sequences = q; p = p; c = c; spare = spare }
-
-pub lists-same : (ms ms' : List Member) (q q' : Sequences) (p c spare : ℕ) → ms ≡ ms' → q ≡ q'
-    → lists ms q p c spare ≡ lists ms' q' p c spare
-lists-same ms ms' q q' p c spare one two = ap (λ z. lists z q p c spare) one ∙ ap (λ z. lists ms' z p c spare) two
-
--- a key that may be freed has a post
-pub bound-post : (l : Inside) (k : Key) → IsBound k (plain l) → IsSome (item_at post_key k l.members.posts)
-bound-post l k bound = post-of l.members.posts k (some (item_at member_key k (members_of l.members.posts)) bound.has_sequence)
-  where
-    some : (o : Option Member) → IsSomeAnd o (λ m. IsTrue (has_sequence m.state)) → IsSome o
-    some None none = absurd none
-    some (Some m) has = refl
-
 -- ---- more room
 
 same-sequences : (old new : Queues) → HaveSameNodes old new → sequences_in new ≡ sequences_in old
@@ -435,11 +328,11 @@ same-nodes Mfu old new same = same.mfu
 same-nodes MfuGhost old new same = same.mfu_ghost
 same-nodes L2Only old new same = refl
 
-pub ListsKeep-reserve : (l : Inside) (m : Posts) (q : Queues) (n : ℕ) → ListsKeep l → m.posts ≡ l.members.posts → m.spare ≤ n → length l.members.posts + n < 2 ^ 64
+pub ListsKeep-reserve : (l : Parts) (m : Posts) (q : Queues) (n : ℕ) → ListsKeep l → m.posts ≡ l.members.posts → m.spare ≤ n → length l.members.posts + n < 2 ^ 64
     → HaveSameNodes l.queues q → HaveCapacity (length l.members.posts + n) q → ListsKeep record { members = m; queues = q; sizes = l.sizes; p = l.p; c = l.c }
 ListsKeep-reserve l m q n kept is spare few same room =
     let seq = sym (same-sequences l.queues q same) in
-    let after : Inside = record { members = m; queues = q; sizes = l.sizes; p = l.p; c = l.c } in
+    let after : Parts = record { members = m; queues = q; sizes = l.sizes; p = l.p; c = l.c } in
     kept-of after l.members.posts m.spare (ap (λ ps. record { posts = ps; spare = m.spare }) is) kept.rising kept.small kept.sizes (omega (arith, few, spare))
     (HaveCapacity-le _ _ q (omega (arith, spare)) room)
     (subst (AreSequencesOf (members_of l.members.posts)) seq kept.listed) (subst (AreInState (members_of l.members.posts)) seq kept.stated)
@@ -458,8 +351,3 @@ ListsKeep-reserve l m q n kept is spare few same room =
             → MatchOption at (stands_on k (sequence_of s.state (sequences_in q)) ≡ false) (λ p. element_at p (nodes_of s.state q) ≡ Some k)
         go None off = ap (λ z. stands_on k (sequence_of s.state z)) (same-sequences l.queues q same) ∙ off
         go (Some p) node = ap (element_at p) (same-nodes s.state l.queues q same) ∙ node
-
--- a reserve leaves at most the room that was asked for
-pub reserved-le : {A E : Type 0} (r : Result A E) (old new : Posts) (n : ℕ) → old.spare ≤ n → OnOk r (new.spare ≡ max old.spare n) → OnErr r (new ≡ old) → new.spare ≤ n
-reserved-le (Ok a) old new n le ok err = omega (arith, ok)
-reserved-le (Err e) old new n le ok err = omega (arith, ap (λ (z : Posts). z.spare) err)

@@ -1,7 +1,7 @@
 pub mod Changing
-pub mod Enrolled
 pub mod InState
 pub mod Keeping
+pub mod Names
 pub mod Oldest
 pub mod Placing
 pub mod Rising

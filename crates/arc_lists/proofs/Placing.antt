@@ -8,12 +8,10 @@ use Rattle.blk_ptr.specs.Order.{key_eq}
 use Rattle.blk_ptr.proofs.Keys.{key_eq-is, key_eq-same}
 use Rattle.arc_links.specs.PlainLinks.{AreApart, Placed, element_at, placed, without_place}
 use Rattle.arc_links.proofs.Places.{AreApart-without, element_at-head, element_at-other, element_at-without_other, length-without, without_place-absent}
-use Rattle.arc_lists.specs.declared.post.Post.{Post}
-use Rattle.arc_lists.specs.declared.post.Standing.{Standing}
 use Rattle.arc_lists.specs.declared.queues.Queues.{Queues}
-use Rattle.arc_lists.specs.ByKey.{item_at, with_change, with_item, without}
-use Rattle.arc_lists.specs.PlainLists.{member, member_key}
-use Rattle.arc_lists.specs.Posts.{member_of, members_of, post, post_key, standing}
+use Rattle.arc_lists.specs.ByKey.{item_at, with_item, without}
+use Rattle.arc_lists.specs.Members.{member, member_key}
+use Rattle.arc_lists.specs.Posts.{Post, Standing, member_of, members_of, post, post_key, standing}
 use Rattle.arc_lists.specs.Queues.{AreNodesApart, HaveCapacity, HaveRoom, IsOnlyOn, IsPlaced, nodes_of, pushed, removed, sequences_in}
 use Rattle.arc_lists.specs.Sequences.{has_sequence, is_distinct, put_at_head, sequence_of, stands_on, taken_off, without_key}
 use Rattle.arc_lists.proofs.InState.{left}
@@ -156,10 +154,6 @@ placed-new MfuGhost k p q has = element_at-head (placed p k) q.mfu_ghost.nodes
 placed-new Anon k p q has = absurd (false≢true has)
 placed-new L2Only k p q has = absurd (false≢true has)
 
--- what a list has at a place is a key of its state's sequence
-pub at-stands : (s : State) (k : Key) (p : ℕ) (q : Queues) → element_at p (nodes_of s q) ≡ Some k → stands_on k (sequence_of s (sequences_in q)) ≡ true
-at-stands s k p q there = ap (stands_on k) (sequence-nodes s q) ∙ node-stands p k (nodes_of s q) there
-
 pub apart-of : (s : State) (q : Queues) → AreNodesApart q → AreApart (nodes_of s q)
 apart-of Anon q apart = tt
 apart-of Mru q apart = apart.mru
@@ -224,17 +218,3 @@ members-come k s posts = map-with_item post_key member_key member_of (λ p. refl
 
 pub members-go : (k : Key) (posts : List Post) → members_of (without post_key k posts) ≡ without member_key k (members_of posts)
 members-go k posts = map-without post_key member_key member_of (λ p. refl) k posts
-
--- another place makes no other member
-pub members-stay : (k : Key) (s : State) (at at' : Option ℕ) (posts : List Post) → item_at post_key k posts ≡ Some (post k (standing s at))
-    → members_of (with_change post_key k (λ _. post k (standing s at')) posts) ≡ members_of posts
-members-stay k s at at' [] item = refl
-members-stay k s at at' (p ∷ posts) item = elim (cases_true (key_eq p.key k)) [
-  | inl same ↦
-      let is : p ≡ post k (standing s at) = some_is (rw same at item) in
-      rw same (ap (λ (z : Post). member_of z ∷ members_of posts) (same_member is))
-  | inr differs ↦ rw differs (ap (λ l. member_of p ∷ l) (members-stay k s at at' posts (rw differs at item)))
-]
-  where
-    same_member : p ≡ post k (standing s at) → post k (standing s at) ≡ p
-    same_member is = sym is

@@ -9,7 +9,7 @@ use Rattle.blk_ptr.specs.Size.{largest_block}
 use Rattle.blk_ptr.specs.State.{is_same_state}
 use Rattle.arc_lists.specs.declared.member.Member.{Member}
 use Rattle.arc_lists.specs.ByKey.{item_at, with_item, without}
-use Rattle.arc_lists.specs.PlainLists.{member, member_key, share_of, size_of}
+use Rattle.arc_lists.specs.Members.{member, member_key, share_of, size_of}
 use Rattle.arc_lists.proofs.Tables.{cases_true, some_is}
 
 pub is_same_state-same : (s : State) → is_same_state s s ≡ true

@@ -10,10 +10,10 @@ use Rattle.blk_ptr.proofs.Keys.{key_eq-is, key_eq-sym}
 use Rattle.arc_links.specs.PlainLinks.{Placed, PlainLinks, elements}
 use Rattle.arc_lists.specs.declared.member.Member.{Member}
 use Rattle.arc_lists.specs.ByKey.{IsRising, has_key, item_at, with_item, without}
-use Rattle.arc_lists.specs.PlainLists.{member_key}
+use Rattle.arc_lists.specs.Members.{member_key}
 use Rattle.arc_lists.specs.declared.queues.Queues.{Queues}
 use Rattle.arc_lists.specs.Queues.{AreSequencesOf, HaveCapacity, HaveRoom, IsSequenceOf, sequences_in}
-use Rattle.arc_lists.specs.Sequences.{Sequences, is_distinct, put_at_head, stands, stands_on, taken_off, without_key}
+use Rattle.arc_lists.specs.Sequences.{Sequences, is_distinct, put_at_head, stands_on, taken_off, without_key}
 use Rattle.arc_lists.proofs.Tables.{cases_true, is_some_of, IsRising-without, item_at-with_item_other, item_at-without_other, length-without}
 
 -- there are as many elements as nodes
@@ -163,14 +163,6 @@ IsSequenceOf-without k ms ks listed =
 
 -- ---- the four together
 
-pub AreSequencesOf-off : (ms : List Member) (k : Key) (q : Sequences) → AreSequencesOf ms q → AreSequencesOf ms (taken_off k q)
-AreSequencesOf-off ms k q listed = record {
-  mru = IsSequenceOf-off ms k q.mru listed.mru;
-  mru_ghost = IsSequenceOf-off ms k q.mru_ghost listed.mru_ghost;
-  mfu = IsSequenceOf-off ms k q.mfu listed.mfu;
-  mfu_ghost = IsSequenceOf-off ms k q.mfu_ghost listed.mfu_ghost;
-}
-
 pub AreSequencesOf-without : (k : Key) (ms : List Member) (q : Sequences) → AreSequencesOf ms q → AreSequencesOf (without member_key k ms) (taken_off k q)
 AreSequencesOf-without k ms q listed = record {
   mru = IsSequenceOf-without k ms q.mru listed.mru;
@@ -194,17 +186,6 @@ pub record IsOff (k : Key) (q : Sequences) : Type 0 where
   pub mfu : stands_on k q.mfu ≡ false
   pub mfu_ghost : stands_on k q.mfu_ghost ≡ false
 
-pub off_each : (k : Key) (q : Sequences) → stands k q ≡ false → IsOff k q
-off_each k q off =
-    let rest = or_right_false (stands_on k q.mru) _ off in
-    let rest2 = or_right_false (stands_on k q.mru_ghost) _ rest in
-    record {
-      mru = or_left_false _ _ off;
-      mru_ghost = or_left_false _ _ rest;
-      mfu = or_left_false _ _ rest2;
-      mfu_ghost = or_right_false (stands_on k q.mfu) _ rest2;
-    }
-
 pub AreSequencesOf-head : (s : State) (ms : List Member) (k : Key) (q : Sequences) → IsTrue (has_key member_key k ms) → IsOff k q → AreSequencesOf ms q → AreSequencesOf ms (put_at_head s k q)
 AreSequencesOf-head Mru ms k q there off listed = record { mru = IsSequenceOf-head ms k q.mru there off.mru listed.mru; mru_ghost = listed.mru_ghost; mfu = listed.mfu; mfu_ghost = listed.mfu_ghost }
 AreSequencesOf-head MruGhost ms k q there off listed = record { mru = listed.mru; mru_ghost = IsSequenceOf-head ms k q.mru_ghost there off.mru_ghost listed.mru_ghost; mfu = listed.mfu; mfu_ghost = listed.mfu_ghost }
@@ -224,20 +205,7 @@ off_absent ms k q absent listed =
       mfu_ghost = off-from_All _ k q.mfu_ghost bad listed.mfu_ghost.members;
     }
 
--- each sequence with a further member before it is no longer than the members are many
-length-lt : (ms : List Member) (k : Key) (ks : List Key) → IsRising member_key ms → IsTrue (has_key member_key k ms) → stands_on k ks ≡ false → IsSequenceOf ms ks → suc (length ks) ≤ length ms
-length-lt ms k ks rising there off listed = length-le ms (k ∷ ks) rising (IsSequenceOf-head ms k ks there off listed)
-
--- so where each has room for as many keys as there are members, each has room for a member that stands on none
-pub HaveRoom-free : (ms : List Member) (k : Key) (n : ℕ) (q : Queues) → IsRising member_key ms → IsTrue (has_key member_key k ms) → IsOff k (sequences_in q) → AreSequencesOf ms (sequences_in q)
-    → length ms ≤ n → HaveCapacity n q → HaveRoom q
-HaveRoom-free ms k n q rising there off listed le room = record {
-  mru = omega (arith, length-lt ms k (elements q.mru) rising there off.mru listed.mru, length-elements q.mru, room.mru);
-  mru_ghost = omega (arith, length-lt ms k (elements q.mru_ghost) rising there off.mru_ghost listed.mru_ghost, length-elements q.mru_ghost, room.mru_ghost);
-  mfu = omega (arith, length-lt ms k (elements q.mfu) rising there off.mfu listed.mfu, length-elements q.mfu, room.mfu);
-  mfu_ghost = omega (arith, length-lt ms k (elements q.mfu_ghost) rising there off.mfu_ghost listed.mfu_ghost, length-elements q.mfu_ghost, room.mfu_ghost);
-}
-
+-- where each has room for more keys than there are members, each has room for one more
 pub HaveRoom-more : (ms : List Member) (n : ℕ) (q : Queues) → IsRising member_key ms → AreSequencesOf ms (sequences_in q) → suc (length ms) ≤ n → HaveCapacity n q → HaveRoom q
 HaveRoom-more ms n q rising listed le room = record {
   mru = omega (arith, length-le ms (elements q.mru) rising listed.mru, length-elements q.mru, room.mru);

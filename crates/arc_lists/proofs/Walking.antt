@@ -8,13 +8,11 @@ use Rattle.blk_ptr.proofs.Keys.{key_eq-is, key_eq-sym}
 use Rattle.arc_lists.specs.Room.{or_else}
 use Rattle.blk_ptr.specs.declared.state.State.{State}
 use Rattle.blk_ptr.specs.declared.state.State.TheVariants.{Anon, Mru, MruGhost, Mfu, MfuGhost, L2Only}
-use Rattle.arc_lists.specs.declared.lists.Lists.TheInside.{Inside}
 use Rattle.arc_lists.specs.declared.member.Member.{Member}
-use Rattle.arc_lists.specs.declared.post.Standing.{Standing}
 use Rattle.arc_lists.specs.ByKey.{item_at}
-use Rattle.arc_lists.specs.Kept.{ListsKeep, plain}
-use Rattle.arc_lists.specs.PlainLists.{member, member_key}
-use Rattle.arc_lists.specs.Posts.{members_of, post, post_key}
+use Rattle.arc_lists.specs.Kept.{ListsKeep, Parts}
+use Rattle.arc_lists.specs.Members.{member, member_key}
+use Rattle.arc_lists.specs.Posts.{Standing, members_of, post, post_key}
 use Rattle.arc_lists.specs.Queues.{AreSequencesOf, sequences_in}
 use Rattle.arc_lists.specs.Sequences.{Sequences, is_distinct, sequence_of, stands_on}
 use Rattle.arc_lists.specs.Walks.{ahead_of, first_of, next_to, oldest_first}
@@ -103,8 +101,8 @@ distinct-sequence Mfu ms q listed = listed.mfu.once
 distinct-sequence MfuGhost ms q listed = listed.mfu_ghost.once
 distinct-sequence L2Only ms q listed = refl
 
-pub newer-is : (l : Inside) (k : Key) (s : Standing) (r : Option Key) (t : State) → ListsKeep l → item_at post_key k l.members.posts ≡ Some (post k s)
-    → r ≡ ahead_of None k (sequence_of s.state (sequences_in l.queues)) → stands_on k (sequence_of t (plain l).sequences) ≡ true → r ≡ next_to k (oldest_first t (plain l).sequences)
+pub newer-is : (l : Parts) (k : Key) (s : Standing) (r : Option Key) (t : State) → ListsKeep l → item_at post_key k l.members.posts ≡ Some (post k s)
+    → r ≡ ahead_of None k (sequence_of s.state (sequences_in l.queues)) → stands_on k (sequence_of t (sequences_in l.queues)) ≡ true → r ≡ next_to k (oldest_first t (sequences_in l.queues))
 newer-is l k s r t kept item is there =
     let q = sequences_in l.queues in
     let at : item_at member_key k (members_of l.members.posts) ≡ Some (member k s.state) = member-at k l.members.posts s item in

@@ -1,19 +1,24 @@
--- What the members and the linked lists keep.
-use Rattle.std.specs.Prelude.{◌≡◌, ◌+◌, ◌^◌, ◌<◌, ◌≤◌, length}
+-- What whoever has the members, the linked lists and the sizes keeps of them.
+use Rattle.std.specs.Prelude.{◌≡◌, ℕ, ◌+◌, ◌^◌, ◌<◌, ◌≤◌, length}
 use Rattle.std.specs.List.{AllByRecursion}
 use Rattle.blk_ptr.specs.Size.{largest_block}
 use Rattle.blk_ptr.specs.declared.state.State.{State}
-use Rattle.arc_lists.specs.declared.lists.Lists.TheInside.{Inside}
+use Rattle.arc_lists.specs.declared.queues.Queues.{Queues}
+use Rattle.arc_lists.specs.declared.sizes.Sizes.{Sizes}
 use Rattle.arc_lists.specs.ByKey.{IsRising}
-use Rattle.arc_lists.specs.PlainLists.{PlainLists, size_of}
-use Rattle.arc_lists.specs.Posts.{members_of, post_key}
+use Rattle.arc_lists.specs.Members.{size_of}
+use Rattle.arc_lists.specs.Posts.{Posts, members_of, post_key}
 use Rattle.arc_lists.specs.Queues.{AreInState, AreNodesApart, ArePlaced, AreSequencesOf, HaveCapacity, sequences_in, size_at}
 
--- the plain lists that they hold
-abbrev pub plain : Inside → PlainLists
-plain l = record { members = members_of l.members.posts; sequences = sequences_in l.queues; p = l.p; c = l.c; spare = l.members.spare }
+-- the members with the places of their nodes, the linked lists, the sizes, the target and the capacity
+pub record Parts : Type 0 where
+  pub members : Posts
+  pub queues : Queues
+  pub sizes : Sizes
+  pub p : ℕ
+  pub c : ℕ
 
-pub record ListsKeep (l : Inside) : Type 0 where
+pub record ListsKeep (l : Parts) : Type 0 where
   -- the members rise by their keys, and none is larger than a block
   pub rising : IsRising post_key l.members.posts
   pub small : AllByRecursion (λ m. m.key.size ≤ largest_block) (members_of l.members.posts)

@@ -2,11 +2,9 @@ pub mod Adapting
 pub mod ByKey
 pub mod Kept
 pub mod LastKeys
-pub mod Lends
-pub mod PlainLists
+pub mod Members
 pub mod Posts
 pub mod Queues
 pub mod Room
-pub mod Rows
 pub mod Sequences
 pub mod Walks

@@ -1,20 +1,24 @@
 -- Who is there, with the places of their nodes, as plain data.
-use Rattle.std.specs.Prelude.{ℕ, List, [], map, Option}
+use Rattle.std.specs.Prelude.{ℕ, List, map, Option}
 use Rattle.blk_ptr.specs.declared.key.Key.{Key}
 use Rattle.blk_ptr.specs.declared.state.State.{State}
 use Rattle.arc_lists.specs.declared.member.Member.{Member}
-use Rattle.arc_lists.specs.declared.post.Post.{Post}
-use Rattle.arc_lists.specs.declared.post.Standing.{Standing}
+
+-- the state of a key, and the place of its node on its state's sequence, where it stands there
+pub record Standing : Type 0 where
+  pub state : State
+  pub at : Option ℕ
+
+-- a key with its standing
+pub record Post : Type 0 where
+  pub key : Key
+  pub standing : Standing
 
 pub record Posts : Type 0 where
   -- each key that is there, with its state and the place of its node, in rising order of keys
   pub posts : List Post
   -- for how many more there is room
   pub spare : ℕ
-
--- nobody is there, and there is no room
-abbrev pub no_posts : Posts
-no_posts = record { posts = []; spare = 0 }
 
 abbrev pub post_key : Post → Key
 post_key p = p.key

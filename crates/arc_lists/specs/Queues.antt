@@ -7,13 +7,11 @@ use Rattle.blk_ptr.specs.declared.state.State.TheVariants.{Anon, Mru, MruGhost, 
 use Rattle.blk_ptr.specs.State.{is_same_state}
 use Rattle.arc_links.specs.PlainLinks.{AreApart, Placed, PlainLinks, element_at, elements, no_links, placed, without_place}
 use Rattle.arc_lists.specs.declared.member.Member.{Member}
-use Rattle.arc_lists.specs.declared.post.Post.{Post}
-use Rattle.arc_lists.specs.declared.post.Standing.{Standing}
 use Rattle.arc_lists.specs.declared.queues.Queues.{Queues}
 use Rattle.arc_lists.specs.declared.sizes.Sizes.{Sizes}
 use Rattle.arc_lists.specs.ByKey.{has_key, item_at}
-use Rattle.arc_lists.specs.PlainLists.{member, member_key}
-use Rattle.arc_lists.specs.Posts.{post, post_key}
+use Rattle.arc_lists.specs.Members.{member, member_key}
+use Rattle.arc_lists.specs.Posts.{Post, Standing, post, post_key}
 use Rattle.arc_lists.specs.Sequences.{Sequences, is_distinct, sequence_of, stands_on}
 
 -- four empty lists

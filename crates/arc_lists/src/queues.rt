@@ -4,6 +4,7 @@ ghost use Rattle.blk_ptr.specs.declared.key.Key.{Key};
 ghost use Rattle.arc_links.specs.PlainLinks.{AreApart, element_at, elements, in_front};
 ghost use Rattle.arc_lists.specs.LastKeys.{last_key};
 ghost use Rattle.arc_lists.specs.Sequences.{oldest_unskipped};
+ghost use Rattle.arc_lists.specs.Walks.{first_of, oldest_first};
 
 use arc_links::Links;
 use blk_ptr::{Key, NoMemory, State};
@@ -12,9 +13,13 @@ use std::alloc::Global;
 /// The four sequences.
 #[derive(Debug, Drop)]
 pub struct Queues {
+    /// Blocks that were read once (`arc_mru`).
     pub mru: Links<Key>,
+    /// Their ghosts (`arc_mru_ghost`).
     pub mru_ghost: Links<Key>,
+    /// Blocks that were asked for again (`arc_mfu`).
     pub mfu: Links<Key>,
+    /// Their ghosts (`arc_mfu_ghost`).
     pub mfu_ghost: Links<Key>,
 }
 
@@ -31,6 +36,15 @@ fn widen(sequence: &mut Links<Key>, n: usize) -> Result<(), NoMemory>
     Ok(())
 }
 
+// The last key of a sequence.
+fn last_of(sequence: &Links<Key>) -> Option<Key>
+    requires { AreApart sequence.now.nodes }
+    ensures { result ≡ last_key sequence.now.nodes }
+{
+    let last = sequence.last()?;
+    Some(sequence.key_at(last))
+}
+
 // The key in front of the node at a place, toward the head.
 fn key_ahead(sequence: &Links<Key>, at: usize) -> Option<Key>
     requires there { IsSome (element_at at sequence.now.nodes) }
@@ -42,7 +56,7 @@ fn key_ahead(sequence: &Links<Key>, at: usize) -> Option<Key>
 }
 
 /// The oldest key of a sequence that `skip` doesn't pass over.
-pub fn oldest<F: Fn(Key) -> bool>(sequence: &Links<Key>, skip: &F) -> Option<Key>
+pub fn oldest_unskipped<F: Fn(Key) -> bool>(sequence: &Links<Key>, skip: &F) -> Option<Key>
     requires callable { F.IsAlwaysCallable skip.now }
     requires apart { AreApart sequence.now.nodes }
     ensures { (skips : Key → Bool) → ((key : Key) (answer : Bool) → F.post skip.now key answer → answer ≡ skips key)
@@ -60,8 +74,9 @@ pub fn oldest<F: Fn(Key) -> bool>(sequence: &Links<Key>, skip: &F) -> Option<Key
 }
 
 impl Queues {
-    ghost use Rattle.arc_lists.specs.Queues.{AreNodesApart, HaveCapacity, HaveRoom, HaveSameNodes, IsEntered, IsOn, IsPushed, left, no_queues, nodes_of, removed};
+    ghost use Rattle.arc_lists.specs.Queues.{AreNodesApart, HaveCapacity, HaveRoom, HaveSameNodes, IsEntered, IsOn, IsPushed, left, no_queues, nodes_of, removed, sequences_in};
 
+    /// Four empty sequences.
     pub fn new(alloc: Global) -> Queues
         ensures { result ≡ no_queues }
     {
@@ -148,6 +163,20 @@ impl Queues {
             State::MruGhost => key_ahead(&self.mru_ghost, at),
             State::Mfu => key_ahead(&self.mfu, at),
             State::MfuGhost => key_ahead(&self.mfu_ghost, at),
+            State::Anon | State::L2Only => None,
+        }
+    }
+
+    /// The oldest key of a state's sequence. None exactly where no key stands there.
+    pub fn oldest(&self, state: State) -> Option<Key>
+        requires { AreNodesApart self.now }
+        ensures { result ≡ first_of (oldest_first state (sequences_in self.now)) }
+    {
+        match state {
+            State::Mru => last_of(&self.mru),
+            State::MruGhost => last_of(&self.mru_ghost),
+            State::Mfu => last_of(&self.mfu),
+            State::MfuGhost => last_of(&self.mfu_ghost),
             State::Anon | State::L2Only => None,
         }
     }

@@ -6,11 +6,17 @@ use blk_ptr::State;
 /// The sizes of the six states in bytes.
 #[derive(Clone, Copy, Debug, Drop)]
 pub struct Sizes {
+    /// What is being read for the first time (`arc_anon`).
     pub anon: u128,
+    /// MRU.
     pub mru: u128,
+    /// Its ghosts.
     pub mru_ghost: u128,
+    /// MFU.
     pub mfu: u128,
+    /// Its ghosts.
     pub mfu_ghost: u128,
+    /// What only the cache device has (`arc_l2c_only`).
     pub l2_only: u128,
 }
 
@@ -19,6 +25,7 @@ impl Sizes {
     ghost use Rattle.blk_ptr.specs.State.{is_same_state};
     ghost use Rattle.arc_lists.specs.Queues.{size_at};
 
+    /// No bytes.
     pub fn zero() -> Sizes
         ensures { (s : State) → size_at s result ≡ 0 }
     {
@@ -32,6 +39,7 @@ impl Sizes {
         }
     }
 
+    /// The size of a state.
     pub fn at(&self, state: State) -> u128
         ensures { result ≡ size_at state self.now }
     {
@@ -45,6 +53,7 @@ impl Sizes {
         }
     }
 
+    /// So many bytes of a state more.
     pub fn add(&mut self, state: State, size: u64)
         requires { size_at state self.old + size < 2 ^ 128 }
         ensures { (s : State) → size_at s self.new ≡ size_at s self.old + (if is_same_state state s then size else 0) }
@@ -60,6 +69,7 @@ impl Sizes {
         }
     }
 
+    /// So many bytes of a state less.
     pub fn take(&mut self, state: State, size: u64)
         requires { size ≤ size_at state self.old }
         ensures { (s : State) → size_at s self.new + (if is_same_state state s then size else 0) ≡ size_at s self.old }

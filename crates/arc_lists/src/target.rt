@@ -17,7 +17,7 @@ fn weight(this: u128, other: u128) -> u128
     }
 }
 
-/// The target after `z` bytes of a ghost were asked for.
+/// The target after `z` bytes of the MRU ghost were asked for, where the two ghosts have these sizes.
 pub fn raised(z: u64, mru_ghost: u128, mfu_ghost: u128, p: u64, c: u64) -> u64
     requires { 0 < mru_ghost }
     ensures { result ≡ adapted Ghost.Mru z mru_ghost mfu_ghost p c }
@@ -26,6 +26,7 @@ pub fn raised(z: u64, mru_ghost: u128, mfu_ghost: u128, p: u64, c: u64) -> u64
     u128::from(c - c / 16).min(u128::from(p) + by) as u64
 }
 
+/// The target after `z` bytes of the MFU ghost were asked for.
 pub fn lowered(z: u64, mru_ghost: u128, mfu_ghost: u128, p: u64, c: u64) -> u64
     requires { 0 < mfu_ghost }
     ensures { result ≡ adapted Ghost.Mfu z mru_ghost mfu_ghost p c }

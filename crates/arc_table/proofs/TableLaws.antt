@@ -1,11 +1,11 @@
 -- Lists read by place, functions changed at a number, tables of numbers, and what was seen of histories.
 use Rattle.std.proofs.Common.{◌≡◌, ◌≢◌, ◌⊎◌, ◌==◌, if◌then◌else◌, ℕ, zero, suc, ◌<◌, List, [], ◌∷◌, ◌++◌, length, Some, refl, sym, ap, ◌∙◌, subst, inl, inr, ⊎_elim, eq-eqb, ne_eqb, arith}
 use mathlib.Core.Option.{some, some-injective, some-ne-none}
-use mathlib.Core.List.{append_assoc, append-nil}
+use mathlib.Core.List.{append_assoc}
 use mathlib.Core.Logic.{dite}
 use native.Mathlib.Decide.{ℕ_discrete}
 use lib.ListN.{get_elem?}
-use Rattle.arc_table.specs.Fronts.{with_at, item_at, without_item, list_at, StartsWith}
+use Rattle.arc_table.specs.Fronts.{item_at, without_item, StartsWith}
 pub use Rattle.turn_table.proofs.Histories.{front_here, front_else, front_both}
 
 module _ {A : Type 0} where

@@ -1,5 +1,8 @@
 //! What an event evicts and drops: the scan for it, its headers, and its buckets given back.
-ghost use Rattle.std.specs.Prelude.{◌≡◌, List};
+ghost use Rattle.std.specs.Prelude.{◌≡◌, IsTrue, IsSome, List, []};
+ghost use Rattle.blk_ptr.specs.declared.key.Key.{Key};
+ghost use Rattle.arc_lists.specs.Sequences.{stands_on};
+ghost use Rattle.arc_core.specs.Config.{IsConfig};
 ghost use Rattle.arc_core.specs.declared.event.Event.{Event};
 ghost use Rattle.arc_core.specs.ShardLog.{ShardLog};
 ghost use Rattle.hash_chain.specs.Chain.{Chain};
@@ -8,18 +11,50 @@ ghost use Rattle.turn_table.specs.Places.{Place, gave_back};
 ghost use Rattle.arc_table.specs.Views.{after_same};
 ghost use Rattle.arc_table.specs.scans.Ending.{GivesAll, HasMade};
 ghost use Rattle.arc_table.specs.InHand.{buckets_of, made_since};
-ghost use Rattle.arc_table.specs.scans.Sparing.{turns_in};
+ghost use Rattle.arc_table.specs.Fronts.{item_at};
+ghost use Rattle.arc_table.specs.Geometry.{bucket_turn};
+ghost use Rattle.arc_table.specs.scans.Sparing.{AreHeadsBut, turns_in};
 ghost use Rattle.arc_table.specs.declared.view.Known.{Known};
 ghost use Rattle.arc_table.specs.scans.Scanning.{AllPairs, AreApart, IsInHand, gave_all, pairs_of};
 
 use crate::arcs::{Arcs, Party};
 use crate::both::Both;
 use crate::gives;
+use crate::heap_shard::{HeapShard, ScanLists};
 use crate::in_hand::{Hand, Taken};
 use crate::item::Item;
 use crate::scan::Scan;
 use crate::spare::spare_all;
-use arc_core::Keeps;
+use arc_core::{Config, Keeps};
+use blk_ptr::Key;
+use std::mem;
+
+// The shard keeps a scan's lists for its next scan. The buckets in hand stay so in a list of their number; where memory is refused for that, the shard keeps none.
+fn keep_lists(hand: &mut Hand, shard: &mut HeapShard, marked: Vec<Key>)
+    ensures shard { shard.new ≡ shard.old }
+    ensures before { hand.new.before ≡ hand.old.before }
+    ensures buckets { buckets_of hand.new ≡ buckets_of hand.old }
+{
+    if let Ok(taken) = hand.victims.split_off(0) {
+        let victims = mem::replace(&mut hand.victims, taken);
+        shard.keep_lists(ScanLists { marked, victims });
+    }
+}
+
+// The headers of the marked keys say what their entries do now, as by `spare_all`, and the shard keeps the lists.
+fn spare_marked(hand: &mut Hand, config: &Config, shard: &mut HeapShard, marked: Vec<Key>)
+    requires valid { IsConfig config.now }
+    requires apart { AreApart (buckets_of hand.old) }
+    requires in_hand { (k : Key) → IsTrue (stands_on k marked.items) → IsSome (item_at (bucket_turn config.now k) (buckets_of hand.old)) }
+    requires heads { AllPairs (AreHeadsBut config.now hand.old.before.value.now shard.old.now marked.items) (buckets_of hand.old) }
+    ensures shard { shard.new ≡ shard.old }
+    ensures before { hand.new.before ≡ hand.old.before }
+    ensures turns { turns_in (buckets_of hand.new) ≡ turns_in (buckets_of hand.old) }
+    ensures heads { AllPairs (AreHeadsBut config.now hand.old.before.value.now shard.old.now []) (buckets_of hand.new) }
+{
+    spare_all(hand, config, shard, &marked);
+    keep_lists(hand, shard, marked);
+}
 
 impl<C: Keeps> Arcs<C> {
     // Gives buckets back as they are in hand.
@@ -57,9 +92,9 @@ impl<C: Keeps> Arcs<C> {
         let Both {
             mut hand,
             turn,
-            shard,
+            mut shard,
         } = both;
-        spare_all(&mut hand, &self.config, &shard, &marked);
+        spare_marked(&mut hand, &self.config, &mut shard, marked);
         self.give_shard(party, turn, shard, &hand);
         let Hand {
             own,

@@ -3,16 +3,31 @@ ghost use Rattle.std.specs.Prelude.{◌≡◌, IfOk};
 ghost use Rattle.std.specs.Borrow.{sem};
 ghost use Rattle.arc_table.specs.Lending.{LendsShard};
 
+use crate::in_hand::Taken;
 use arc_core::Shard;
-use blk_ptr::NoMemory;
+use blk_ptr::{Key, NoMemory};
 use std::alloc::Global;
 use std::marker::Model;
 use std::ops::{Deref, DerefMut};
 
+/// The lists that a scan of a shard fills. Between scans the shard keeps them, so that the next takes memory only where the shard has grown.
+#[derive(Drop)]
+pub(crate) struct ScanLists {
+    pub(crate) marked: Vec<Key>,
+    pub(crate) victims: Vec<Taken>,
+}
+
+// A shard, and the lists of its last scan.
+#[derive(Drop)]
+struct Kept {
+    shard: Shard,
+    lists: Option<ScanLists>,
+}
+
 /// A shard on the heap, so that taking and giving its turn moves a pointer and not the shard. Contracts see the shard.
 #[derive(Drop)]
 pub struct HeapShard {
-    shard: Box<Shard>,
+    kept: Box<Kept>,
 }
 
 impl Model for HeapShard {
@@ -20,7 +35,7 @@ impl Model for HeapShard {
 
     ghost Value = { ShardLog };
 
-    ghost view = { λ s. s.shard.value };
+    ghost view = { λ s. s.kept.value.shard };
 }
 
 impl HeapShard {
@@ -29,7 +44,7 @@ impl HeapShard {
         ensures { IfOk result (λ boxed. boxed ≡ shard) }
     {
         Ok(HeapShard {
-            shard: Box::new(alloc, shard)?,
+            kept: Box::new(alloc, Kept { shard, lists: None })?,
         })
     }
 
@@ -37,7 +52,21 @@ impl HeapShard {
     pub(crate) fn into_shard(self) -> Shard
         ensures { result ≡ self }
     {
-        Box::into_inner(self.shard)
+        Box::into_inner(self.kept).shard
+    }
+
+    // The lists that the last scan left, if any.
+    pub(crate) fn take_lists(&mut self) -> Option<ScanLists>
+        ensures { self.new ≡ self.old }
+    {
+        self.kept.lists.take()
+    }
+
+    // Keeps these lists for the next scan.
+    pub(crate) fn keep_lists(&mut self, lists: ScanLists)
+        ensures { self.new ≡ self.old }
+    {
+        self.kept.lists = Some(lists);
     }
 }
 
@@ -49,7 +78,7 @@ impl Deref for HeapShard {
     fn deref(&self) -> &Shard
         ensures { result.now ≡ self.now }
     {
-        &self.shard
+        &self.kept.shard
     }
 }
 
@@ -60,6 +89,6 @@ impl DerefMut for HeapShard {
         ensures* writes_back { sem 𝓛 (LendsShard self.entry result) }
         ensures value { result.now ≡ self.old }
     {
-        self.shard.as_mut()
+        &mut self.kept.as_mut().shard
     }
 }

@@ -18,6 +18,7 @@ ghost use Rattle.arc_table.specs.declared.view.Known.{Known};
 
 use crate::arcs::{Arcs, Party};
 use crate::both::Both;
+use crate::heap_shard::{HeapShard, ScanLists};
 use crate::in_hand::{Hand, Taken};
 use crate::looking::bucket_turn_of;
 use crate::spare::place_of;
@@ -55,8 +56,36 @@ fn mark(scan: &mut Scan, key: Key)
     scan.marked.push_reserved(key);
 }
 
+// An empty list with room for so many: this one where it has that, and else one with twice the room, so that a shard that grows seldom asks for another.
+fn emptied<T: Drop>(mut list: Vec<T>, most: usize, alloc: Global) -> Result<Vec<T>, NoMemory>
+    ensures { IfOk result (λ empty. (empty.items ≡ []) × (vec_len empty ≡ 0) × (most ≤ vec_capacity empty)) }
+{
+    list.clear();
+    if list.capacity() < most {
+        list = Vec::with_capacity(alloc, most.saturating_mul(2))?;
+    }
+    Ok(list)
+}
+
+// Empty lists with room for so many keys and buckets: those of the shard's last scan, where they have it.
+fn lists_for(shard: &mut HeapShard, most: usize, alloc: Global) -> Result<ScanLists, NoMemory>
+    ensures shard { shard.new ≡ shard.old }
+    ensures marked { IfOk result (λ lists. (lists.marked.items ≡ []) × (most ≤ vec_capacity lists.marked)) }
+    ensures victims { IfOk result (λ lists. (lists.victims.items ≡ []) × (vec_len lists.victims ≡ 0) × (most ≤ vec_capacity lists.victims)) }
+{
+    let (marked, victims) = match shard.take_lists() {
+        Some(lists) => (lists.marked, lists.victims),
+        None => (Vec::new(alloc), Vec::new(alloc)),
+    };
+    Ok(ScanLists {
+        marked: emptied(marked, most, alloc)?,
+        victims: emptied(victims, most, alloc)?,
+    })
+}
+
 // Makes room for a scan, its event and a header. Where memory is refused, nothing but the room has changed.
 fn reserve(both: &mut Both, alloc: Global) -> Result<Vec<Key>, NoMemory>
+    requires alone { both.old.hand.victims.items ≡ [] }
     ensures same { KeepsBoth both.old both.new }
     ensures room { IfOk result (λ keys. HasBothRoom both.new (vec_capacity keys) × (keys.items ≡ [])) }
     ensures bucket { OnErr result (both.new.hand.own ≡ both.old.hand.own) }
@@ -65,10 +94,10 @@ fn reserve(both: &mut Both, alloc: Global) -> Result<Vec<Key>, NoMemory>
     let most = shard.entries();
     let events = most.checked_add(3).ok_or(NoMemory)?;
     shard.reserve(events, 1)?;
-    both.hand.victims.reserve(most)?;
-    let keys = Vec::with_capacity(alloc, most)?;
+    let lists = lists_for(&mut both.shard, most, alloc)?;
+    both.hand.victims = lists.victims;
     both.hand.own.bucket.reserve(1)?;
-    Ok(keys)
+    Ok(lists.marked)
 }
 
 impl<C: Keeps> Arcs<C> {

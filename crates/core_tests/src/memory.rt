@@ -1,6 +1,6 @@
 //! Each call that takes memory, with ample memory, at concrete types. What it does is said by its contract.
 use arc_links::Links;
-use arc_lists::Lists;
+use arc_lists::Queues;
 use key_queue::Queue;
 use key_table::Table;
 
@@ -18,8 +18,8 @@ fn rows_are_reserved(rt: HostRuntime) {
 
 #[test]
 fn sequences_are_reserved(rt: HostRuntime) {
-    let mut lists = Lists::new(rt.alloc(), 8192);
-    assert!(rt; lists.reserve(1).is_ok());
+    let mut queues = Queues::new(rt.alloc());
+    assert!(rt; queues.widen(1).is_ok());
 }
 
 #[test]

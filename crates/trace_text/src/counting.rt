@@ -1,5 +1,5 @@
 //! Counts the events of all shards.
-ghost use Rattle.std.specs.Prelude.{◌≡◌, length};
+ghost use Rattle.std.specs.Prelude.{◌≡◌, ◌<◌, ◌^◌, length};
 ghost use Rattle.trace_text.specs.Counting.{AreAtMost, AreFew, counts_in, counts_of_shard, with_counts, with_event};
 
 use crate::counts::Counts;
@@ -47,6 +47,7 @@ fn sum_of(some: Counts, others: Counts) -> Counts
 
 /// Counts the events of one shard.
 fn events_counted(events: Events<'_>) -> Counts
+    requires { length events < 2 ^ 64 }
     ensures counts { result ≡ counts_of_shard events.entry }
     ensures bound { AreAtMost (length events.entry) result }
 {

@@ -1,5 +1,5 @@
 //! Lists of the values of traces and reports.
-ghost use Rattle.std.specs.Prelude.{◌≡◌, ◌↔◌, IfOk, IsTrue, length, slice_get};
+ghost use Rattle.std.specs.Prelude.{◌≡◌, ◌<◌, ◌^◌, ◌↔◌, IfOk, IsTrue, length, slice_get};
 ghost use Rattle.std.specs.Arc.{arc_value};
 ghost use Rattle.trace_text.specs.Owned.{history_at};
 
@@ -94,14 +94,12 @@ impl History {
 
     /// The events, in their order.
     pub fn iter(&self) -> arc_core::Events<'_>
-        ensures { result ≡ self.now }
+        ensures events { result ≡ self.now }
+        ensures few { length self.now < 2 ^ 32 }
     {
         match &self.events {
             Events::Listed(events) => events.iter(),
-            Events::InShard(shards, number) => match shards.get(*number) {
-                Some(shard) => shard.history().iter(),
-                None => arc_core::Events::none(),
-            },
+            Events::InShard(shards, number) => events_of(shards, *number),
         }
     }
 
@@ -124,6 +122,17 @@ impl History {
     {
         self.len() == 0
     }
+}
+
+/// The events of the shard of this number, counted from 0; none past the last.
+fn events_of(shards: &[Shard], number: usize) -> arc_core::Events<'_>
+    ensures events { result ≡ history_at shards.now number }
+    ensures few { length (history_at shards.now number) < 2 ^ 32 }
+{
+    let Some(shard) = shards.get(number) else {
+        return arc_core::Events::none();
+    };
+    shard.history().iter()
 }
 
 impl<T> Items<T> {

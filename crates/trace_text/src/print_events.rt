@@ -1,5 +1,5 @@
 //! Appends the lines of the events of all shards.
-ghost use Rattle.std.specs.Prelude.{◌≡◌, ◌++◌, OnOk, string_bytes};
+ghost use Rattle.std.specs.Prelude.{◌≡◌, ◌<◌, ◌^◌, ◌++◌, OnOk, length, string_bytes};
 ghost use Rattle.trace_text.specs.EndText.{end_lines};
 ghost use Rattle.trace_text.specs.EventText.{event_line, event_lines, history_lines};
 
@@ -32,6 +32,7 @@ fn write_events(
     shard: usize,
     events: Events<'_>,
 ) -> Result<(), AllocError>
+    requires { length events < 2 ^ 32 }
     ensures { OnOk result (text.new.items ≡ text.old.items ++ event_lines shard 0 events.entry) }
 {
     for (number, event) in events.enumerate() {

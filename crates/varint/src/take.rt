@@ -37,6 +37,7 @@ fn take_64(bytes: &[u8]) -> (u64, &[u8])
 }
 
 /// The number that the bytes begin with, and what is left behind it.
+#[inline(always)]
 pub fn take_number(bytes: &[u8]) -> (u64, &[u8])
     ensures number { result.0 ≡ (taken_number bytes.now).0 }
     ensures rest { result.1.now ≡ (taken_number bytes.now).1 }
@@ -58,6 +59,7 @@ pub fn take_number(bytes: &[u8]) -> (u64, &[u8])
 }
 
 /// The first 32 bytes, and what is left behind them.
+#[inline(always)]
 pub fn take_bytes(bytes: &[u8]) -> ([u8; 32], &[u8])
     ensures bytes { result.0 ≡ (taken_bytes bytes.now).0 }
     ensures rest { result.1.now ≡ (taken_bytes bytes.now).1 }

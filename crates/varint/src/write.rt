@@ -6,6 +6,7 @@ ghost use Rattle.varint.specs.Number.{number_bytes};
 pub const LONGEST_NUMBER: usize = 9;
 
 /// Appends these bytes, for which there is room.
+#[inline(always)]
 pub fn write_bytes(out: &mut Vec<u8>, bytes: &[u8])
     requires { vec_len out.old + length bytes.now ≤ vec_capacity out.old }
     ensures items { out.new.items ≡ out.old.items ++ bytes.now }
@@ -18,6 +19,7 @@ pub fn write_bytes(out: &mut Vec<u8>, bytes: &[u8])
 }
 
 // Appends a byte that says how many follow, and these.
+#[inline(always)]
 fn write_long(out: &mut Vec<u8>, mark: u8, bytes: &[u8])
     requires { vec_len out.old + length bytes.now < vec_capacity out.old }
     ensures items { out.new.items ≡ out.old.items ++ mark ∷ bytes.now }
@@ -29,6 +31,7 @@ fn write_long(out: &mut Vec<u8>, mark: u8, bytes: &[u8])
 }
 
 /// Appends a number. There is room for the longest.
+#[inline(always)]
 pub fn write_number(out: &mut Vec<u8>, n: u64)
     requires { vec_len out.old + LONGEST_NUMBER ≤ vec_capacity out.old }
     ensures items { out.new.items ≡ out.old.items ++ number_bytes n }

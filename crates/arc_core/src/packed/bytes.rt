@@ -67,6 +67,7 @@ fn take_digest(kind: u64, bytes: &[u8]) -> ([u8; 32], &[u8])
 }
 
 /// The numbers of the event that the bytes begin with, and what is left behind it.
+#[inline(always)]
 pub(crate) fn take_packed(bytes: &[u8]) -> (Packed, &[u8])
     ensures packed { result.0 ≡ (taken_packed bytes.now).0 }
     ensures rest { result.1.now ≡ (taken_packed bytes.now).1 }

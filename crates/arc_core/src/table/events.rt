@@ -201,8 +201,8 @@ impl Table {
             return self.p();
         };
         match entry.state {
-            State::MruGhost => self.lists.adapted(Ghost::Mru, key.size),
-            State::MfuGhost => self.lists.adapted(Ghost::Mfu, key.size),
+            State::MruGhost => self.entries.adapted(Ghost::Mru, key.size),
+            State::MfuGhost => self.entries.adapted(Ghost::Mfu, key.size),
             State::Anon | State::Mru | State::Mfu | State::L2Only => self.p(),
         }
     }

@@ -128,9 +128,7 @@ impl Table {
         requires { IsTrue (entry_is (may_have place) key self.old.shard) }
         ensures { self.new ≡ record self.old { shard = changed key (with_place place) self.old.shard } }
     {
-        let _ = self.entries.change(key, |entry| {
-            entry.place = place;
-        });
+        self.entries.put_place(key, place);
     }
 
     /// A picked key was written at a place of the cache device.
@@ -189,12 +187,12 @@ impl Table {
         self.trim();
     }
 
-    // Gives the lists a new capacity.
+    // Gives the entries a new capacity.
     fn set_capacity(&mut self, c: u64)
         requires { IsCapacity c }
         ensures { self.new ≡ record self.old { shard = resized c self.old.shard } }
     {
-        self.lists.resize(c);
+        self.entries.resize(c);
     }
 
     /// There is no feed, no passed key and no marked one.

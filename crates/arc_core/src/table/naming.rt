@@ -34,7 +34,7 @@ impl Table {
     pub fn has_room(&self, entries: usize, marks: usize) -> bool
         ensures { IsTrue result ↔ ((entries ≤ self.now.spare) × (marks ≤ self.now.marks)) }
     {
-        entries <= self.lists.spare() && marks <= self.marks
+        entries <= self.entries.spare() && marks <= self.marks
     }
 
     /// Makes room for `entries` more entries, and for `marks` more picks and passed keys. Where there is too little, room for a fourth

@@ -30,9 +30,9 @@ impl Table {
         ensures value { result ≡ next_evicted z self.now.shard }
         ensures tidy { IsTidy self.now.shard }
     {
-        let (c, p) = (self.lists.c(), self.lists.p());
+        let (c, p) = (self.entries.c(), self.entries.p());
         let passed = &self.passed;
-        self.lists.pick(c, p, z, 0, 0, |key| passed.has(key))
+        self.entries.pick(c, p, z, 0, 0, |key| passed.has(key))
     }
 
     // The ghost that trim drops next.
@@ -41,13 +41,13 @@ impl Table {
         ensures tidy { IsTidy self.now.shard }
     {
         let (mru, mru_ghost, mfu_ghost) = (
-            self.lists.size(State::Mru),
-            self.lists.size(State::MruGhost),
-            self.lists.size(State::MfuGhost),
+            self.entries.size(State::Mru),
+            self.entries.size(State::MruGhost),
+            self.entries.size(State::MfuGhost),
         );
         let passed = &self.passed;
-        self.lists.trim(
-            self.lists.c(),
+        self.entries.trim(
+            self.entries.c(),
             mru,
             mru_ghost,
             mfu_ghost,
@@ -120,8 +120,8 @@ impl Table {
     {
         if let Some(entry) = self.find(key) {
             match entry.state {
-                State::MruGhost => self.lists.adapt(Ghost::Mru, key.size),
-                State::MfuGhost => self.lists.adapt(Ghost::Mfu, key.size),
+                State::MruGhost => self.entries.adapt(Ghost::Mru, key.size),
+                State::MfuGhost => self.entries.adapt(Ghost::Mfu, key.size),
                 _ => {}
             }
         }

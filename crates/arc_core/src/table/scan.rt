@@ -181,7 +181,7 @@ impl Table {
             if self.may_go(about, key) {
                 return Some(key);
             }
-            next = self.lists.newer(key);
+            next = self.entries.newer(key);
         }
         None
     }
@@ -190,7 +190,7 @@ impl Table {
     fn first_going(&self, about: Option<Key>, state: State) -> Option<Key>
         ensures { result ≡ first_of (going_but about state self.now.shard) }
     {
-        self.going_from(about, state, self.lists.oldest(state))
+        self.going_from(about, state, self.entries.oldest(state))
     }
 
     // The key that comes next after one that may go, among those that may.
@@ -198,7 +198,7 @@ impl Table {
         requires { IsTrue (stands_on key (going_but about state self.now.shard)) }
         ensures { result ≡ next_to key (going_but about state self.now.shard) }
     {
-        self.going_from(about, state, self.lists.newer(key))
+        self.going_from(about, state, self.entries.newer(key))
     }
 
     // A kind as it stands, from which nothing is evicted or dropped yet.
@@ -246,8 +246,8 @@ impl Table {
         requires { CanEvict about self.now.shard scan.old key }
         ensures { (t : PlainShard) (z : ℕ) → IsScanOf about self.now.shard scan.old t → next_evicted z t ≡ Some key → IsScanOf about self.now.shard scan.new (evicted key t) }
     {
-        // For the proof: what the lists keep of themselves holds here.
-        let _lists = &self.lists;
+        // For the proof: what the entries keep of themselves holds here.
+        let _entries = &self.entries;
         if is_at(scan.mru.next, key) {
             self.evicted_of(about, State::Mru, &mut scan.mru, key);
         } else {
@@ -260,8 +260,8 @@ impl Table {
         requires { CanDrop about self.now.shard scan.old key }
         ensures { (t : PlainShard) → IsScanOf about self.now.shard scan.old t → next_dropped t ≡ Some key → IsScanOf about self.now.shard scan.new (dropped key t) }
     {
-        // For the proof: what the lists keep of themselves holds here.
-        let _lists = &self.lists;
+        // For the proof: what the entries keep of themselves holds here.
+        let _entries = &self.entries;
         if is_at(scan.mru.oldest_ghost(), key) {
             self.dropped_of(about, State::Mru, State::MruGhost, &mut scan.mru, key);
         } else {

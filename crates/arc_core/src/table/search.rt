@@ -63,8 +63,8 @@ impl Table {
         ensures { (comes : State) (vs : List Key) → AtRoom about self.now.shard self.now.marked z comes vs scan.old
             → IsRoomSearched about self.now.shard self.now.marked z comes vs scan.new result }
     {
-        // For the proof: what the lists keep of themselves holds here.
-        let _lists = &self.lists;
+        // For the proof: what the entries keep of themselves holds here.
+        let _entries = &self.entries;
         while let Some(key) = scan.next_evicted(z) {
             if !self.is_marked(key) {
                 return Some(key);
@@ -80,8 +80,8 @@ impl Table {
         ensures { (vs : List Key) → AtTrim about self.now.shard self.now.marked vs scan.old
             → IsTrimSearched about self.now.shard self.now.marked vs scan.new result }
     {
-        // For the proof: what the lists keep of themselves holds here.
-        let _lists = &self.lists;
+        // For the proof: what the entries keep of themselves holds here.
+        let _entries = &self.entries;
         while let Some(key) = scan.next_dropped() {
             if !self.is_marked(key) {
                 return Some(key);
@@ -97,8 +97,8 @@ impl Table {
         requires stands { (vs : List Key) × Stands self.now.shard self.now.marked vs search.old }
         ensures { (vs : List Key) → Stands self.now.shard self.now.marked vs search.old → IsFound self.now.shard self.now.marked vs false search.new result }
     {
-        // For the proof: what the lists keep of themselves holds here.
-        let _lists = &self.lists;
+        // For the proof: what the entries keep of themselves holds here.
+        let _entries = &self.entries;
         match self.unmarked_eviction(search.about, search.z, &mut search.scan) {
             Some(key) => Some(key),
             None => {
@@ -165,8 +165,8 @@ impl Table {
         ensures { (e : Entry) → e.key ≡ key → e.state ≡ comes → IsTrue (is_off e) → IsSoundEntry e
             → Stands self.now.shard self.now.marked (victims_of_entry e (record self.now.shard { p = p })) result }
     {
-        // For the proof: what the lists keep of themselves holds here.
-        let _lists = &self.lists;
+        // For the proof: what the entries keep of themselves holds here.
+        let _entries = &self.entries;
         Search {
             about: Some(key),
             z: key.size,

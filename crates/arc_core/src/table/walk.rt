@@ -71,7 +71,7 @@ impl Table {
                 return (met, Some(key));
             }
             met = more;
-            next = self.lists.newer(key);
+            next = self.entries.newer(key);
         }
         (met, None)
     }
@@ -82,8 +82,8 @@ impl Table {
         ensures walk { IsWalkOf self.now.shard result }
         ensures next { result.next ≡ chosen self.now.shard }
     {
-        // For the proof: what the lists keep of themselves holds here.
-        let _lists = &self.lists;
+        // For the proof: what the entries keep of themselves holds here.
+        let _entries = &self.entries;
         let (met, next) = self.walk_on(State::Mru, self.limit(), met, from);
         Walk {
             on_mru: true,
@@ -108,7 +108,7 @@ impl Table {
                 met,
                 next: Some(key),
             },
-            None => self.walked_on_mru(0, self.lists.oldest(State::Mru)),
+            None => self.walked_on_mru(0, self.entries.oldest(State::Mru)),
         }
     }
 
@@ -122,7 +122,7 @@ impl Table {
             None => Walk {
                 on_mru: false,
                 met: 0,
-                next: self.lists.oldest(State::Mfu),
+                next: self.entries.oldest(State::Mfu),
             },
         }
     }

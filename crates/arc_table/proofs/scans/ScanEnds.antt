@@ -244,3 +244,9 @@ module _ {C : Type 0} (m : Meanings C) (g : Config) (e : Event) (passes : List E
 
     pub still_apart : AreApart (buckets_of hand)
     still_apart = apart_turns (buckets_of hand) (buckets_of s.both.hand) turns hand_apart
+
+-- what a give of the shard leaves, told of the shard as it was in hand before its lists were kept
+pub gave_shard : {C : Type 0} (m : Meanings C) (p q : Place (Known C)) (i : ℕ) (vs : List (ℕ × Chain)) (before before' l l' : ShardLog) → before' ≡ before → l' ≡ l
+    → q ≡ gave_back p i (after_shard m vs i before' (made_since before' l') l' p.own) → q ≡ gave_back p i (after_shard m vs i before (made_since before l) l p.own)
+gave_shard m p q i vs before before' l l' e f gave =
+    subst (λ (x : ShardLog × ShardLog). q ≡ gave_back p i (after_shard m vs i x.0 (made_since x.0 x.1) x.1 p.own)) (λ z. (e z, f z)) gave

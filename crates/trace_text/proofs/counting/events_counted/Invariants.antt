@@ -1,6 +1,7 @@
-use Rattle.std.proofs.Common.{◌≡◌, take}
-use Rattle.trace_text.specs.Counting.{counts_of_shard}
+use Rattle.std.proofs.Common.{◌≡◌}
+use Rattle.trace_text.specs.Counting.{counts_of_shard, with_counts}
 use Rattle.trace_text.proofs.counting.events_counted.Given as goal
 
+-- what is counted and the events to come are all events
 abbrev pub invariant-loop-event : goal.invariant-loop-event
-invariant-loop-event l = l.counts ≡ counts_of_shard (take l.event-index l.events)
+invariant-loop-event l = with_counts l.counts (counts_of_shard l.event-iterator) ≡ counts_of_shard l.fn.events

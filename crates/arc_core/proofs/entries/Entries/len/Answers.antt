@@ -1,6 +1,7 @@
 use Rattle.std.proofs.Common.{sym, ◌∙◌}
-use Rattle.arc_core.proofs.EntryRows.{length-entered}
+use Rattle.std.proofs.lemmas.List.{length-map}
+use Rattle.arc_core.specs.Seats.{entry_in}
 use Rattle.arc_core.proofs.entries.Entries.len.Goals as goal
 
 pub returns : goal.returns
-returns c = rw (← c.self.view_is) (c.len.ensures ∙ sym (length-entered c.self.inside.rows.rows))
+returns c = rw (← c.self.view_is) (c.len.ensures ∙ sym (length-map c.self.inside.rows.seats entry_in))

@@ -1,6 +1,6 @@
-use Rattle.std.proofs.Common.{◌≡◌, ◌<◌, ◌-◌, ◌∷◌, length, sym, ap, ap₂, ◌∙◌, arith, rules}
+use Rattle.std.proofs.Common.{◌<◌, ◌-◌, ◌∷◌, length, sym, ap, ap₂, ◌∙◌, arith, rules}
 use Rattle.arc_core.specs.EventLog.{events_in}
-use Rattle.arc_core.specs.Packed.{event_of, taken_packed}
+use Rattle.arc_core.specs.Packed.{event_of}
 use Rattle.arc_core.proofs.Packing.{first-event}
 use Rattle.arc_core.proofs.history.EventsIterator.next.Goals as goal
 

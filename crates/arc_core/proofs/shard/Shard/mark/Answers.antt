@@ -1,7 +1,7 @@
 use Rattle.std.proofs.Common.{◌≡◌, ◌||◌, IsSome, IsTrue, false, sym, ap, subst, ◌∙◌}
 use Rattle.blk_ptr.specs.Order.{key_eq}
 use Rattle.arc_lists.specs.ByKey.{has_key}
-use Rattle.arc_lists.specs.PlainLists.{member_key}
+use Rattle.arc_lists.specs.Members.{member_key}
 use Rattle.arc_lists.specs.Queues.{IsSequenceOf}
 use Rattle.arc_lists.specs.Sequences.{stands_on}
 use Rattle.arc_core.specs.PlainShard.{entry_of, members}

@@ -1,5 +1,5 @@
 use Rattle.std.proofs.Common.{◌≡◌, ◌<◌, ◌≤◌, Some, sym, ap, subst, map, ◌∙◌}
-use Rattle.arc_lists.specs.PlainLists.{size_of}
+use Rattle.arc_lists.specs.Members.{size_of}
 use Rattle.arc_core.specs.PlainShard.{entry_of, member_of}
 use Rattle.arc_core.specs.TableModel.{shard_in}
 use Rattle.arc_core.proofs.Evictions.{entry-le, found, sized}
@@ -13,7 +13,7 @@ adapt-requires-clause-some c =
 pub adapt-requires-clause-there : goal.adapt-requires-clause-there
 adapt-requires-clause-there c =
     let item : entry_of c.args.key (shard_in c.self.inside) ≡ Some c.in-Some.entry.now = ap (λ t. entry_of c.args.key t.shard) c.self.view_is ∙ sym c.in-Some.ensures.value in
-    rw c.self.invariant.members (subst (λ state. c.args.key.size ≤ size_of state (map member_of c.self.inside.entries.items)) c.in-MruGhost.is (entry-le c.args.key (shard_in c.self.inside) c.in-Some.entry.now item))
+    subst (λ state. c.args.key.size ≤ size_of state (map member_of c.self.inside.entries.items)) c.in-MruGhost.is (entry-le c.args.key (shard_in c.self.inside) c.in-Some.entry.now item)
 
 pub adapt-requires-in-MfuGhost-clause-some : goal.adapt-requires-in-MfuGhost-clause-some
 adapt-requires-in-MfuGhost-clause-some c =
@@ -23,4 +23,4 @@ adapt-requires-in-MfuGhost-clause-some c =
 pub adapt-requires-in-MfuGhost-clause-there : goal.adapt-requires-in-MfuGhost-clause-there
 adapt-requires-in-MfuGhost-clause-there c =
     let item : entry_of c.args.key (shard_in c.self.inside) ≡ Some c.in-Some.entry.now = ap (λ t. entry_of c.args.key t.shard) c.self.view_is ∙ sym c.in-Some.ensures.value in
-    rw c.self.invariant.members (subst (λ state. c.args.key.size ≤ size_of state (map member_of c.self.inside.entries.items)) c.in-MfuGhost.is (entry-le c.args.key (shard_in c.self.inside) c.in-Some.entry.now item))
+    subst (λ state. c.args.key.size ≤ size_of state (map member_of c.self.inside.entries.items)) c.in-MfuGhost.is (entry-le c.args.key (shard_in c.self.inside) c.in-Some.entry.now item)

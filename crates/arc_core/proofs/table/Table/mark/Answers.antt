@@ -2,7 +2,7 @@ use Rattle.std.proofs.Common.{length, ap, refl, ◌≡◌, IsSome, IsTrue, arith
 use Rattle.std.proofs.lemmas.List.{length-map}
 use Rattle.blk_ptr.specs.declared.key.Key.{Key}
 use Rattle.arc_lists.specs.ByKey.{has_key}
-use Rattle.arc_lists.specs.PlainLists.{member_key}
+use Rattle.arc_lists.specs.Members.{member_key}
 use Rattle.arc_lists.specs.Queues.{IsSequenceOf}
 use Rattle.arc_lists.specs.Sequences.{stands_on}
 use Rattle.arc_core.specs.PlainShard.{entry_of, member_of, members}
@@ -30,8 +30,6 @@ invariant_of-self c =
     let unmarked : stands_on c.args.key c.self.inside.marked.items ≡ false = subst (λ p. stands_on c.args.key p.marked ≡ false) (sym c.self.view_is) c.requires.unmarked in
     record {
       tidy = IsTidy-same (shard_in c.self.inside) _ refl refl kept.tidy;
-      members = kept.members;
-      room = kept.room;
       few = kept.few;
       marked_room = omega (arith, kept.marked_room, ap length c.add.ensures.items, length-with_item (λ (k : Key). k) c.args.key c.self.inside.marked.items, c.add.ensures.spare);
       passed_room = kept.passed_room;

@@ -4,8 +4,6 @@ use Rattle.arc_core.proofs.table.Table.new.Goals as goal
 pub invariant_of-result : goal.invariant_of-result
 invariant_of-result c = record {
   tidy = search rules;
-  members = search rules;
-  room = search rules;
   few = search rules;
   marked_room = search rules;
   passed_room = search rules;

@@ -11,8 +11,6 @@ invariant_of-self c =
     let unpassed : is_passed (shard_in c.self.inside) c.args.key ≡ false = subst (λ t. is_passed t.shard c.args.key ≡ false) (sym c.self.view_is) c.requires.unpassed in
     record {
       tidy = IsTidy-same (shard_in c.self.inside) _ refl refl kept.tidy;
-      members = kept.members;
-      room = kept.room;
       few = kept.few;
       marked_room = kept.marked_room;
       passed_room = omega (arith, kept.passed_room, c.add.ensures.spare, room);

@@ -8,8 +8,6 @@ invariant_of-self c =
     let kept = c.self.invariant in
     record {
       tidy = IsTidy-same (shard_in c.self.inside) _ refl refl kept.tidy;
-      members = kept.members;
-      room = kept.room;
       few = kept.few;
       marked_room = kept.marked_room;
       passed_room = kept.passed_room;

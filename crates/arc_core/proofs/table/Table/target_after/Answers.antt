@@ -1,5 +1,5 @@
 use Rattle.std.proofs.Common.{◌≡◌, ◌<◌, ◌≤◌, Some, option_map, sym, ap, subst, map, ◌∙◌}
-use Rattle.arc_lists.specs.PlainLists.{size_of}
+use Rattle.arc_lists.specs.Members.{size_of}
 use Rattle.arc_core.specs.PlainShard.{entry_of, member_of}
 use Rattle.arc_core.specs.Sound.{IsTidy}
 use Rattle.arc_core.specs.TableModel.{shard_in}
@@ -17,7 +17,7 @@ pub adapted-requires-clause-there : goal.adapted-requires-clause-there
 adapted-requires-clause-there c =
     let item : entry_of c.args.key (shard_in c.self.inside) ≡ Some c.in-Some.entry.now =
     ap (λ t. entry_of c.args.key t.shard) c.self.view_is ∙ sym c.requires ∙ ap (option_map (λ r. r.now)) c.in-Some.is in
-    rw c.self.invariant.members (subst (λ state. c.args.key.size ≤ size_of state (map member_of c.self.inside.entries.items)) c.in-MruGhost.is (entry-le c.args.key (shard_in c.self.inside) c.in-Some.entry.now item))
+    subst (λ state. c.args.key.size ≤ size_of state (map member_of c.self.inside.entries.items)) c.in-MruGhost.is (entry-le c.args.key (shard_in c.self.inside) c.in-Some.entry.now item)
 
 pub adapted-requires-in-MfuGhost-clause-some : goal.adapted-requires-in-MfuGhost-clause-some
 adapted-requires-in-MfuGhost-clause-some c =
@@ -30,4 +30,4 @@ pub adapted-requires-in-MfuGhost-clause-there : goal.adapted-requires-in-MfuGhos
 adapted-requires-in-MfuGhost-clause-there c =
     let item : entry_of c.args.key (shard_in c.self.inside) ≡ Some c.in-Some.entry.now =
     ap (λ t. entry_of c.args.key t.shard) c.self.view_is ∙ sym c.requires ∙ ap (option_map (λ r. r.now)) c.in-Some.is in
-    rw c.self.invariant.members (subst (λ state. c.args.key.size ≤ size_of state (map member_of c.self.inside.entries.items)) c.in-MfuGhost.is (entry-le c.args.key (shard_in c.self.inside) c.in-Some.entry.now item))
+    subst (λ state. c.args.key.size ≤ size_of state (map member_of c.self.inside.entries.items)) c.in-MfuGhost.is (entry-le c.args.key (shard_in c.self.inside) c.in-Some.entry.now item)

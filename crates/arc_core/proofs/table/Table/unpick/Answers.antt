@@ -8,8 +8,6 @@ invariant_of-self c =
     let kept = c.self.invariant in
     record {
       tidy = IsTidy-same (shard_in c.self.inside) _ refl refl kept.tidy;
-      members = kept.members;
-      room = kept.room;
       few = kept.few;
       marked_room = omega (arith, kept.marked_room, ap length c.clear-2.ensures.items, c.clear-2.ensures.spare);
       passed_room = omega (arith, kept.passed_room, c.clear.ensures.spare);

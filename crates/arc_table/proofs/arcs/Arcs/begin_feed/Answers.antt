@@ -55,8 +55,8 @@ returns-clause-scan g c =
     let none = picked_there m config i l p c.take.new.party takes c.requires.party.config (subst IsConfig same c.self.invariant.valid) range c.requires.look c.requires.feeder
     ∙ (ap (λ (x : ℕ). list_at x p.own.ledger.picked) here ∙ c.requires.settled) in
     begins m config i l p c.take.new.party takes c.requires.party.config (subst IsConfig same c.self.invariant.valid) range c.requires.look
-    record { turn = i; shard = l; before = c.of.result; began = c.of-2.result; had = c.args.had; len = length c.history.result.now }
-    refl refl c.of.ensures c.of-2.ensures (ap (λ (h : List Event). length h) c.history.ensures.history ∙ ap (λ (l : ShardLog). length l.history) c.deref.ensures) none
+    record { turn = i; shard = l; before = c.of.result; began = c.of-2.result; had = c.args.had; len = c.len.result }
+    refl refl c.of.ensures c.of-2.ensures (c.len.ensures ∙ (ap (λ (h : List Event). length h) c.history.ensures.history ∙ ap (λ (l : ShardLog). length l.history) c.deref.ensures)) none
 
 pub returns-clause-picked : goal.returns-clause-picked
 returns-clause-picked g c =
