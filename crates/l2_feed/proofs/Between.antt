@@ -6,6 +6,7 @@ use Rattle.std.proofs.lemmas.Bool.{false≢true}
 use Rattle.std.proofs.lemmas.List.{map-append}
 use mathlib.Core.Option.{some-injective, some-ne-none}
 use Rattle.vdev_io.specs.declared.device.CacheDev.{Ghosts}
+use Rattle.vdev_io.specs.Calls.{DeviceCall}
 use Rattle.blk_ptr.specs.declared.key.Key.{Key}
 use Rattle.arc_lists.proofs.Tables.{cases_true}
 use Rattle.arc_core.specs.declared.config.Config.{Config}
@@ -30,15 +31,15 @@ use Rattle.l2_feed.proofs.Stepped.{GiveNone, sound_front, taking}
 -- ---- events of acts
 
 -- the moments of the acts of a shard have their events
-tell_events : (g : Config) (n shard : ℕ) (acts : List Act) (ms : List Moment) → TellActs n (acts_at g shard acts) ms → map (λ (m : Moment). m.event) ms ≡ events_at g n shard acts
-tell_events g n shard [] ms tell = ap (map (λ (m : Moment). m.event)) tell
-tell_events g n shard (act ∷ acts) ms tell = elim (cases_true (shard_of_act g act == shard)) [
+tell_events : (g : Config) (n shard : ℕ) (calls : List DeviceCall) (acts : List Act) (ms : List Moment) → TellActs n calls (acts_at g shard acts) ms → map (λ (m : Moment). m.event) ms ≡ events_at g n shard acts
+tell_events g n shard calls [] ms tell = ap (map (λ (m : Moment). m.event)) tell
+tell_events g n shard calls (act ∷ acts) ms tell = elim (cases_true (shard_of_act g act == shard)) [
   | inl here ↦
-      let t : TellActs n (act ∷ acts_at g shard acts) ms = rw here at tell in
-      rw here (ap (map (λ (m : Moment). m.event)) t.2 ∙ (map-append (λ (m : Moment). m.event) t.0 t.1 ∙ (λ i. t.3.0 i ++ tell_events g n shard acts t.1 t.4 i)))
+      let t : TellActs n calls (act ∷ acts_at g shard acts) ms = rw here at tell in
+      rw here (ap (map (λ (m : Moment). m.event)) t.2 ∙ (map-append (λ (m : Moment). m.event) t.0 t.1 ∙ (λ i. t.3.0 i ++ tell_events g n shard calls acts t.1 t.4 i)))
   | inr other ↦
-      let t : TellActs n (acts_at g shard acts) ms = rw other at tell in
-      rw other (tell_events g n shard acts ms t)
+      let t : TellActs n calls (acts_at g shard acts) ms = rw other at tell in
+      rw other (tell_events g n shard calls acts ms t)
 ]
 
 pub make_events : {C D : Type 0} (m : Meanings C) (device : Ghosts D) → FeedsMakeEvents m device
@@ -47,7 +48,7 @@ make_events m device g was now old new p q report fed shard =
     sym (own-events-are p.number (opening_of g) (seen_of g shard q))
     ∙ (ap (map (λ (x : Moment). x.event)) t.1
     ∙ (map-append (λ (x : Moment). x.event) (own_moments p.number (moments (opening_of g) (seen_of g shard p))) t.0
-    ∙ (λ i. own-events-are p.number (opening_of g) (seen_of g shard p) i ++ tell_events g p.number shard fed.acts t.0 t.2 i)))
+    ∙ (λ i. own-events-are p.number (opening_of g) (seen_of g shard p) i ++ tell_events g p.number shard fed.calls fed.acts t.0 t.2 i)))
 
 -- ---- events of others
 

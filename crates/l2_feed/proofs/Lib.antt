@@ -18,6 +18,7 @@ pub mod Owning
 pub mod Again
 pub mod Newest
 pub mod Telling
+pub mod Blocks
 pub mod Alone
 pub mod Plain
 pub mod Whole

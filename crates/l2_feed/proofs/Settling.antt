@@ -41,7 +41,7 @@ own_no_event g n z e at = absurd (some-ne-none e (sym at))
 -- ---- the first of the picks
 
 module _ (g : Config) (turn : ℕ) (b : Block) (bs : List Block) where
-  first_own : (picks : List Pick_of) → ArePicksOf g turn picks (b ∷ bs) → turn ≡ shard_turn g b.key
+  pub first_own : (picks : List Pick_of) → ArePicksOf g turn picks (b ∷ bs) → turn ≡ shard_turn g b.key
   first_own [] h = absurd h
   first_own (k ∷ ks) h = h.0.own
 
@@ -52,7 +52,7 @@ module _ (g : Config) (turn : ℕ) (b : Block) (bs : List Block) where
   first_there [] h = absurd h
   first_there (k ∷ ks) h = rw (first_same k h.0.key) refl
 
-  first_gone : (picks : List Pick_of) → ArePicksOf g turn picks (b ∷ bs) → ArePicksOf g turn (without_pick b.key picks) bs
+  pub first_gone : (picks : List Pick_of) → ArePicksOf g turn picks (b ∷ bs) → ArePicksOf g turn (without_pick b.key picks) bs
   first_gone [] h = absurd h
   first_gone (k ∷ ks) h = rw (first_same k h.0.key) h.1
 

@@ -105,7 +105,7 @@ module _ {C : Type 0} (m : Meanings C) (g : Config) where
     pub leave_step : (k : Key) (w : Why) → Does m g k (event.Leave n k w ∷ []) p q → Stepped g (shard_of g.shards k) (event.Leave n k w ∷ []) p q
     leave_step k w d = does_stepped m g k (event.Leave n k w ∷ []) p q knows (own_event g n (event.Leave n k w) refl refl) d
 
-    pub set_step : (k : Key) (x : ℕ) → Does m g k (event.Set n k x ∷ []) p q → Stepped g (shard_of g.shards k) (event.Set n k x ∷ []) p q
+    abbrev pub set_step : (k : Key) (x : ℕ) → Does m g k (event.Set n k x ∷ []) p q → Stepped g (shard_of g.shards k) (event.Set n k x ∷ []) p q
     set_step k x d = does_stepped m g k (event.Set n k x ∷ []) p q knows (own_event g n (event.Set n k x) refl refl) d
 
     abbrev pub clear_step : (k : Key) → Does m g k (event.Clear n k ∷ []) p q → Stepped g (shard_of g.shards k) (event.Clear n k ∷ []) p q

@@ -8,6 +8,7 @@ use Rattle.std.proofs.lemmas.List.Elements.{filter-append}
 use mathlib.Core.Logic.{dite}
 use native.Mathlib.Decide.{ℕ_discrete}
 use Rattle.blk_ptr.specs.declared.key.Key.{Key}
+use Rattle.vdev_io.specs.Calls.{DeviceCall}
 use Rattle.arc_lists.proofs.Standing.{and_left, and_right}
 use Rattle.arc_core.specs.declared.config.Config.{Config}
 use Rattle.arc_core.specs.declared.entry.Phase.{Phase}
@@ -39,21 +40,31 @@ use Rattle.arc_table.specs.Telling.{opening_of}
 use Rattle.arc_table.proofs.OwnLemmas.{made-own}
 use Rattle.arc_table.proofs.reads.ReadMoments.{moment, own-one}
 use Rattle.arc_table.proofs.Reached.{loses_same, took_is}
-use Rattle.l2_feed.specs.Acts.{Act, Absent, Cleared, DoesAct, DoesActs, Left, Picked, Placed, Refused, Unpicked, keys_of}
-use Rattle.l2_feed.specs.Told.{AreTold, FoundPlace, TellActs, acts_at, events_of, shard_of_act}
+use Rattle.l2_feed.specs.Acts.{Act, Absent, Cleared, DoesAct, Left, Picked, Placed, Refused, Unpicked, keys_of}
+use Rattle.l2_feed.specs.Told.{AreTold, FoundSo, IsWrittenAt, TellActs, acts_at, events_of, shard_of_act}
 use Rattle.l2_feed.proofs.Settling.{own_no_event}
 use Rattle.l2_feed.proofs.Stepped.{Knows, Stepped, feeds_stepped, picks_stepped}
-use Rattle.l2_feed.proofs.Taking.{act_knows, clear_step, leave_step, none_step, set_step}
+use Rattle.l2_feed.proofs.Taking.{clear_step, leave_step, none_step, set_step}
 
 -- ---- acts in a shard
 
-tell_append : (n : ℕ) (a b : List Act) (ms ns : List Moment) → TellActs n a ms → TellActs n b ns → TellActs n (a ++ b) (ms ++ ns)
-tell_append n [] b ms ns first behind = subst (λ (l : List Moment). TellActs n b (l ++ ns)) (sym first) behind
-tell_append n (x ∷ a) b ms ns first behind = (first.0, first.1 ++ ns, ap (λ (l : List Moment). l ++ ns) first.2 ∙ append_assoc first.0 first.1 ns, first.3, tell_append n a b first.1 ns first.4 behind)
+tell_append : (n : ℕ) (calls : List DeviceCall) (a b : List Act) (ms ns : List Moment) → TellActs n calls a ms → TellActs n calls b ns → TellActs n calls (a ++ b) (ms ++ ns)
+tell_append n calls [] b ms ns first behind = subst (λ (l : List Moment). TellActs n calls b (l ++ ns)) (sym first) behind
+tell_append n calls (x ∷ a) b ms ns first behind =
+    (first.0, first.1 ++ ns, ap (λ (l : List Moment). l ++ ns) first.2 ∙ append_assoc first.0 first.1 ns, first.3, tell_append n calls a b first.1 ns first.4 behind)
 
-module _ {C : Type 0} (g : Config) where
+module _ {C : Type 0} (g : Config) (calls : List DeviceCall) where
+  -- no act
+  pub told_none : (p q : Place (Known C)) → q ≡ p → AreTold g calls [] p q
+  told_none p q same shard = (
+    [],
+    subst (λ (r : Place (Known C)). own_moments p.number (moments (opening_of g) (seen_of g shard r)) ≡ own_moments p.number (moments (opening_of g) (seen_of g shard p)) ++ []) (sym same)
+        (sym (append-nil (own_moments p.number (moments (opening_of g) (seen_of g shard p))))),
+    refl,
+  )
+
   -- one act more: its own moments, in its own shard
-  told_one : (act : Act) (ms : List Moment) (p q : Place (Known C)) → AddsOwn g (shard_of_act g act) ms p q → (map (λ (m : Moment). m.event) ms ≡ events_of p.number act) × FoundPlace act ms → AreTold g (act ∷ []) p q
+  told_one : (act : Act) (ms : List Moment) (p q : Place (Known C)) → AddsOwn g (shard_of_act g act) ms p q → (map (λ (m : Moment). m.event) ms ≡ events_of p.number act) × FoundSo calls act ms → AreTold g calls (act ∷ []) p q
   told_one act ms p q adds is shard = dite (ℕ_discrete (shard_of_act g act) shard)
       (λ same. (
         ms,
@@ -66,7 +77,7 @@ module _ {C : Type 0} (g : Config) where
         rw (ne_eqb (shard_of_act g act) shard differs) refl,
       ))
 
-  told_then : (a b : List Act) (p q r : Place (Known C)) → q.number ≡ p.number → AreTold g a p q → AreTold g b q r → AreTold g (a ++ b) p r
+  pub told_then : (a b : List Act) (p q r : Place (Known C)) → q.number ≡ p.number → AreTold g calls a p q → AreTold g calls b q r → AreTold g calls (a ++ b) p r
   told_then a b p q r number first behind shard =
       let f = first shard in
       let t = behind shard in
@@ -74,8 +85,8 @@ module _ {C : Type 0} (g : Config) where
       subst (λ (n : ℕ). own_moments n (moments (opening_of g) (seen_of g shard r)) ≡ own_moments n (moments (opening_of g) (seen_of g shard q)) ++ t.0) number t.1 in (
         f.0 ++ t.0,
         again ∙ (ap (λ (l : List Moment). l ++ t.0) f.1 ∙ append_assoc (own_moments p.number (moments (opening_of g) (seen_of g shard p))) f.0 t.0),
-        subst (λ (l : List Act). TellActs p.number l (f.0 ++ t.0)) (sym (filter-append (λ act. shard_of_act g act == shard) a b))
-            (tell_append p.number (acts_at g shard a) (acts_at g shard b) f.0 t.0 f.2 (subst (λ (n : ℕ). TellActs n (acts_at g shard b) t.0) number t.2)),
+        subst (λ (l : List Act). TellActs p.number calls l (f.0 ++ t.0)) (sym (filter-append (λ act. shard_of_act g act == shard) a b))
+            (tell_append p.number calls (acts_at g shard a) (acts_at g shard b) f.0 t.0 f.2 (subst (λ (n : ℕ). TellActs n calls (acts_at g shard b) t.0) number t.2)),
       )
 
 -- ---- what was picked
@@ -157,32 +168,36 @@ module _ {C : Type 0} (m : Meanings C) (g : Config) (p q : Place (Known C)) (kno
       ∙ (ap (map pick_key) (listed (turn_of g shard) (a.picks ++ event.FeedEnd n ∷ []) a.feeds ∙ (ap (λ (x : PlainShard). x.picked) a.feeds.now ∙ ap (λ (x : PlainShard). x.picked) (replay-append a.feeds.before.now a.picks (event.FeedEnd n ∷ []))))
       ∙ (scan_picked g n (turn_of g shard) a.feeds.before.now a.picks a.scan ∙ ap (λ (l : List Pick_of). map pick_key l ++ picks_in a.picks) none))
 
-  -- one event, and none
-  one_told : (act : Act) (e : Event) → number_of e ≡ n → is_pass e ≡ false → events_of n act ≡ e ∷ [] → (s : Stepped g (shard_of_act g act) (e ∷ []) p q) → FoundPlace act (moment s.before.now e ∷ []) → AreTold g (act ∷ []) p q
-  one_told act e number pass is s found =
-      let ms = own-one n s.before.now e number pass in
-      let adds = subst (λ (l : List Moment). AddsOwn g (shard_of_act g act) l p q) ms (made-own g (shard_of_act g act) s.before (e ∷ []) p q s.made) in
-      told_one g act (moment s.before.now e ∷ []) p q adds (sym is, found)
+  module _ (calls : List DeviceCall) where
+    -- one event, and none
+    one_told : (act : Act) (e : Event) → number_of e ≡ n → is_pass e ≡ false → events_of n act ≡ e ∷ [] → (s : Stepped g (shard_of_act g act) (e ∷ []) p q) → FoundSo calls act (moment s.before.now e ∷ []) → AreTold g calls (act ∷ []) p q
+    one_told act e number pass is s found =
+        let ms = own-one n s.before.now e number pass in
+        let adds = subst (λ (l : List Moment). AddsOwn g (shard_of_act g act) l p q) ms (made-own g (shard_of_act g act) s.before (e ∷ []) p q s.made) in
+        told_one g calls act (moment s.before.now e ∷ []) p q adds (sym is, found)
 
-  none_told : (act : Act) → events_of n act ≡ [] → Stepped g (shard_of_act g act) [] p q → FoundPlace act [] → AreTold g (act ∷ []) p q
-  none_told act is s found = told_one g act [] p q (made-own g (shard_of_act g act) s.before [] p q s.made) (sym is, found)
+    none_told : (act : Act) → events_of n act ≡ [] → Stepped g (shard_of_act g act) [] p q → FoundSo calls act [] → AreTold g calls (act ∷ []) p q
+    none_told act is s found = told_one g calls act [] p q (made-own g (shard_of_act g act) s.before [] p q s.made) (sym is, found)
 
-  act_told : (act : Act) → DoesAct m g act p q → AreTold g (act ∷ []) p q
-  act_told (Picked shard blocks) d =
-      let a = d.2 in
-      let s = picks_stepped m g shard a.picks p q knows a.scan a.feeds a.others in
-      told_one g (Picked shard blocks) (own_moments n (moments s.before.now (a.picks ++ event.FeedEnd n ∷ []))) p q (made-own g shard s.before (a.picks ++ event.FeedEnd n ∷ []) p q s.made)
-      (scan_moments g n (turn_of g shard) s.before.now a.picks a.scan ∙ ap (λ (l : List Key). map (event.Pick n) l ++ event.FeedEnd n ∷ []) (sym (gained_keys shard d.0 d.1 a) ∙ ap keys_of d.3), tt)
-  act_told (Unpicked shard) d = none_told (Unpicked shard) refl (feeds_stepped m g shard [] p q knows d (own_no_event g n)) tt
-  act_told (Cleared k x) d = let s = clear_step m g p q knows k d.0 in one_told (Cleared k x) (event.Clear n k) refl refl refl s (some_place x (place_of k s.before.now) d.1, tt)
-  act_told (Absent k x) d = none_told (Absent k x) refl (none_step m g p q knows k d.1.0) tt
-  act_told (Refused k x) d = none_told (Refused k x) refl (none_step m g p q knows k d) tt
-  act_told (Placed k x) d = one_told (Placed k x) (event.Set n k x) refl refl refl (set_step m g p q knows k x d) tt
-  act_told (Left k w) d = one_told (Left k w) (event.Leave n k w) refl refl refl (leave_step m g p q knows k w d) tt
+    -- what is to be known of an act beside what it did: where it gave a place, that the block was written there
+    abbrev pub WroteFor : (act : Act) → DoesAct m g act p q → Type 0
+    WroteFor (Picked shard blocks) d = Unit {0}
+    WroteFor (Unpicked shard) d = Unit {0}
+    WroteFor (Cleared k x) d = Unit {0}
+    WroteFor (Absent k x) d = Unit {0}
+    WroteFor (Refused k x) d = Unit {0}
+    WroteFor (Placed k x) d = IsWrittenAt calls k x d.before.now
+    WroteFor (Left k w) d = Unit {0}
 
-module _ {C : Type 0} (m : Meanings C) (g : Config) where
-  pub acts_told : (acts : List Act) (p q : Place (Known C)) → Knows g p → DoesActs m g acts p q → AreTold g acts p q
-  acts_told [] p q knows did = λ shard. ([], subst (λ (r : Place (Known C)). own_moments p.number (moments (opening_of g) (seen_of g shard r)) ≡ own_moments p.number (moments (opening_of g) (seen_of g shard p)) ++ []) (sym did) (sym (append-nil (own_moments p.number (moments (opening_of g) (seen_of g shard p))))), refl)
-  acts_told (act ∷ acts) p q knows did =
-      let behind : Knows g did.0 = act_knows m g p did.0 knows act did.1 in
-      told_then g (act ∷ []) acts p did.0 q (behind.feeder ∙ sym knows.feeder) (act_told m g p did.0 knows act did.1) (acts_told acts did.0 q behind did.2)
+    pub act_told : (act : Act) (d : DoesAct m g act p q) → WroteFor act d → AreTold g calls (act ∷ []) p q
+    act_told (Picked shard blocks) d wrote =
+        let a = d.2 in
+        let s = picks_stepped m g shard a.picks p q knows a.scan a.feeds a.others in
+        told_one g calls (Picked shard blocks) (own_moments n (moments s.before.now (a.picks ++ event.FeedEnd n ∷ []))) p q (made-own g shard s.before (a.picks ++ event.FeedEnd n ∷ []) p q s.made)
+        (scan_moments g n (turn_of g shard) s.before.now a.picks a.scan ∙ ap (λ (l : List Key). map (event.Pick n) l ++ event.FeedEnd n ∷ []) (sym (gained_keys shard d.0 d.1 a) ∙ ap keys_of d.3), tt)
+    act_told (Unpicked shard) d wrote = none_told (Unpicked shard) refl (feeds_stepped m g shard [] p q knows d (own_no_event g n)) tt
+    act_told (Cleared k x) d wrote = let s = clear_step m g p q knows k d.0 in one_told (Cleared k x) (event.Clear n k) refl refl refl s (some_place x (place_of k s.before.now) d.1, tt)
+    act_told (Absent k x) d wrote = none_told (Absent k x) refl (none_step m g p q knows k d.1.0) tt
+    act_told (Refused k x) d wrote = none_told (Refused k x) refl (none_step m g p q knows k d) tt
+    act_told (Placed k x) d wrote = one_told (Placed k x) (event.Set n k x) refl refl refl (set_step m g p q knows k x d) (wrote, tt)
+    act_told (Left k w) d wrote = one_told (Left k w) (event.Leave n k w) refl refl refl (leave_step m g p q knows k w d) tt

@@ -34,7 +34,7 @@ use Rattle.l2_feed.proofs.Newest.{fed_newest}
 use Rattle.l2_feed.proofs.Owning.{fed_owns}
 use Rattle.l2_feed.proofs.Stepped.{Knows}
 use Rattle.l2_feed.proofs.Taking.{acts_stay}
-use Rattle.l2_feed.proofs.Telling.{acts_told}
+use Rattle.l2_feed.proofs.Blocks.{fed_told}
 use Rattle.arc_table.proofs.Afterwards.{Stays}
 use Rattle.l2_feed.proofs.Counting.{cleared-append, picked-append, placed-append}
 
@@ -58,7 +58,7 @@ has_fed m cache device was now old new acts calls p q report ready did made fed 
       acts = acts;
       calls = calls;
       did = did;
-      told = acts_told m cache.config acts p q knows did;
+      told = fed_told m cache.config calls 0 cache.config.shards old new acts calls report.end p q knows did fed (λ c among. among);
       alone = acts_alone m cache.config acts p q knows did;
       held = stays.held;
       joined = stays.joined;

@@ -20,15 +20,15 @@ use Rattle.l2_feed.specs.Sums.{IsSummary}
 
 -- The party p did these acts, one after another, and is q; the device, which had the one cursor and has the other, was asked for these calls, one after
 -- another, and for nothing else. Both are those of shard by shard, up to the one where the feed ended, and the report is that of the acts. They stand in
--- what the party has seen of the shards. Where it has every number, the acts are what the shards say and it has seen nothing else; and where memory was
--- refused for none of them, the feed is the plain one. It holds the turns that it held, and keeps the parties that it joined. A place that the feed found
--- or gave, and that the key has, is live for it still, and is the newest one still where it was. None was taken but such, and one that was taken is live
--- again only behind a new pick.
+-- what the party has seen of the shards, and where a key was given a place its block was written there. Where it has every number, the acts are what the
+-- shards say and it has seen nothing else; and where memory was refused for none of them, the feed is the plain one. It holds the turns that it held, and
+-- keeps the parties that it joined. A place that the feed found or gave, and that the key has, is live for it still, and is the newest one still where it
+-- was. None was taken but such, and one that was taken is live again only behind a new pick.
 pub record HasFed {C D : Type 0} (m : Meanings C) (g : Config) (device : Ghosts D) (was now : D) (old new : CursorState) (p q : Place (Known C)) (report : FeedReport) : Type 0 where
   pub acts : List Act
   pub calls : List DeviceCall
   pub did : DoesActs m g acts p q
-  pub told : AreTold g acts p q
+  pub told : AreTold g calls acts p q
   pub alone : HasAll p → AreAlone g acts p q
   pub held : q.held ≡ p.held
   pub joined : q.joined ≡ p.joined

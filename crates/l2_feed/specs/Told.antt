@@ -1,14 +1,18 @@
--- How a feed's acts stand in what the feeder has seen of the shards: each act by its events, one after another, and no other event of its own.
-use Rattle.std.specs.Prelude.{◌≡◌, ℕ, ◌==◌, List, [], ◌∷◌, ◌++◌, map, filter, Some}
+-- How a feed's acts stand in what the feeder has seen of the shards: each act by its events, one after another, and no other event of its own; and what the
+-- device was asked for where a place was given.
+use Rattle.std.specs.Prelude.{◌≡◌, ◌⊎◌, ℕ, ◌==◌, List, [], ◌∷◌, ◌++◌, map, filter, Some}
 use Rattle.std.specs.List.{AllByRecursion}
+use Rattle.blk_ptr.specs.declared.key.Key.{Key}
 use Rattle.blk_ptr.specs.Hash.{shard_of}
+use Rattle.vdev_io.specs.Calls.{DeviceCall, Gave, Write, answered}
 use Rattle.arc_core.specs.declared.config.Config.{Config}
 use Rattle.arc_core.specs.declared.event.Event.{Event}
 use Rattle.arc_core.specs.declared.event.Event.TheVariants as event
 use Rattle.arc_core.specs.Operations.{Moment, moments, own_moments}
-use Rattle.arc_core.specs.PlainShard.{place_of}
+use Rattle.arc_core.specs.PlainShard.{PlainShard, place_of}
 use Rattle.turn_table.specs.Places.{Place}
 use Rattle.arc_table.specs.declared.view.Known.{Known}
+use Rattle.arc_table.specs.feeder.Picking.{IsBlockOf}
 use Rattle.arc_table.specs.Seen.{seen_of}
 use Rattle.arc_table.specs.Telling.{opening_of}
 use Rattle.l2_feed.specs.Acts.{Act, Absent, Cleared, Left, Picked, Placed, Refused, Unpicked, keys_of}
@@ -37,17 +41,29 @@ events_of n (Refused k place) = []
 events_of n (Placed k place) = event.Set n k place ∷ []
 events_of n (Left k why) = event.Leave n k why ∷ []
 
--- a place that was taken was the key's when it was taken
-abbrev pub FoundPlace : Act → List Moment → Type 0
-FoundPlace (Cleared k place) ms = AllByRecursion (λ m. place_of k m.before ≡ Some place) ms
-FoundPlace _ ms = Unit {0}
+-- the call is among these
+abbrev pub IsAmongCalls : DeviceCall → List DeviceCall → Type 0
+IsAmongCalls call [] = ⊥
+IsAmongCalls call (c ∷ calls) = (c ≡ call) ⊎ IsAmongCalls call calls
 
--- these moments are those of the acts of n, one act after another
-abbrev pub TellActs : (n : ℕ) → List Act → List Moment → Type 0
-TellActs n [] ms = ms ≡ []
-TellActs n (act ∷ acts) ms = (front : List Moment) × (rest : List Moment) × (ms ≡ front ++ rest) × ((map (λ m. m.event) front ≡ events_of n act) × FoundPlace act front) × TellActs n acts rest
+-- One of these calls wrote the key's block at this place, and was done: bytes of the key's size, with the digest that its entry has in this shard.
+pub record IsWrittenAt (calls : List DeviceCall) (k : Key) (place : ℕ) (s : PlainShard) : Type 0 where
+  pub bytes : List ℕ
+  pub block : IsBlockOf k s bytes
+  pub call : IsAmongCalls (answered Gave (Write place bytes)) calls
+
+-- A place that was taken was the key's when it was taken. Where one was given, the key's block, as its entry was when it was given, was written there.
+abbrev pub FoundSo : List DeviceCall → Act → List Moment → Type 0
+FoundSo calls (Cleared k place) ms = AllByRecursion (λ m. place_of k m.before ≡ Some place) ms
+FoundSo calls (Placed k place) ms = AllByRecursion (λ m. IsWrittenAt calls k place m.before) ms
+FoundSo calls _ ms = Unit {0}
+
+-- these moments are those of the acts of n, which made these calls of the device, one act after another
+abbrev pub TellActs : (n : ℕ) → List DeviceCall → List Act → List Moment → Type 0
+TellActs n calls [] ms = ms ≡ []
+TellActs n calls (act ∷ acts) ms = (front : List Moment) × (rest : List Moment) × (ms ≡ front ++ rest) × ((map (λ m. m.event) front ≡ events_of n act) × FoundSo calls act front) × TellActs n calls acts rest
 
 -- In each shard the party's own moments are those that were its own before, and then those of the acts there.
-abbrev pub AreTold : {C : Type 0} → Config → List Act → (p q : Place (Known C)) → Type 0
-AreTold g acts p q = (shard : ℕ) → (ms : List Moment) × (own_moments p.number (moments (opening_of g) (seen_of g shard q)) ≡ own_moments p.number (moments (opening_of g) (seen_of g shard p)) ++ ms)
-    × TellActs p.number (acts_at g shard acts) ms
+abbrev pub AreTold : {C : Type 0} → Config → List DeviceCall → List Act → (p q : Place (Known C)) → Type 0
+AreTold g calls acts p q = (shard : ℕ) → (ms : List Moment) × (own_moments p.number (moments (opening_of g) (seen_of g shard q)) ≡ own_moments p.number (moments (opening_of g) (seen_of g shard p)) ++ ms)
+    × TellActs p.number calls (acts_at g shard acts) ms

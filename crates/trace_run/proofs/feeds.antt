@@ -8,3 +8,4 @@ pub mod SeriesLemmas
 pub mod StartLemmas
 pub mod TurnFeeds
 pub mod UsedLemmas
+pub mod WrittenLemmas

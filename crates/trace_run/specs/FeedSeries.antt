@@ -8,7 +8,7 @@ use Rattle.vdev_io.specs.Device.{LeavesOnly}
 use Rattle.arc_core.specs.declared.config.Config.{Config}
 use Rattle.arc_core.specs.declared.event.Event.{Event}
 use Rattle.arc_core.specs.declared.served.Restored.{Restored}
-use Rattle.arc_core.specs.Operations.{own_events}
+use Rattle.arc_core.specs.Operations.{Moment, moments, own_events, own_moments}
 use Rattle.arc_core.specs.PlainShard.{place_of}
 use Rattle.arc_core.specs.Replay.{replay}
 use Rattle.turn_table.specs.Places.{Place}
@@ -28,6 +28,7 @@ use Rattle.l2_dev.specs.Rebuilding.{HaveKeys, IsOpened, ring_end_of}
 use Rattle.l2_dev.specs.Restoring.{IsRebuilt}
 use Rattle.l2_dev.specs.Starting.{IsOrderlyChain, StartKeeps}
 use Rattle.l2_feed.specs.Series.{GivesNone, IsRestoredAt, WasLent, faults_in}
+use Rattle.l2_feed.specs.Told.{TellActs, acts_at}
 use Rattle.trace_text.specs.declared.rebuilt.Rebuilt.{Rebuilt}
 use Rattle.trace_run.specs.declared.device.Device.{Device}
 use Rattle.trace_run.specs.declared.device.Device.TheVariants as device
@@ -92,6 +93,19 @@ module _ {C D : Type 0} (m : Meanings C) (devices : Ghosts D) (cache : Cache) wh
     pub begun : (shard : ℕ) → seen_of cache.config shard first ≡ restores_in cache.config restored shard
     pub turn : AreInTurnOf feeds old new first q
 
+-- ---- what they wrote
+
+-- Among these moments of the feeder in a shard are those of these feeds, one feed after another. Each place that a feed took was its key's then; and where it gave a key a place, it had written
+-- the key's block there, as the entry was then.
+abbrev pub TellFeeds : Config → (shard : ℕ) → List FeedDone → List Moment → Type 0
+TellFeeds g shard [] ms = Unit {0}
+TellFeeds g shard (feed ∷ feeds) ms =
+    (others here rest : List Moment) × (ms ≡ others ++ (here ++ rest)) × TellActs g.callers feed.calls (acts_at g shard feed.acts) here × TellFeeds g shard feeds rest
+
+-- So it is in the history of each shard.
+abbrev pub AreWrittenSo : Config → List FeedDone → (histories : List (List Event)) → Type 0
+AreWrittenSo g feeds histories = (shard : ℕ) → shard < g.shards → TellFeeds g shard feeds (own_moments g.callers (moments (opening_of g) (slice_index_or histories shard [])))
+
 -- ---- what they leave
 
 module _ {D : Type 0} (devices : Ghosts D) where
@@ -109,11 +123,12 @@ module _ {D : Type 0} (devices : Ghosts D) where
       (image : List ℕ) → devices.may_leave dev image → (restored : List Restored) (why : Stop) → IsRebuilt end image restored why → why ≢ stops.DevFault
       → (k : Key) (x : ℕ) → place_of k (replay (opening_of g) (slice_index_or histories (shard_of g.shards k) [])) ≡ Some x → IsRestoredAt k x restored
 
-  -- What feeds left of a device, which was so before its start and behind it, where its ring was written from the one cursor on. Its count of faults rose for each that ended
-  -- with one. Where all were done, each crash restores what has a place in the end; the premise is that no lap comes to its last value.
+  -- What feeds left of a device, which was so before its start and behind it, where its ring was written from the one cursor on. Where they gave keys places they had written the keys' blocks.
+  -- Its count of faults rose for each that ended with one. Where all were done, each crash restores what has a place in the end; the premise is that no lap comes to its last value.
   pub record WasFed (g : Config) (before started after : D) (first : CursorState) (why : Stop) (feeds : List FeedDone) (histories : List (List Event)) : Type 0 where
     pub last : CursorState
     pub turn : GoOn feeds first last
+    pub written : AreWrittenSo g feeds histories
     pub faults : devices.faults started + length feeds < 2 ^ 64 → devices.faults started + faults_in (reports_of feeds) ≤ devices.faults after
     pub crash : IsOrderlyDisk (ring_end_of (devices.size before)) before why → AreAllDone feeds → first.ring.lap + g.shards * length feeds < last_lap → RestorePlaces g (ring_end_of (devices.size before)) after histories
 

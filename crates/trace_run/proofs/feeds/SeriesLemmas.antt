@@ -57,6 +57,7 @@ use Rattle.trace_run.specs.callers.Beside.{LendsAndFeeds}
 use Rattle.trace_run.proofs.callers.MeetLemmas.{starts-events, starts-then}
 use Rattle.trace_run.proofs.one_caller.TellLemmas.{all-append}
 use Rattle.trace_run.proofs.feeds.FeedStands.{acts-still}
+use Rattle.trace_run.proofs.feeds.WrittenLemmas.{feeds-written}
 
 -- ---- what the feeder has seen
 
@@ -401,6 +402,7 @@ module _ {C D : Type 0} (m : Meanings C) (devices : Ghosts D) (cache : Cache) wh
     was-fed restored fs before a b x y p q why histories begun turn opened keys start goes closed = record {
       last = y;
       turn = goes-on fs a b x y p q turn;
+      written = λ shard below. feeds-written m devices cache shard below fs a b x y p q (slice_index_or histories shard []) turn (closed shard below);
       faults = λ few. rises (devices.faults a) fs a b x y p q turn few (omega arith);
       crash = λ disk done few image left found stopped is well k place at.
           let shard : ℕ = shard_of cache.config.shards k in
