@@ -1,8 +1,8 @@
 -- Histories that are played again, event by event.
-use Rattle.std.proofs.Common.{◌≡◌, ℕ, zero, suc, ◌+◌, ◌≤◌, Bool, true, false, if◌then◌else◌, List, [], ◌∷◌, ◌++◌, map, take, Some, sym, ap, subst, ◌∙◌, arith}
+use Rattle.std.proofs.Common.{◌≡◌, ℕ, zero, suc, ◌+◌, ◌≤◌, Bool, true, false, if◌then◌else◌, List, [], ◌∷◌, ◌++◌, map, drop, take, Some, sym, ap, subst, ◌∙◌, arith}
 use Rattle.std.specs.Prelude.{slice_get}
 use Rattle.std.specs.List.{AllByRecursion}
-use Rattle.std.proofs.lemmas.List.{map-append}
+use Rattle.std.proofs.lemmas.List.{append-nil, map-append, take-append-drop}
 use Rattle.arc_core.specs.declared.event.Event.{Event}
 use Rattle.arc_core.specs.declared.event.Event.TheVariants.{Pass, Hit, Miss, Arrive, Fail, Drop, Past, Hand, Insert, Release, Pick, FeedEnd, Set, Leave, Clear, Restore, Resize}
 use Rattle.arc_core.specs.Owed.{entries_for, room_for}
@@ -72,6 +72,19 @@ take-more [] i e at = cc
 take-more (x ∷ xs) zero e at = let same : x ≡ e = cc in ap (λ (y : Event). y ∷ []) same
 take-more (x ∷ xs) (suc i) e at =
     let next : suc i + 1 ≡ suc (i + 1) = omega arith in ap (λ k. take k (x ∷ xs)) next ∙ ap (λ (ys : List Event). x ∷ ys) (take-more xs i e at)
+
+-- what is left behind the first events begins with the next one
+pub next-left : (es : List Event) (i : ℕ) (e : Event) (rest : List Event) → drop i es ≡ e ∷ rest → (slice_get es i ≡ Some e) × (drop (i + 1) es ≡ rest)
+next-left [] zero e rest left = (cc, cc)
+next-left [] (suc i) e rest left = (cc, cc)
+next-left (x ∷ xs) zero e rest left = (cc, cc)
+next-left (x ∷ xs) (suc i) e rest left =
+    let more = next-left xs i e rest left in
+    let next : suc i + 1 ≡ suc (i + 1) = omega arith in (more.0, ap (λ k. drop k (x ∷ xs)) next ∙ more.1)
+
+-- where none is left, these are all
+pub none-left : (es : List Event) (i : ℕ) → drop i es ≡ [] → take i es ≡ es
+none-left es i left = sym (append-nil (take i es)) ∙ ap (λ (ys : List Event). take i es ++ ys) (sym left) ∙ take-append-drop i es
 
 -- one event more that may come
 pub played-more : (opening s t : PlainShard) (es : List Event) (i : ℕ) (e : Event) (b : Bool) → slice_get es i ≡ Some e → s ≡ replay opening (take i es)

@@ -1,6 +1,6 @@
 //! Rows of calls on dbufs with the events of shards that they made, and what a cache ends with.
 use crate::rows::{NARROW, WIDE};
-use arc_core::{Event, FailedAt, Origin, ReadFault};
+use arc_core::{Event, FailedAt, Origin, ReadFault, Shard};
 use arc_table::Closed;
 use blk_ptr::{Digest, Key, State, digest_of};
 use dbuf_cells::HeapCell;
@@ -80,12 +80,17 @@ fn inserted(offset: u64, digest: Digest) -> Event {
     }
 }
 
+// Whether the shard has these events and no others.
+fn has_history(shard: &Shard, events: &[Event]) -> bool {
+    shard.history().iter().eq(events.iter().copied())
+}
+
 // Whether each shard has these events and no others.
 fn has_events(closed: &Closed<HeapCell>, events: &[Event]) -> bool {
     closed
         .shards()
         .iter()
-        .all(|shard| shard.history() == events)
+        .all(|shard| has_history(shard, events))
 }
 
 // Whether each shard ends with so many bytes in this state.

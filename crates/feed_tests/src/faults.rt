@@ -1,5 +1,5 @@
 //! Feeds in which one call of the device fails.
-use arc_core::{Event, Origin, Why};
+use arc_core::{Event, Origin, Shard, Why};
 use arc_examples::Plain;
 use arc_table::Closed;
 use blk_ptr::{NoMemory, Ptr};
@@ -46,10 +46,15 @@ fn history(alloc: Global, ptr: &Ptr, t: u64, fed: Fed) -> Result<Vec<Event>, NoM
     Ok(events)
 }
 
+/// Whether the shard has this history.
+fn has_history(shard: &Shard, events: &[Event]) -> bool {
+    shard.history().iter().eq(events.iter().copied())
+}
+
 /// Whether both shards have these histories.
 fn are_of_both(closed: &Closed<Plain>, first: &[Event], second: &[Event]) -> bool {
     match closed.shards() {
-        [one, two] => one.history() == first && two.history() == second,
+        [one, two] => has_history(one, first) && has_history(two, second),
         _ => false,
     }
 }

@@ -11,11 +11,11 @@ use std::test::Fail;
 fn counts(closed: &Closed<Plain>) -> [u32; 3] {
     let mut counts = [0u32; 3];
     for shard in closed.shards() {
-        for event in shard.history() {
+        for event in shard.history().iter() {
             match event {
                 Event::Pick { .. } => counts[0] = counts[0].saturating_add(1),
                 Event::Set { .. } => counts[1] = counts[1].saturating_add(1),
-                Event::Leave { why, .. } if *why == Why::Memory => {
+                Event::Leave { why, .. } if why == Why::Memory => {
                     counts[2] = counts[2].saturating_add(1);
                 }
                 _ => {}

@@ -7,9 +7,9 @@ pub loop-alloc-preserved : goal.loop-alloc-preserved
 loop-alloc-preserved c =
     let kept = c.loop-alloc.invariant in
     let pushed = c.in_ok-push-2.ensures in
-    let adds = pushed.items ∙ ap (λ (h : List Event). c.loop-alloc.closed.items ++ h ∷ []) (c.from_vec-in-loop-alloc.ensures ∙ c.new.ensures.items) in
+    let adds = pushed.items ∙ ap (λ (h : List Event). c.loop-alloc.closed.items ++ h ∷ []) (c.of_events-in-loop-alloc.ensures ∙ c.new.ensures.events) in
     record {
-      items = close-more c.args.closed.now.items c.args.events.items c.loop-alloc.closed.items _ _ _ kept.items adds kept.least pushed.len;
+      items = close-more c.args.closed.now.items c.args.events.events c.loop-alloc.closed.items _ _ _ kept.items adds kept.least pushed.len;
       least = omega (arith, kept.least, pushed.len);
       most = omega (arith, c.loop-alloc-test.true, pushed.len);
     }
