@@ -1,5 +1,5 @@
 -- That a feed had written the block of each key at the place that it gave it: part by part, with the acts as they stand in what the feeder has seen.
-use Rattle.std.proofs.Common.{◌≡◌, ◌⊎◌, ℕ, zero, suc, ◌+◌, Bool, true, false, IsTrue, List, [], ◌∷◌, ◌++◌, map, take, drop, Option, Some, None, inl, inr, refl, sym, ap, ◌∙◌, subst}
+use Rattle.std.proofs.Common.{◌≡◌, ◌⊎◌, ℕ, zero, suc, ◌+◌, true, false, IsTrue, List, [], ◌∷◌, ◌++◌, take, drop, Option, Some, None, inl, inr, refl, sym, ap, ◌∙◌, subst}
 use Rattle.std.specs.Prelude.{◌&&◌, ◌||◌, is_none}
 use Rattle.std.specs.Option.{option_and_then, option_map_or}
 use Rattle.std.proofs.lemmas.Bool.{false≢true}
@@ -7,8 +7,7 @@ use Rattle.std.proofs.lemmas.List.{take-append-drop}
 use Rattle.std.proofs.lemmas.Slice.Eq.{bytes_eq-Decides}
 use Rattle.blk_ptr.specs.declared.digest.Digest.{Digest}
 use Rattle.blk_ptr.specs.declared.key.Key.{Key}
-use Rattle.blk_ptr.specs.Order.{digest_eq, key_eq}
-use Rattle.blk_ptr.specs.Ptr.{sha256_of}
+use Rattle.blk_ptr.specs.Order.{key_eq}
 use Rattle.blk_ptr.specs.State.{is_cached, is_ghost}
 use Rattle.blk_ptr.proofs.Keys.{key_eq-same}
 use Rattle.vdev_io.specs.Calls.{Asked, DeviceCall, Gave, Write, answered}
@@ -26,7 +25,6 @@ use Rattle.turn_table.specs.Places.{Place}
 use Rattle.arc_table.specs.declared.feeds.Cleared.TheVariants as answer
 use Rattle.arc_table.specs.declared.picks.Picked.{Picked as Block}
 use Rattle.arc_table.specs.declared.view.Known.{Known}
-use Rattle.arc_table.specs.Booking.{digest_at}
 use Rattle.arc_table.specs.Both.{Does}
 use Rattle.arc_table.specs.Geometry.{shard_turn}
 use Rattle.arc_table.specs.Items.{Meanings}
@@ -44,7 +42,7 @@ use Rattle.l2_feed.specs.Acts.{Act, Absent, Cleared, DoesAct, DoesActs, Left, Pi
 use Rattle.l2_feed.specs.Asking.{AskRuns, AsksRun, BatchCalls, all_gave, puts_of}
 use Rattle.l2_feed.specs.Runs.{AreCleared, AreLeft, AreRuns, AreSet, bytes_of, most}
 use Rattle.l2_feed.specs.Shape.{AreFed, FedBatch, FedShard, IsUnwritten, IsWritten, WrittenCalls}
-use Rattle.l2_feed.specs.Told.{AreTold, IsAmongCalls, IsWrittenAt}
+use Rattle.l2_feed.specs.Told.{AreTold, IsAmongCalls}
 use Rattle.l2_feed.proofs.Keeping.{acts_split}
 use Rattle.l2_feed.proofs.Settling.{first_gone, first_own}
 use Rattle.l2_feed.proofs.Stepped.{Knows}
