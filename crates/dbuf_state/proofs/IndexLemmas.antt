@@ -1,7 +1,7 @@
 -- The ranks and the sizes of standings, as one is written or added, and what the least rank says of them.
 use Rattle.std.proofs.Common.{◌≡◌, ◌≢◌, ℕ, zero, suc, ◌+◌, ◌-◌, ◌*◌, ◌^◌, ◌<◌, ◌≤◌, Bool, true, false, not, ◌&&◌, ◌||◌, ◌⊎◌, IsTrue, List, [], ◌∷◌, ◌++◌, length, map, set, get_or, replicate, Option, Some, None, refl, sym, ap, subst, ◌∙◌, inl, inr, arith, get_or-set_same, get_or-set_other, nat_lt, nat_eq}
 use Rattle.std.proofs.lemmas.Bool.Decides.{nat_tests}
-use Rattle.std.proofs.lemmas.List.{get_or_past, get_or_push, length-append, length-map, map-append, map-set}
+use Rattle.std.proofs.lemmas.List.{get_or-map, get_or_past, get_or_push, length-append, length-map, map-append, map-set}
 use Rattle.std.specs.List.{AllByRecursion, list_all, list_any}
 use Rattle.dbuf_state.specs.declared.rank.Rank.{Rank}
 use Rattle.dbuf_state.specs.declared.standing.Standing.{Standing}
@@ -263,3 +263,7 @@ rewritten f row new ss after s x i same inside within ranked written added k =
     ap (λ (r : Row). rank_at r k) written
     ∙ (at-set row (map f ss) i x within (omega (arith, length-map ss f)) same k
     ∙ ap (λ (r : Row). rank_at r k) (ap (λ (z : Option Rank). set (map f ss) i z) ranked ∙ (sym (map-set f ss i s) ∙ ap (map f) (sym added))))
+
+-- what stands at a dbuf's place
+pub rank-of : (f : Standing → Option Rank) (row : Row) (ss : List Standing) (i : ℕ) (d : Standing) → ((k : ℕ) → rank_at row k ≡ rank_at (map f ss) k) → i < length ss → d ≡ get_or ss i d → rank_at row i ≡ f d
+rank-of f row ss i d same within read = same i ∙ (get_or-map f ss i d None within ∙ ap f (sym read))

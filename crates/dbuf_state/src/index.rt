@@ -1,7 +1,8 @@
 //! Which dbuf is to be evicted, and which kept block comes first.
-ghost use Rattle.std.specs.Prelude.{◌≡◌, ◌<◌, ◌≤◌, ◌-◌, ◌++◌, ◌∷◌, [], ◌^◌, true, false, not, IsTrue, MatchOption, OnOk, OnErr, length, slice_set};
+ghost use Rattle.std.specs.Prelude.{◌≡◌, ℕ, ◌<◌, ◌≤◌, ◌-◌, ◌++◌, ◌∷◌, [], ◌^◌, true, false, not, IsTrue, MatchOption, OnOk, OnErr, length, slice_set};
 ghost use Rattle.std.specs.List.{list_all};
 ghost use Rattle.dbuf_state.specs.Index.{kept_rank, use_rank};
+ghost use Rattle.dbuf_state.specs.Ranks.{rank_at};
 ghost use Rattle.dbuf_state.specs.Standings.{candidate_size, is_candidate, is_evictable, is_first_kept, is_over};
 
 use crate::oid::Oid;
@@ -59,6 +60,25 @@ fn kept_rank(s: Standing) -> Option<Rank>
         Some(Rank { order: 0, at: s.at })
     } else {
         None
+    }
+}
+
+// Whether a dbuf keeps a block as before.
+fn keeps_alike(before: Standing, s: Standing) -> bool
+    ensures { IsTrue result → kept_rank before ≡ kept_rank s }
+{
+    before.kept == s.kept && before.at == s.at
+}
+
+// Writes where a dbuf keeps a block, if that is not as before: most uses of a dbuf leave it.
+fn write_kept(first: &mut Ranks, place: usize, before: Standing, s: Standing)
+    requires within { place < length first.old }
+    requires there { rank_at first.old place ≡ kept_rank before }
+    ensures ranks { (k : ℕ) → rank_at first.new k ≡ rank_at (slice_set first.old place (kept_rank s)) k }
+    ensures len { length first.new ≡ length first.old }
+{
+    if !keeps_alike(before, s) {
+        first.set(place, kept_rank(s));
     }
 }
 
@@ -126,7 +146,7 @@ impl Index {
     {
         let before = self.standings[place];
         self.oldest.set(place, use_rank(s));
-        self.first.set(place, kept_rank(s));
+        write_kept(&mut self.first, place, before, s);
         self.bytes = self.bytes - u128::from(candidate_size(before))
             + u128::from(candidate_size(s));
         self.standings[place] = s;

@@ -322,14 +322,25 @@ pub(crate) fn end_line<P: Pool>(
     }
 }
 
-/// Puts replies behind others.
-pub(crate) fn append(replies: &mut Vec<Reply>, more: Vec<Reply>) -> Result<(), NoMemory>
+/// Puts replies behind others, one by one.
+fn push_all(replies: &mut Vec<Reply>, more: Vec<Reply>) -> Result<(), NoMemory>
     ensures { OnOk result (replies.new.items ≡ replies.old.items ++ more.items) }
 {
     for reply in more {
         replies.push(reply)?;
     }
     Ok(())
+}
+
+/// Puts replies behind others. Those of a first group, which may be all of a trace, are not copied.
+pub(crate) fn append(replies: &mut Vec<Reply>, more: Vec<Reply>) -> Result<(), NoMemory>
+    ensures { OnOk result (replies.new.items ≡ replies.old.items ++ more.items) }
+{
+    if replies.is_empty() {
+        *replies = more;
+        return Ok(());
+    }
+    push_all(replies, more)
 }
 
 /// Does the next group of a trace, whose lines before it are answered: its lines at once, and then the line that ends it. The lines end here where a fork of

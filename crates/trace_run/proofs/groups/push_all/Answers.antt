@@ -1,7 +1,7 @@
 use Rattle.std.proofs.Common.{◌≡◌, ◌++◌, ◌∷◌, [], List, sym, ap, ◌∙◌, append-nil, append_assoc, arith}
 use Rattle.arc_table.proofs.Ends.{nothing_left}
 use Rattle.trace_text.specs.declared.reply.Reply.{Reply}
-use Rattle.trace_run.proofs.groups.append.Goals as goal
+use Rattle.trace_run.proofs.groups.push_all.Goals as goal
 
 pub loop-reply-init : goal.loop-reply-init
 loop-reply-init c = ap (λ (l : List Reply). c.args.replies.now.items ++ l) c.into_iter-reply-iterator.ensures.into_iter_gives.0
