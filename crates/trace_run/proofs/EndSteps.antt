@@ -185,10 +185,10 @@ module _ (cache : Cache) (p : PartyPlace) (others : List PartyPlace) (stands : S
             let is : noted ++ noted_ends q.number 0 g.cells ≡ noted ++ noted_ends p.number 0 g.cells = ap (λ (n : ℕ). noted ++ noted_ends n 0 g.cells) have.number in
             subst (λ (l : List Noted). HasToldOthers g (did ++ acts_of_events ended.drops) l (left_alone r)) is record { cells = r_told.cells; kinds = r_told.kinds; entries = r_told.entries };
         ends = λ i range. (
-            front_of i q.own.seen,
-            ended.last i range (omega arith) (omega (arith, range)) ∙ ap (λ (n : ℕ). front_of i q.own.seen ++ end_entry n i) have.number,
-            all-joined i range others have.all,
-          );
+          front_of i q.own.seen,
+          ended.last i range (omega arith) (omega (arith, range)) ∙ ap (λ (n : ℕ). front_of i q.own.seen ++ end_entry n i) have.number,
+          all-joined i range others have.all,
+        );
         entries = all-entries others have.all apart;
         keeps = keeps-left ended.drops r then of free claims;
         same = λ before own rest shard. then.shards shard ∙ ap (λ (l : List Line). events_in l ++ events_there g shard ended.drops) (have.level before own rest shard);

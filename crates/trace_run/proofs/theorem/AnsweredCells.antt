@@ -69,9 +69,12 @@ entries-long h = length-map (map event_numbers h) line.Entry ∙ length-map h ev
 -- a history whose entries end with an End begins with as many events as stand before that
 unended : (n i : ℕ) (h : List CellEvent) (before : List Seen) → map line.Entry (map event_numbers h) ≡ before ++ end_entry n i → (front : List CellEvent) × (h ≡ front ++ End n ∷ []) × (before ≡ map line.Entry (map event_numbers front))
 unended n i h before is =
-    let e = ends-last h before (End n) is in
-    (e.0, e.1, (last-same before (map line.Entry (map event_numbers e.0)) (line.Entry (event_numbers (End n))) (line.Entry (event_numbers (End n)))
-        (sym is ∙ (ap (λ (l : List CellEvent). map line.Entry (map event_numbers l)) e.1 ∙ entries-two e.0 (End n ∷ [])))).0)
+    let e = ends-last h before (End n) is in (
+      e.0,
+      e.1,
+      (last-same before (map line.Entry (map event_numbers e.0)) (line.Entry (event_numbers (End n))) (line.Entry (event_numbers (End n)))
+          (sym is ∙ (ap (λ (l : List CellEvent). map line.Entry (map event_numbers l)) e.1 ∙ entries-two e.0 (End n ∷ [])))).0,
+    )
 
 -- a front of entries is the entries of as many events
 taken-front : (h : List CellEvent) (front rest : List Seen) → map line.Entry (map event_numbers h) ≡ front ++ rest → front ≡ map line.Entry (map event_numbers (take (length front) h))

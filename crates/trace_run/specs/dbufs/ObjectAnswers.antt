@@ -1,5 +1,5 @@
 -- How a run's answered lines on objects are answered, and what they did: by the cells of the closed cache.
-use Rattle.std.specs.Prelude.{◌≡◌, ◌<◌, ◌≤◌, ◌+◌, ℕ, true, List, ◌++◌, length, Option, Some, None, slice_get, take}
+use Rattle.std.specs.Prelude.{◌≡◌, ◌<◌, ◌≤◌, ◌+◌, ℕ, true, List, [], ◌∷◌, ◌++◌, length, Option, Some, None, slice_get, take}
 use Rattle.arc_core.specs.declared.config.Config.{Config}
 use Rattle.arc_table.specs.Fronts.{StartsWith}
 use Rattle.dbuf_cells.specs.Places.{cell_of}
