@@ -14,8 +14,8 @@ use Rattle.arc_table.specs.declared.view.Ledger.{Ledger}
 use Rattle.arc_table.specs.declared.view.Line.{Line}
 use Rattle.arc_table.specs.declared.view.Mine.{Mine}
 use Rattle.arc_table.specs.Cache.{Cache, IsPartyOf}
-use Rattle.arc_table.specs.Fronts.{front_of, list_at}
-use Rattle.arc_table.specs.Geometry.{parties_of}
+use Rattle.arc_table.specs.Fronts.{StartsWith, front_of, list_at}
+use Rattle.arc_table.specs.Geometry.{IsCell, parties_of}
 use Rattle.arc_table.specs.Seen.{AreEntriesSeen, AreSeen, HasAll, events_in, seen_of, turn_of}
 use Rattle.arc_table.specs.Telling.{opening_of}
 use Rattle.dbuf_cells.specs.Ending.{EndsFrom}
@@ -162,6 +162,10 @@ module _ (cache : Cache) (p : PartyPlace) (others : List PartyPlace) (stands : S
       all-entries os learned.1 each.1,
     )
 
+    all-joined : (i : ℕ) → IsCell g i → (os : List PartyPlace) → AllByRecursion (λ o. HasLearned g o q) os → AllByRecursion (λ o. StartsWith (front_of i q.own.seen) (front_of i o.own.seen)) os
+    all-joined i range [] learned = tt
+    all-joined i range (o ∷ os) learned = (learned.0.cells i range, all-joined i range os learned.1)
+
     module _ (numbers : List ℕ) (numbers_are : numbers ≡ map (λ o. o.number) others) (xs : List PartyPlace) (z : PartyPlace) (parts : PartAll numbers r xs z) where
       left : EndedCells cache p others (left_alone r) (map (parted_from r) others)
       left = record {
@@ -180,7 +184,11 @@ module _ (cache : Cache) (p : PartyPlace) (others : List PartyPlace) (stands : S
             let r_told = ended.told did noted q_told in
             let is : noted ++ noted_ends q.number 0 g.cells ≡ noted ++ noted_ends p.number 0 g.cells = ap (λ (n : ℕ). noted ++ noted_ends n 0 g.cells) have.number in
             subst (λ (l : List Noted). HasToldOthers g (did ++ acts_of_events ended.drops) l (left_alone r)) is record { cells = r_told.cells; kinds = r_told.kinds; entries = r_told.entries };
-        ends = λ i range. (front_of i q.own.seen, ended.last i range (omega arith) (omega (arith, range)) ∙ ap (λ (n : ℕ). front_of i q.own.seen ++ end_entry n i) have.number);
+        ends = λ i range. (
+          front_of i q.own.seen,
+          ended.last i range (omega arith) (omega (arith, range)) ∙ ap (λ (n : ℕ). front_of i q.own.seen ++ end_entry n i) have.number,
+          all-joined i range others have.all,
+        );
         entries = all-entries others have.all apart;
         keeps = keeps-left ended.drops r then of free claims;
         same = λ before own rest shard. then.shards shard ∙ ap (λ (l : List Line). events_in l ++ events_there g shard ended.drops) (have.level before own rest shard);

@@ -82,7 +82,7 @@ module _ (pool_len : ℕ) (image : List ℕ) (trace : Trace) where
   abbrev pub IsFound : (k n : ℕ) → Oid → Type 0
   IsFound k n at = IsPutBefore trace.ops k n at ⊎ ((ptr : Ptr) × (begins_with trace at ≡ Some ptr) × IsReadable pool_len image ptr)
 
-  -- The line at the place k has what it asks for, by the lines before it. A line `unpin` is not covered: where a caller's last one looks at a cell is told too weakly.
+  -- The line at the place k has what it asks for, by the lines before it. A line `unpin` is not covered.
   abbrev pub HasItsOwn : (k : ℕ) → Op → Type 0
   HasItsOwn k (ops.Read n t x window) = IfSome (slice_get trace.blocks x) (λ ptr. IsReadable pool_len image ptr × IsInside window ptr.key.size)
   HasItsOwn k (ops.Hold n t x) = IfSome (slice_get trace.blocks x) (IsReadable pool_len image)

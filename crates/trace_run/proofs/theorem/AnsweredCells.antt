@@ -23,13 +23,14 @@ use Rattle.dbuf_cells.specs.Turns.{OnHeap, PartyPlace, dbuf_meanings}
 use Rattle.dbuf_state.specs.Numbers.{event_numbers}
 use Rattle.dbuf_state.specs.Outline.{outline_after}
 use Rattle.dbuf_state.specs.declared.event.CellEvent.{CellEvent}
+use Rattle.dbuf_state.specs.declared.event.CellEvent.TheVariants.{End}
 use Rattle.dbuf_state.specs.declared.oid.Oid.{Oid}
 use Rattle.dbuf_state.specs.declared.state.Mapping.{Mapping}
 use Rattle.trace_text.specs.declared.op.Op.{Op}
 use Rattle.trace_text.specs.declared.op.Op.TheVariants as ops
 use Rattle.trace_text.specs.declared.reply.Reply.{Reply}
 use Rattle.trace_text.specs.declared.reply.Reply.TheVariants as replies
-use Rattle.trace_run.specs.dbufs.CellEnds.{done_by}
+use Rattle.trace_run.specs.dbufs.CellEnds.{done_by, end_entry}
 use Rattle.trace_run.specs.Deeds.{events_of_cell, lines_of_cell, noted_in}
 use Rattle.trace_run.specs.Lines.{is_of_caller, caller_of}
 use Rattle.trace_run.specs.dbufs.ObjectAnswers.{AreAnsweredByCells, IsAnsweredBy, LookedAt}
@@ -40,7 +41,8 @@ use Rattle.trace_run.specs.RunWork.{AllFit, FitsBy, lines_of_caller}
 use Rattle.trace_run.specs.callers.Looking.{HaveLooked, LooksCut}
 use Rattle.trace_run.specs.callers.Together.{ends_group}
 use Rattle.trace_run.specs.callers.WorkLines.{IsWorkOf, NotesLine, noted_of_work}
-use Rattle.trace_run.proofs.CellLemmas.{entries-front, lines-are, opened-so, opening-same}
+use Rattle.trace_run.proofs.CellLemmas.{ends-last, entries-front, lines-are, opened-so, opening-same}
+use Rattle.trace_run.proofs.callers.AfterEnds.{last-same}
 use Rattle.trace_run.proofs.callers.CallerActLemmas.{caller-is}
 use Rattle.trace_run.proofs.callers.FoundLemmas.{by-object}
 use Rattle.trace_run.proofs.callers.MeetLemmas.{starts-then}
@@ -63,6 +65,16 @@ entries-two a b = ap (map line.Entry) (map-append event_numbers a b) ∙ map-app
 
 entries-long : (h : List CellEvent) → length (map line.Entry (map event_numbers h)) ≡ length h
 entries-long h = length-map (map event_numbers h) line.Entry ∙ length-map h event_numbers
+
+-- a history whose entries end with an End begins with as many events as stand before that
+unended : (n i : ℕ) (h : List CellEvent) (before : List Seen) → map line.Entry (map event_numbers h) ≡ before ++ end_entry n i → (front : List CellEvent) × (h ≡ front ++ End n ∷ []) × (before ≡ map line.Entry (map event_numbers front))
+unended n i h before is =
+    let e = ends-last h before (End n) is in (
+      e.0,
+      e.1,
+      (last-same before (map line.Entry (map event_numbers e.0)) (line.Entry (event_numbers (End n))) (line.Entry (event_numbers (End n)))
+          (sym is ∙ (ap (λ (l : List CellEvent). map line.Entry (map event_numbers l)) e.1 ∙ entries-two e.0 (End n ∷ [])))).0,
+    )
 
 -- a front of entries is the entries of as many events
 taken-front : (h : List CellEvent) (front rest : List Seen) → map line.Entry (map event_numbers h) ≡ front ++ rest → front ≡ map line.Entry (map event_numbers (take (length front) h))
@@ -138,7 +150,9 @@ module _ (cache : Cache) (valid : IsConfig cache.config) (ps : List PartyPlace) 
 
   module _ (len : ℕ) (told : (k : ℕ) → Option (List ℕ)) (ls : List Line) (crew : List PartyPlace) (h : HaveLooked g len told ls crew) (fits : AllFit g ls)
       (did : (i : ℕ) (c : OnHeap) → get_elem? e.cells i ≡ some c → (m : ℕ) → m < g.callers → done_by m c.value.history ≡ events_of_cell i (noted_of_work (lines_of_caller m ls)))
-      (from : (n : ℕ) → n < g.callers → (p : PartyPlace) × (get_elem? crew n ≡ some p) × (w : Known OnHeap) × (get_elem? ends.views n ≡ some w) × EndsFrom g p.own.about.openings p.own.seen w) where
+      (from : (n : ℕ) → n < g.callers → (p : PartyPlace) × (get_elem? crew n ≡ some p) × (w : Known OnHeap) × (get_elem? ends.views n ≡ some w) × EndsFrom g p.own.about.openings p.own.seen w)
+      (behind : (i : ℕ) (c : OnHeap) → get_elem? e.cells i ≡ some c → (before : List Seen) × (map line.Entry (map event_numbers c.value.history) ≡ before ++ end_entry g.callers i)
+      × ((n : ℕ) (below : n < g.callers) → StartsWith before (front_of i (from n below).0.own.seen))) where
     -- how a line of n's looked
     abbrev Cut : (k n : ℕ) → n < g.callers → Oid → Line → Type 0
     Cut k n below at l = LooksCut g len told (from n below).0.own.about.openings (from n below).0.own.seen ls h.level (h.found n) k n at l
@@ -237,15 +251,18 @@ module _ (cache : Cache) (valid : IsConfig cache.config) (ps : List PartyPlace) 
         let began = opening-same a.cell.value.limit c.value.limit a.cell.value.opening c.value.opening
         (a.opening ∙ (ap (λ (os : List (List ℕ)). slice_index_or os i []) (sym f.4.about) ∙ sym (opened-so cache ps e ends i c (there-closed i range).1 n f.2 f.3))) in
         let notes : List CellEvent = events_of_cell i l.work.noted in
-        let whole = starts-then (map line.Entry (map event_numbers c.value.history)) (front_of i f.0.own.seen) _ (seen-there i range n below) a.front in
-        let r = entries-front c.value.history (a.cell.value.history ++ notes) whole.0 (whole.1 ∙ ap (λ (x : List Seen). x ++ whole.0) (sym (entries-two a.cell.value.history notes))) in
+        let ended = behind i c (there-closed i range).1 in
+        let before = unended g.callers i c.value.history ended.0 ended.1 in
+        let whole = starts-then ended.0 (front_of i f.0.own.seen) _ (ended.2 n below) a.front in
+        let r = entries-front before.0 (a.cell.value.history ++ notes) whole.0 (sym before.2 ∙ (whole.1 ∙ ap (λ (x : List Seen). x ++ whole.0) (sym (entries-two a.cell.value.history notes)))) in
         record {
           cell = c;
           there = slice-of e.cells i c (there-closed i range).1;
           front = a.cell.value.history;
-          rest = r.0;
+          rest = r.0 ++ End g.callers ∷ [];
           far = sym (entries-long a.cell.value.history) ∙ (ap (λ (s : List Seen). length s) cut.is ∙ sym far);
-          whole = r.1 ∙ append_assoc a.cell.value.history notes r.0;
+          whole = before.1 ∙ (ap (λ (es : List CellEvent). es ++ End g.callers ∷ []) r.1 ∙ (append_assoc (a.cell.value.history ++ notes) r.0 (End g.callers ∷ []) ∙ append_assoc a.cell.value.history notes (r.0 ++ End g.callers ∷ [])));
+          ended = (r.0, refl);
           mine = a.mine;
           since = λ m x v less lt at_x stops. all-since i range n below k l at refl cut m x v less at_x stops lt;
           until = λ m x v less lt at_x stops. all-until i range n below k l at refl cut m x v less at_x stops lt;

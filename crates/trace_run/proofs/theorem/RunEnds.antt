@@ -62,6 +62,7 @@ use Rattle.trace_run.specs.callers.WorkLines.{AnswersLines, AreLinesOf, calls_of
 use Rattle.trace_run.proofs.CellLemmas.{all-empty, get-of}
 use Rattle.trace_run.proofs.callers.AfterEnds.{crew-long, last-same, same-long}
 use Rattle.trace_run.proofs.callers.CallerActLemmas.{caller-is}
+use Rattle.trace_run.proofs.callers.EndedLemmas.{all-at}
 use Rattle.trace_run.proofs.callers.GroupCounts.{IsLineAct, acts-counted, reads_of_act}
 use Rattle.trace_run.proofs.callers.GroupRunLemmas.{come-wait, gave-at, gone-long, gone-stopped, lines-acts, lines-noted}
 use Rattle.trace_run.proofs.callers.MeetLemmas.{all-before, starts-then}
@@ -362,15 +363,18 @@ module _ (cache : Cache) (valid : IsConfig cache.config) (restored : List Restor
     run-kept = crew-kept cache h.parties h.closing c stopped closed h.ends trace config noted knows-last many (λ n o at i range. (caller-tells n o at).entries i range)
         (acts_of_syncs g blocks work) (noted_of_syncs work) (subst (HasToldOthers g (acts_of_syncs g blocks work) (noted_of_syncs work)) (sym same-parties.1) gave.fed.told) feeder-noted
 
+    -- the feeder has seen all that was done to cells
+    run-whole : (i : ℕ) (x : OnHeap) → get_elem? closed.cells i ≡ some x → map line.Entry (map event_numbers x.value.history) ≡ front_of i c.last.own.seen
+    run-whole = crew-seen cache h.parties h.closing c stopped closed h.ends trace config noted knows-last many (λ n o at i range. (caller-tells n o at).entries i range)
+        (acts_of_syncs g blocks work) (noted_of_syncs work) (subst (HasToldOthers g (acts_of_syncs g blocks work) (noted_of_syncs work)) (sym same-parties.1) gave.fed.told) feeder-noted
+
     -- where all parties had seen the same of cells between the groups, behind it stand their ends, and nothing else
     pub run-entries : (entries : ℕ → List Seen) → SeesEntries g entries crew.feeder → AllByRecursion (SeesEntries g entries) crew.parties.items → (i : ℕ) (x : OnHeap) → get_elem? closed.cells i ≡ some x
         → map line.Entry (map event_numbers x.value.history) ≡ entries i ++ end_entry g.callers i
     run-entries entries own rest i x at =
         let all = all-before (SeesEntries g entries) c.callers c.feeder (subst (AllByRecursion (SeesEntries g entries)) c.are (gave.same_cells entries own rest)) in
         let range : IsCell g i = subst (λ (k : ℕ). i < k) h.ends.cells (within closed.cells i x at) in
-        crew-seen cache h.parties h.closing c stopped closed h.ends trace config noted knows-last many (λ n o at i range. (caller-tells n o at).entries i range)
-        (acts_of_syncs g blocks work) (noted_of_syncs work) (subst (HasToldOthers g (acts_of_syncs g blocks work) (noted_of_syncs work)) (sym same-parties.1) gave.fed.told) feeder-noted i x at
-        ∙ (c.ended.same_cells entries all.1 all.0 i range ∙ ap (λ (n : ℕ). entries i ++ end_entry n i) (ap (λ (p : PartyPlace). p.number) same-parties.1 ∙ same-feeder-number))
+        run-whole i x at ∙ (c.ended.same_cells entries all.1 all.0 i range ∙ ap (λ (n : ℕ). entries i ++ end_entry n i) (ap (λ (p : PartyPlace). p.number) same-parties.1 ∙ same-feeder-number))
 
     emptied : (j : ℕ) (x : OnHeap) → get_elem? closed.cells j ≡ some x → dbuf_meanings.holds x ≡ []
     emptied = all-empty cache h.closing closed h.ends trace noted run-cells
@@ -476,14 +480,35 @@ module _ (cache : Cache) (valid : IsConfig cache.config) (restored : List Restor
         subst (λ (x : PartyPlace). EndsFrom g x.own.about.openings x.own.seen r.0.own) (party-is n below) (record { about = ap (λ (a : About). a.openings) all.about; fronts = all.fronts }),
       )
 
+  -- what goes on from all that the callers had seen of a cell once they had given back goes on from what each had seen of it between the groups
+  ended-behind : (i : ℕ) → IsCell g i → (before : List Seen) → AllByRecursion (λ o. StartsWith before (front_of i o.own.seen)) c.callers → (n : ℕ) → n < g.callers → StartsWith before (front_of i (party-at n).own.seen)
+  ended-behind i range before all n below =
+      let p : PartyPlace = (come.each n below).party in
+      let q = kept-cells crew.parties.items gave.callers n p gave.cells (come.each n below).at.party_at in
+      let there_is : get_elem? c.callers n ≡ some q.0 = ap (λ (l : List PartyPlace). get_elem? l n) same-parties.0 ∙ q.1 in
+      subst (λ (x : PartyPlace). StartsWith before (front_of i x.own.seen)) (party-is n below)
+      (starts-then before (front_of i q.0.own.seen) (front_of i p.own.seen) (all-at (λ o. StartsWith before (front_of i o.own.seen)) c.callers n q.0 all there_is) (q.2.fronts i range))
+
   -- All lines of callers on objects are answered by the closed cells.
   module _ (trace : Trace) (config : g ≡ trace.config) (knows : Knows (openings_of trace) crew.feeder) where
     pub run-objects : (told : (k : ℕ) → Option (List ℕ)) → HaveLooked g len told work.lines crew.parties.items → ((k : ℕ) (op : Op) → slice_get os k ≡ Some op → (n : ℕ) → caller_of op ≡ Some n → n < g.callers) → AreAnsweredByCells g len told closed.cells work.lines
     run-objects told looked below = all-by-cells cache valid h.closing closed h.ends len told work.lines crew.parties.items looked come.did.fits
         (λ i c at m less. ((run-cells trace config knows).each i c (slice-of closed.cells i c at)).did m (subst (λ (x : Config). m < parties_of x) config (omega (arith, less))) ∙ ap (events_of_cell i) (caller-noted m less))
         (λ n few. let p = caller-ends n few in (party-at n, subst (λ (x : PartyPlace). get_elem? crew.parties.items n ≡ some x) (party-is n few) (come.each n few).at.party_at, p.0, p.1, p.2))
+        behind-all
         (λ n l k at his. own-at work.lines (own-lines-of (λ n. n < g.callers) os rs work.lines come.did.lines below) k l at n (caller-is n l.op his))
       where
+        -- the feeder ended each cell behind all that callers had seen there
+        behind-all : (i : ℕ) (x : OnHeap) → get_elem? closed.cells i ≡ some x → (before : List Seen) × (map line.Entry (map event_numbers x.value.history) ≡ before ++ end_entry g.callers i)
+            × ((n : ℕ) (few : n < g.callers) → StartsWith before (front_of i (party-at n).own.seen))
+        behind-all i x at =
+            let range : IsCell g i = subst (λ (k : ℕ). i < k) h.ends.cells (within closed.cells i x at) in
+            let end = c.ended.ends i range in (
+              end.0,
+              run-whole trace config knows i x at ∙ (end.1 ∙ ap (λ (n : ℕ). end.0 ++ end_entry n i) (ap (λ (p : PartyPlace). p.number) same-parties.1 ∙ same-feeder-number)),
+              ended-behind i range end.0 end.2,
+            )
+
         own-at : (ls : List Line) → AllByRecursion (IsOfOne (λ n. n < g.callers)) ls → (k : ℕ) (l : Line) → slice_get ls k ≡ Some l → (n : ℕ) → caller_of l.op ≡ Some n → n < g.callers
         own-at [] all k l at n is = cc
         own-at (x ∷ ls) all zero l at n is = let same : x ≡ l = cc in all.0 n (ap (λ (y : Line). caller_of y.op) same ∙ is)

@@ -12,7 +12,7 @@ use Rattle.arc_table.specs.declared.view.Line.{Line}
 use Rattle.arc_table.specs.declared.view.Line.TheVariants as line
 use Rattle.arc_table.specs.Cache.{Cache}
 use Rattle.arc_table.specs.Ended.{Ended}
-use Rattle.arc_table.specs.Fronts.{front_of}
+use Rattle.arc_table.specs.Fronts.{StartsWith, front_of}
 use Rattle.arc_table.specs.Geometry.{IsCell, cell_number, parties_of}
 use Rattle.arc_table.specs.Seen.{AreEntriesSeen, AreSeen, HasAll, events_in, seen_of}
 use Rattle.arc_table.specs.Telling.{opening_of}
@@ -91,8 +91,8 @@ pub record EndedCells (cache : Cache) (p : PartyPlace) (olds : List PartyPlace) 
   pub numbers : AllByRecursion (λ e. parties_of cache.config ≤ number_of_event e) drops
   pub told : (did : List Act) (noted : List Noted) → HasToldOthers cache.config did noted p
       → HasToldOthers cache.config (did ++ acts_of_events drops) (noted ++ noted_ends p.number 0 cache.config.cells) q
-  -- of each cell it has seen the end as the last, and all that the others did there
-  pub ends : (i : ℕ) → IsCell cache.config i → (before : List Line) × (front_of i q.own.seen ≡ before ++ end_entry p.number i)
+  -- of each cell it has seen the end as the last, behind all that the others had seen there
+  pub ends : (i : ℕ) → IsCell cache.config i → (before : List Line) × (front_of i q.own.seen ≡ before ++ end_entry p.number i) × AllByRecursion (λ o. StartsWith before (front_of i o.own.seen)) olds
   pub entries : AllByRecursion (λ o. AreEntriesSeen cache.config o.number o.own.mine q.own.seen) olds
   pub keeps : KeepsCells cache.config p q
   pub same : (before : ℕ → List Line) → IsLevel cache.config before p → AllByRecursion (IsLevel cache.config before) olds

@@ -1,11 +1,12 @@
 -- How a run's answered lines on objects are answered, and what they did: by the cells of the closed cache.
-use Rattle.std.specs.Prelude.{◌≡◌, ◌<◌, ◌≤◌, ◌+◌, ℕ, true, List, ◌++◌, length, Option, Some, None, slice_get, take}
+use Rattle.std.specs.Prelude.{◌≡◌, ◌<◌, ◌≤◌, ◌+◌, ℕ, true, List, [], ◌∷◌, ◌++◌, length, Option, Some, None, slice_get, take}
 use Rattle.arc_core.specs.declared.config.Config.{Config}
 use Rattle.arc_table.specs.Fronts.{StartsWith}
 use Rattle.dbuf_cells.specs.Places.{cell_of}
 use Rattle.dbuf_cells.specs.Turns.{OnHeap}
 use Rattle.dbuf_state.specs.Outline.{outline_after}
 use Rattle.dbuf_state.specs.declared.event.CellEvent.{CellEvent}
+use Rattle.dbuf_state.specs.declared.event.CellEvent.TheVariants.{End}
 use Rattle.dbuf_state.specs.declared.oid.Oid.{Oid}
 use Rattle.trace_run.specs.dbufs.CellEnds.{done_by}
 use Rattle.trace_run.specs.Deeds.{events_of_cell}
@@ -28,6 +29,8 @@ pub record LookedAt (g : Config) (pool_len : ℕ) (told : (k : ℕ) → Option (
   -- so much of it the line found
   pub far : length front ≡ found k
   pub whole : cell.value.history ≡ front ++ (events_of_cell (cell_of g.cells at) l.work.noted ++ rest)
+  -- the feeder ended the cell behind both
+  pub ended : (before : List CellEvent) × (rest ≡ before ++ End g.callers ∷ [])
   pub mine : done_by n front ≡ events_of_cell (cell_of g.cells at) (noted_of_work (lines_of_caller n (take k lines)))
   -- it has what each caller's lines did there before a line that ends an earlier group, and nothing that any did behind one that ends this line's group or a later one
   pub since : (m x : ℕ) (e : Line) → m < g.callers → x < k → slice_get lines x ≡ Some e → ends_group e.op ≡ true → StartsWith (done_by m front) (events_of_cell (cell_of g.cells at) (noted_of_work (lines_of_caller m (take x lines))))
