@@ -2,6 +2,7 @@ pub mod EventLines
 pub mod HeldReads
 pub mod Mapped
 pub mod ObjectLines
+pub mod PinLines
 pub mod PutLines
 pub mod Refusals
 pub mod RunLines

@@ -35,6 +35,17 @@ abbrev pub is_drop_of : (n x : ℕ) → Op → Bool
 is_drop_of n x (ops.Drop m y) = m == n && y == x
 is_drop_of n x other = false
 
+-- ---- pins
+
+-- the line takes a pin of this block for this caller; and it takes one back
+abbrev pub is_pin_by : (n : ℕ) → Oid → Op → Bool
+is_pin_by n at (ops.Pin m t b) = m == n && oid_eq at b
+is_pin_by n at other = false
+
+abbrev pub is_unpin_by : (n : ℕ) → Oid → Op → Bool
+is_unpin_by n at (ops.Unpin m b) = m == n && oid_eq at b
+is_unpin_by n at other = false
+
 -- ---- blocks of objects
 
 -- the pointer with which a block of an object begins, where an `object` line gives it one
@@ -82,7 +93,7 @@ module _ (pool_len : ℕ) (image : List ℕ) (trace : Trace) where
   abbrev pub IsFound : (k n : ℕ) → Oid → Type 0
   IsFound k n at = IsPutBefore trace.ops k n at ⊎ ((ptr : Ptr) × (begins_with trace at ≡ Some ptr) × IsReadable pool_len image ptr)
 
-  -- The line at the place k has what it asks for, by the lines before it. A line `unpin` is not covered.
+  -- The line at the place k has what it asks for, by the lines before it.
   abbrev pub HasItsOwn : (k : ℕ) → Op → Type 0
   HasItsOwn k (ops.Read n t x window) = IfSome (slice_get trace.blocks x) (λ ptr. IsReadable pool_len image ptr × IsInside window ptr.key.size)
   HasItsOwn k (ops.Hold n t x) = IfSome (slice_get trace.blocks x) (IsReadable pool_len image)
@@ -90,7 +101,7 @@ module _ (pool_len : ℕ) (image : List ℕ) (trace : Trace) where
   HasItsOwn k (ops.Get n t at window) = IsFound k n at × EndsInAll trace at (window.at + window.len)
   HasItsOwn k (ops.Patch n t at from bytes) = IsFound k n at × EndsInAll trace at (from + length bytes)
   HasItsOwn k (ops.Pin n t at) = IsFound k n at
-  HasItsOwn k (ops.Unpin n at) = ⊥
+  HasItsOwn k (ops.Unpin n at) = count_by (is_unpin_by n at) (take k trace.ops) < count_by (is_pin_by n at) (take k trace.ops)
   HasItsOwn k (ops.Put n t at size fill) = Unit {0}
   HasItsOwn k ops.Feed = Unit {0}
   HasItsOwn k (ops.Txg t) = Unit {0}

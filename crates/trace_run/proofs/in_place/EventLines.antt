@@ -1,7 +1,8 @@
 -- Each event of a closed cell comes from a line of the trace: a whole write from one that says so, and where no line is a sync, nothing was synced.
 use Rattle.std.proofs.Common.{◌≡◌, ℕ, zero, suc, ◌<◌, ◌==◌, Bool, true, false, List, [], ◌∷◌, ◌++◌, map, Option, Some, None, refl, sym, ap, ◌∙◌, subst, inl, inr, eq-eqb}
 use Rattle.std.specs.Prelude.{filter, slice_get}
-use Rattle.std.specs.List.{AllByRecursion}
+use Rattle.std.specs.List.{AllByRecursion, list_all, list_any}
+use Rattle.std.proofs.lemmas.Bool.{eqb-true}
 use Rattle.arc_lists.proofs.Tables.{cases_true}
 use Rattle.arc_core.specs.declared.config.Config.{Config}
 use Rattle.arc_table.specs.Geometry.{parties_of}
@@ -24,20 +25,20 @@ use Rattle.trace_run.specs.dbufs.Objects.{Brought, Line, Loaded, NotesOwn, Nothi
 use Rattle.trace_run.proofs.one_caller.TellLemmas.{all-append}
 use Rattle.trace_run.proofs.in_place.Mapped.{is_synced}
 
--- a whole write is a line's
-abbrev pub IsPutOf : List Op → CellEvent → Type 0
-IsPutOf lines (events.Put n b size fill) = (k : ℕ) × (t : ℕ) × (slice_get lines k ≡ Some (ops.Put n t b size fill))
-IsPutOf lines (events.Get n b) = Unit {0}
-IsPutOf lines (events.Patch n b from bytes) = Unit {0}
-IsPutOf lines (events.Pin n b) = Unit {0}
-IsPutOf lines (events.Unpin n b) = Unit {0}
-IsPutOf lines (events.Load n b) = Unit {0}
-IsPutOf lines (events.Evict n b) = Unit {0}
-IsPutOf lines (events.Synced n b ptr) = Unit {0}
-IsPutOf lines (events.End n) = Unit {0}
+-- a whole write is a line's, and an End the feeder's, which is the number behind so many callers
+abbrev pub IsPutOf : (callers : ℕ) → List Op → CellEvent → Type 0
+IsPutOf callers lines (events.Put n b size fill) = (k : ℕ) × (t : ℕ) × (slice_get lines k ≡ Some (ops.Put n t b size fill))
+IsPutOf callers lines (events.Get n b) = Unit {0}
+IsPutOf callers lines (events.Patch n b from bytes) = Unit {0}
+IsPutOf callers lines (events.Pin n b) = Unit {0}
+IsPutOf callers lines (events.Unpin n b) = Unit {0}
+IsPutOf callers lines (events.Load n b) = Unit {0}
+IsPutOf callers lines (events.Evict n b) = Unit {0}
+IsPutOf callers lines (events.Synced n b ptr) = Unit {0}
+IsPutOf callers lines (events.End n) = n ≡ callers
 
-abbrev pub IsOfLines : List Op → CellEvent → Type 0
-IsOfLines lines e = (is_synced e ≡ false) × IsPutOf lines e
+abbrev pub IsOfLines : (callers : ℕ) → List Op → CellEvent → Type 0
+IsOfLines callers lines e = (is_synced e ≡ false) × IsPutOf callers lines e
 
 all-filter : {X : Type 0} (P : X → Type 0) (p : X → Bool) (xs : List X) → AllByRecursion P xs → AllByRecursion P (filter p xs)
 all-filter P p [] all = tt
@@ -50,15 +51,15 @@ pub all-front : {X : Type 0} (P : X → Type 0) (xs ys : List X) → AllByRecurs
 all-front P [] ys all = tt
 all-front P (x ∷ xs) ys all = (all.0, all-front P xs ys all.1)
 
-module _ (lines : List Op) where
+module _ (callers : ℕ) (lines : List Op) where
   abbrev OfNote : Noted → Type 0
-  OfNote note = IsOfLines lines note.event
+  OfNote note = IsOfLines callers lines note.event
 
-  noted-all : (i : ℕ) (es : List CellEvent) → AllByRecursion (IsOfLines lines) es → AllByRecursion OfNote (noted_in i es)
+  noted-all : (i : ℕ) (es : List CellEvent) → AllByRecursion (IsOfLines callers lines) es → AllByRecursion OfNote (noted_in i es)
   noted-all i [] all = tt
   noted-all i (e ∷ es) all = (all.0, noted-all i es all.1)
 
-  cell-all : (i : ℕ) (ns : List Noted) → AllByRecursion OfNote ns → AllByRecursion (IsOfLines lines) (events_of_cell i ns)
+  cell-all : (i : ℕ) (ns : List Noted) → AllByRecursion OfNote ns → AllByRecursion (IsOfLines callers lines) (events_of_cell i ns)
   cell-all i [] all = tt
   cell-all i (n ∷ ns) all = elim (cases_true (n.cell == i)) [
     | inl here ↦ rw here (all.0, cell-all i ns all.1)
@@ -74,20 +75,20 @@ module _ (lines : List Op) where
 
   -- ---- a line
 
-  loads-all : (n : ℕ) (at : Oid) (brought : Brought) → AllByRecursion (IsOfLines lines) (loads_of n at brought)
+  loads-all : (n : ℕ) (at : Oid) (brought : Brought) → AllByRecursion (IsOfLines callers lines) (loads_of n at brought)
   loads-all n at Nothing = tt
   loads-all n at (Loaded ptr from) = ((refl, tt), tt)
   loads-all n at (Refused ptr) = tt
 
-  evicts-all : (n : ℕ) (xs : List Oid) → AllByRecursion (IsOfLines lines) (map (events.Evict n) xs)
+  evicts-all : (n : ℕ) (xs : List Oid) → AllByRecursion (IsOfLines callers lines) (map (events.Evict n) xs)
   evicts-all n [] = tt
   evicts-all n (x ∷ xs) = ((refl, tt), evicts-all n xs)
 
-  own-all : (g : Config) (n : ℕ) (own : OwnEvent) (work : Work) → IsOfLines lines own.event → NotesOwn g n own work → AllByRecursion OfNote work.noted
+  own-all : (g : Config) (n : ℕ) (own : OwnEvent) (work : Work) → IsOfLines callers lines own.event → NotesOwn g n own work → AllByRecursion OfNote work.noted
   own-all g n own work is notes =
-      subst (AllByRecursion OfNote) (sym notes.noted) (noted-all _ _ (all-append (IsOfLines lines) (loads_of n own.at work.brought) (own.event ∷ map (events.Evict n) notes.evictions) (loads-all n own.at work.brought) (is, evicts-all n notes.evictions)))
+      subst (AllByRecursion OfNote) (sym notes.noted) (noted-all _ _ (all-append (IsOfLines callers lines) (loads_of n own.at work.brought) (own.event ∷ map (events.Evict n) notes.evictions) (loads-all n own.at work.brought) (is, evicts-all n notes.evictions)))
 
-  reply-all : (g : Config) (n : ℕ) (own : OwnEvent) (work : Work) (reply : Reply) → IsOfLines lines own.event → NotesLine g n own work reply → AllByRecursion OfNote work.noted
+  reply-all : (g : Config) (n : ℕ) (own : OwnEvent) (work : Work) (reply : Reply) → IsOfLines callers lines own.event → NotesLine g n own work reply → AllByRecursion OfNote work.noted
   reply-all g n own work (replies.Got size shown) is notes = own-all g n own work is notes
   reply-all g n own work replies.Done is notes = own-all g n own work is notes
   reply-all g n own work (replies.Refused refusal) is notes = subst (AllByRecursion OfNote) (sym notes.0) tt
@@ -148,39 +149,39 @@ module _ (lines : List Op) where
 
   -- ---- a cell
 
-  ends-all : (n i count : ℕ) → AllByRecursion OfNote (noted_ends n i count)
-  ends-all n i zero = tt
-  ends-all n i (suc count) = ((refl, tt), ends-all n (suc i) count)
+  ends-all : (n i count : ℕ) → n ≡ callers → AllByRecursion OfNote (noted_ends n i count)
+  ends-all n i zero is = tt
+  ends-all n i (suc count) is = ((refl, is), ends-all n (suc i) count is)
 
   -- what is noted of a party
-  party-all : (g : Config) (work : RunWork) → work.stopped ≡ no_work → AllByRecursion OfLine work.lines → (n : ℕ) → AllByRecursion OfNote (noted_by g work n)
-  party-all g work still all n = elim (cases_true (n == g.callers)) [
+  party-all : (g : Config) (work : RunWork) → g.callers ≡ callers → work.stopped ≡ no_work → AllByRecursion OfLine work.lines → (n : ℕ) → AllByRecursion OfNote (noted_by g work n)
+  party-all g work so_many still all n = elim (cases_true (n == g.callers)) [
     | inl feeder ↦ rw feeder (all-append OfNote (noted_of_syncs work) (noted_ends n 0 g.cells)
-        (all-append OfNote (noted_of_work (lines_of_feeder work.lines)) work.stopped.noted (work-all (lines_of_feeder work.lines) (all-filter OfLine _ work.lines all)) (none-all work.stopped still)) (ends-all n 0 g.cells))
+        (all-append OfNote (noted_of_work (lines_of_feeder work.lines)) work.stopped.noted (work-all (lines_of_feeder work.lines) (all-filter OfLine _ work.lines all)) (none-all work.stopped still)) (ends-all n 0 g.cells (eqb-true n g.callers feeder ∙ so_many)))
     | inr caller ↦ rw caller (work-all (lines_of_caller n work.lines) (all-filter OfLine _ work.lines all))
   ]
 
   -- events of which each number's are such
-  rest-all : (n : ℕ) (e : CellEvent) (es : List CellEvent) → AllByRecursion (IsOfLines lines) (done_by n (e ∷ es)) → AllByRecursion (IsOfLines lines) (done_by n es)
+  rest-all : (n : ℕ) (e : CellEvent) (es : List CellEvent) → AllByRecursion (IsOfLines callers lines) (done_by n (e ∷ es)) → AllByRecursion (IsOfLines callers lines) (done_by n es)
   rest-all n e es all = elim (cases_true (number_of e == n)) [
-    | inl mine ↦ (let both : AllByRecursion (IsOfLines lines) (e ∷ done_by n es) = rw mine at all in both.1)
-    | inr other ↦ (let same : AllByRecursion (IsOfLines lines) (done_by n es) = rw other at all in same)
+    | inl mine ↦ (let both : AllByRecursion (IsOfLines callers lines) (e ∷ done_by n es) = rw mine at all in both.1)
+    | inr other ↦ (let same : AllByRecursion (IsOfLines callers lines) (done_by n es) = rw other at all in same)
   ]
 
-  first-of : (e : CellEvent) (es : List CellEvent) → AllByRecursion (IsOfLines lines) (done_by (number_of e) (e ∷ es)) → IsOfLines lines e
+  first-of : (e : CellEvent) (es : List CellEvent) → AllByRecursion (IsOfLines callers lines) (done_by (number_of e) (e ∷ es)) → IsOfLines callers lines e
   first-of e es all =
       let same : (number_of e == number_of e) ≡ true = eq-eqb (number_of e) (number_of e) refl in
-      let both : AllByRecursion (IsOfLines lines) (e ∷ done_by (number_of e) es) = rw same at all in
+      let both : AllByRecursion (IsOfLines callers lines) (e ∷ done_by (number_of e) es) = rw same at all in
       both.0
 
-  numbers-all : (parties : ℕ) (h : List CellEvent) → AllByRecursion (λ e. number_of e < parties) h → ((n : ℕ) → n < parties → AllByRecursion (IsOfLines lines) (done_by n h)) → AllByRecursion (IsOfLines lines) h
+  numbers-all : (parties : ℕ) (h : List CellEvent) → AllByRecursion (λ e. number_of e < parties) h → ((n : ℕ) → n < parties → AllByRecursion (IsOfLines callers lines) (done_by n h)) → AllByRecursion (IsOfLines callers lines) h
   numbers-all parties [] below his = tt
   numbers-all parties (e ∷ es) below his = (first-of e es (his (number_of e) below.0), numbers-all parties es below.1 (λ n lt. rest-all n e es (his n lt)))
 
 -- each event of a closed cell
 pub history-all : (trace : Trace) (os : List Op) (rs : List Reply) (work : RunWork) → os ≡ trace.ops → AreLinesOf os rs work.lines → AllFit trace.config work.lines → work.stopped ≡ no_work
-    → ((k : ℕ) (op : Op) → slice_get trace.ops k ≡ Some op → is_sync op ≡ false) → (i : ℕ) (cell : OnHeap) → IsCellOf trace (noted_by trace.config work) i cell → AllByRecursion (IsOfLines trace.ops) cell.value.history
+    → ((k : ℕ) (op : Op) → slice_get trace.ops k ≡ Some op → is_sync op ≡ false) → (i : ℕ) (cell : OnHeap) → IsCellOf trace (noted_by trace.config work) i cell → AllByRecursion (IsOfLines trace.config.callers trace.ops) cell.value.history
 history-all trace os rs work whole are fits still un i cell of =
-    let all = lines-all trace.ops trace.config os rs work.lines are fits (λ k op at. let there = ap (λ (l : List Op). slice_get l k) (sym whole) ∙ at in ((k, there), un k op there)) in
-    numbers-all trace.ops (parties_of trace.config) cell.value.history of.parties
-    (λ n lt. subst (AllByRecursion (IsOfLines trace.ops)) (sym (of.did n lt)) (cell-all trace.ops i (noted_by trace.config work n) (party-all trace.ops trace.config work still all n)))
+    let all = lines-all trace.config.callers trace.ops trace.config os rs work.lines are fits (λ k op at. let there = ap (λ (l : List Op). slice_get l k) (sym whole) ∙ at in ((k, there), un k op there)) in
+    numbers-all trace.config.callers trace.ops (parties_of trace.config) cell.value.history of.parties
+    (λ n lt. subst (AllByRecursion (IsOfLines trace.config.callers trace.ops)) (sym (of.did n lt)) (cell-all trace.config.callers trace.ops i (noted_by trace.config work n) (party-all trace.config.callers trace.ops trace.config work refl still all n)))

@@ -73,7 +73,7 @@ module _ (len : ℕ) (image : List ℕ) (trace : Trace) (at : Oid) (es : List Ce
   abbrev pub IsThere : Type 0
   IsThere = (list_any (is_put_of at) es ≡ true) ⊎ ((ptr : Ptr) × (begins_with trace at ≡ Some ptr) × IsReadable len image ptr)
 
-  module _ (limit : ℕ) (opening : List Mapping) (opens : opening ≡ opening_map trace (cell_of trace.config.cells at)) (all : AllByRecursion (IsOfLines trace.ops) es) (there : IsThere) where
+  module _ (limit : ℕ) (opening : List Mapping) (opens : opening ≡ opening_map trace (cell_of trace.config.cells at)) (all : AllByRecursion (IsOfLines trace.config.callers trace.ops) es) (there : IsThere) where
     first : Option Mapped
     first = option_map (λ (p : Ptr). Clean p) (begins_with trace at)
 
@@ -82,7 +82,7 @@ module _ (len : ℕ) (image : List ℕ) (trace : Trace) (at : Oid) (es : List Ce
     told = mapped-told at limit opening es ∙ ap (λ (ms : List Mapping). mapped_through at (opened_mapped at ms) es) opens
 
     unsynced : AreUnsynced es
-    unsynced = all-map (IsOfLines trace.ops) (λ e. is_synced e ≡ false) es (λ e is. is.0) all
+    unsynced = all-map (IsOfLines trace.config.callers trace.ops) (λ e. is_synced e ≡ false) es (λ e is. is.0) all
 
     first-is : (ptr : Ptr) → begins_with trace at ≡ Some ptr → first ≡ Some (Clean ptr)
     unfolding first
@@ -111,7 +111,7 @@ module _ (len : ℕ) (image : List ℕ) (trace : Trace) (at : Oid) (es : List Ce
     ]
 
     -- what ends inside every size ends inside the block
-    put-ends : (last : ℕ) → EndsInAll trace at last → (e : CellEvent) → IsOfLines trace.ops e → EndsInPut at last e
+    put-ends : (last : ℕ) → EndsInAll trace at last → (e : CellEvent) → IsOfLines trace.config.callers trace.ops e → EndsInPut at last e
     put-ends last ends (events.Put n b size fill) is = λ same.
         let line : slice_get trace.ops is.1.0 ≡ Some (ops.Put n is.1.1 at size fill) = subst (λ (x : Oid). slice_get trace.ops is.1.0 ≡ Some (ops.Put n is.1.1 x size fill)) (sym (oid-is at b same)) is.1.2 in
         ends.puts is.1.0 n is.1.1 size fill line
@@ -131,7 +131,7 @@ module _ (len : ℕ) (image : List ℕ) (trace : Trace) (at : Oid) (es : List Ce
     pub inside : (last : ℕ) → EndsInAll trace at last → (m : Mapped) → mapped_at at (outline_after limit opening es) ≡ Some m → last ≤ mapped_size m
     unfolding first
     inside last ends m is =
-        let through = through-in at last first es unsynced (all-map (IsOfLines trace.ops) (EndsInPut at last) es (put-ends last ends) all) (opened-ends last (begins_with trace at) ends.opened) in
+        let through = through-in at last first es unsynced (all-map (IsOfLines trace.config.callers trace.ops) (EndsInPut at last) es (put-ends last ends) all) (opened-ends last (begins_with trace at) ends.opened) in
         subst (λ (o : Option Mapped). IfSome o (λ x. last ≤ mapped_size x)) (sym told ∙ is) through
 
     -- ---- so it is not refused

@@ -1,8 +1,9 @@
 -- Where nothing is out of place and no fault of the pool rose, a run does all lines, and refuses none.
-use Rattle.std.proofs.Common.{◌≡◌, ℕ, zero, suc, ◌+◌, ◌^◌, ◌<◌, ◌≤◌, ◌==◌, cond, Bool, true, false, List, [], ◌∷◌, ◌++◌, length, take, Option, Some, None, IfSome, refl, sym, ap, ◌∙◌, subst, inl, inr, arith, eq-eqb, append-nil}
+use Rattle.std.proofs.Common.{◌≡◌, ℕ, zero, suc, ◌+◌, ◌^◌, ◌<◌, ◌≤◌, ◌==◌, cond, Bool, true, false, List, [], ◌∷◌, ◌++◌, length, take, Option, Some, None, IfSome, refl, sym, ap, ◌∙◌, subst, inl, inr, arith, eq-eqb, append-nil, append_assoc, nat_lt}
 use Rattle.std.specs.Prelude.{count_by, slice_get}
 use Rattle.std.specs.List.{AllByRecursion, list_any}
 use Rattle.std.proofs.lemmas.Bool.{cases_lt}
+use Rattle.std.proofs.lemmas.Bool.Decides.{nat_tests}
 use Rattle.std.proofs.lemmas.Option.{slice_get_within}
 use Rattle.std.proofs.lemmas.List.Sums.{sum_by-cons}
 use mathlib.Core.Logic.{dite}
@@ -10,7 +11,13 @@ use native.Mathlib.Decide.{ℕ_discrete}
 use Rattle.arc_lists.proofs.Tables.{cases_true}
 use Rattle.blk_ptr.specs.declared.ptr.Ptr.{Ptr}
 use Rattle.arc_table.specs.Ended.{Ended}
+use Rattle.dbuf_state.specs.History.{Leads}
+use Rattle.dbuf_state.specs.Objects.{PlainCell, opening_cell}
+use Rattle.dbuf_state.specs.Outline.{ArePinsCounted, has_pin_at, is_pin_of, is_unpin_of, outline_after, pins_at}
+use Rattle.dbuf_state.specs.declared.event.CellEvent.{CellEvent}
+use Rattle.dbuf_state.specs.declared.event.CellEvent.TheVariants.{End}
 use Rattle.dbuf_state.specs.declared.oid.Oid.{Oid}
+use Rattle.dbuf_state.proofs.PinLemmas.{pins-are-counted}
 use Rattle.dbuf_state.specs.declared.window.Window.{Window}
 use Rattle.dbuf_cells.specs.Laws.{is_put_of}
 use Rattle.dbuf_cells.specs.Places.{cell_of}
@@ -18,6 +25,7 @@ use Rattle.dbuf_cells.specs.Turns.{OnHeap}
 use Rattle.trace_text.specs.declared.op.Op.{Op}
 use Rattle.trace_text.specs.declared.op.Op.TheVariants as ops
 use Rattle.trace_text.specs.declared.reply.Refusal.{Refusal}
+use Rattle.trace_text.specs.declared.reply.Refusal.TheVariants as refusals
 use Rattle.trace_text.specs.declared.reply.Reply.{Reply}
 use Rattle.trace_text.specs.declared.reply.Reply.TheVariants as replies
 use Rattle.trace_text.specs.declared.report.Report.{Report}
@@ -28,21 +36,24 @@ use Rattle.vdev_io.specs.Faults.{Rose}
 use Rattle.trace_run.specs.declared.ran.Ending.{Ending}
 use Rattle.trace_run.specs.declared.ran.Ending.TheVariants.{Fork, Full, Sync, Whole}
 use Rattle.trace_run.specs.Answers.{AnswersAll, AnswersFeed, IsInside, dropped_reads, is_pool_fault, is_refusal, kept_reads}
-use Rattle.trace_run.specs.Deeds.{events_of_cell}
-use Rattle.trace_run.specs.InPlace.{EndsInAll, IsFound, IsInPlace, IsPutBefore, IsReadable, RefusesNothing, is_drop_of, is_hold_of}
-use Rattle.trace_run.specs.Lines.{caller_of, has_further, has_sync}
+use Rattle.trace_run.specs.Deeds.{Noted, events_of_cell}
+use Rattle.trace_run.specs.InPlace.{EndsInAll, IsFound, IsInPlace, IsPutBefore, IsReadable, RefusesNothing, is_drop_of, is_hold_of, is_pin_by, is_unpin_by}
+use Rattle.trace_run.specs.Lines.{caller_of, has_further, has_sync, is_of_caller}
 use Rattle.trace_run.specs.Outcome.{HasRun}
-use Rattle.trace_run.specs.RunWork.{FitsBy, RunWork, lines_of_caller, noted_by}
+use Rattle.trace_run.specs.RunWork.{FitsBy, RunWork, lines_of_caller, noted_by, noted_of_syncs}
 use Rattle.trace_run.specs.callers.Together.{StopsSo, faults_told}
-use Rattle.trace_run.specs.callers.WorkLines.{HasFront, noted_of_work}
-use Rattle.trace_run.specs.dbufs.CellEnds.{IsCellOf}
+use Rattle.trace_run.specs.callers.WorkLines.{HasFront, IsWorkOf, noted_of_work}
+use Rattle.trace_run.specs.dbufs.CellEnds.{IsCellOf, done_by, noted_ends}
 use Rattle.trace_run.specs.dbufs.ObjectAnswers.{LookedAt}
-use Rattle.trace_run.specs.dbufs.ObjectReplies.{RefusesAt, RefusesWhole}
-use Rattle.trace_run.specs.dbufs.Objects.{Line, Work, no_work}
+use Rattle.trace_run.specs.dbufs.ObjectReplies.{RefusesAt, RefusesPin, RefusesWhole}
+use Rattle.trace_run.specs.dbufs.Objects.{Line, Work, no_work, ops_of}
+use Rattle.trace_run.proofs.CellLemmas.{ends-one}
 use Rattle.trace_run.proofs.TraceLines.{all-callers, none-at}
+use Rattle.trace_run.proofs.callers.CallerActLemmas.{caller-is}
 use Rattle.trace_run.proofs.in_place.EventLines.{IsOfLines, all-front, history-all}
 use Rattle.trace_run.proofs.in_place.HeldReads.{IsKeptBy, Pairs, drop-fine, dropped-few, kept-counted, pairs-of, pairs-take}
 use Rattle.trace_run.proofs.in_place.ObjectLines.{IsThere, done-fine, inside, is-done, refuse-at, refuse-whole, window-fine}
+use Rattle.trace_run.proofs.in_place.PinLines.{all-taken, feeder-lines-none, feeder-none, leads-front, none-ended, op-at, ops-taken, pins-done, pins-line, pins-more, unpins-done, unpins-few, unpins-line}
 use Rattle.trace_run.proofs.in_place.PutLines.{LineAt, among-lines, any-done, line-at, put-noted}
 use Rattle.trace_run.proofs.in_place.Refusals.{hold-kept, is-kept, read-fine}
 
@@ -80,6 +91,9 @@ there-op : (os : List Op) (k : ℕ) → k < length os → (op : Op) × (slice_ge
 there-op [] k less = absurd (omega (arith, less))
 there-op (o ∷ os) zero less = (o, refl)
 there-op (o ∷ os) (suc k) less = there-op os k (omega (arith, less))
+
+less-test : (m n : ℕ) → m < n → nat_lt m n ≡ true
+less-test m n less = grind (arith, nat_tests)
 
 -- ---- faults
 
@@ -161,9 +175,9 @@ module _ {P D : Type 0} (pool : Ghosts P) (device : Devices D) (before after : P
     is-cell : IsCellOf trace (noted_by trace.config r.work) (cell_of trace.config.cells at) looked.cell
     is-cell = r.cells.each (cell_of trace.config.cells at) looked.cell looked.there
 
-    all-events : AllByRecursion (IsOfLines trace.ops) looked.front
-    all-events = all-front (IsOfLines trace.ops) looked.front (events_of_cell (cell_of trace.config.cells at) l.work.noted ++ looked.rest)
-        (subst (AllByRecursion (IsOfLines trace.ops)) looked.whole
+    all-events : AllByRecursion (IsOfLines trace.config.callers trace.ops) looked.front
+    all-events = all-front (IsOfLines trace.config.callers trace.ops) looked.front (events_of_cell (cell_of trace.config.cells at) l.work.noted ++ looked.rest)
+        (subst (AllByRecursion (IsOfLines trace.config.callers trace.ops)) looked.whole
         (history-all trace trace.ops report.replies r.work refl r.did.lines r.did.fits still (λ j op there. none-at trace.ops j op in_place.unsynced there) (cell_of trace.config.cells at) looked.cell is-cell))
 
     -- an earlier whole write was done
@@ -237,6 +251,82 @@ module _ {P D : Type 0} (pool : Ghosts P) (device : Devices D) (before after : P
       (RefusesWhole len (r.run.told k) looked.cell.value.limit looked.cell.value.opening looked.front work.brought at) reply
       (refused-whole k n at (record { op = ops.Pin n t at; reply = reply; work = work }) looked own) looked.answer (fine k reply told)
 
+  -- ---- a line that takes a pin back
+
+  fits-at : (n j : ℕ) (l : Line) → slice_get lines j ≡ Some l → is_of_caller n l.op ≡ true → IsWorkOf trace.config n l
+  fits-at n j l there his = subst (λ (c : Option ℕ). FitsBy trace.config c l) (caller-is n l.op his) (all-at (λ (x : Line). FitsBy trace.config (caller_of x.op) x) lines r.did.fits j l there)
+
+  pin-counted : (n : ℕ) (at : Oid) (j : ℕ) (l : Line) → slice_get lines j ≡ Some l → is_of_caller n l.op ≡ true
+      → cond {A = ℕ} (is_pin_by n at l.op) 1 0 ≤ count_by (is_pin_of n at) (events_of_cell (cell_of trace.config.cells at) l.work.noted)
+  pin-counted n at j l there his =
+      let line = op-at trace.ops report.replies lines r.did.lines j l there in
+      pins-line trace.config n at l.op l.reply l.work (fits-at n j l there his)
+      (λ m t b is. pin-line j m t b l.reply l.work (line.0 ∙ ap (λ (o : Op). Some o) is) line.1 (there ∙ (λ i. Some (record { op = is i; reply = l.reply; work = l.work }))))
+
+  module _ (k n : ℕ) (at : Oid) (l : Line) (looked : Looks k n at l) where
+    -- the feeder did nothing in the front
+    front-none : done_by trace.config.callers looked.front ≡ []
+    front-none =
+        let callers : ℕ = trace.config.callers in
+        let i : ℕ = cell_of trace.config.cells at in
+        let notes : List CellEvent = events_of_cell i l.work.noted in
+        let cell = is-cell k n at l looked in
+        let here : (callers == callers) ≡ true = eq-eqb callers callers refl in
+        let lines_none = feeder-lines-none trace.config trace.ops report.replies lines r.did.lines r.did.fits in_place.unsynced in
+        let syncs : noted_of_syncs r.work ≡ [] = λ z. lines_none z ++ (still z).noted in
+        let by : noted_by trace.config r.work callers ≡ noted_ends callers 0 trace.config.cells = rw here (ap (λ (ns : List Noted). ns ++ noted_ends callers 0 trace.config.cells) syncs) in
+        let some_cells : i < trace.config.cells = subst (λ (x : ℕ). i < x) r.cells.count (slice_get_within closed.cells i looked.cell looked.there) in
+        let did = cell.did callers (omega arith) ∙ (ap (events_of_cell i) by ∙ ends-one callers i 0 trace.config.cells (omega arith) (omega (arith, some_cells))) in
+        feeder-none callers looked.cell.value.history looked.front (notes ++ looked.ended.0)
+        (looked.whole ∙ (ap (λ (es : List CellEvent). looked.front ++ (notes ++ es)) looked.ended.1
+        ∙ (ap (λ (es : List CellEvent). looked.front ++ es) (sym (append_assoc notes looked.ended.0 (End callers ∷ []))) ∙ sym (append_assoc looked.front (notes ++ looked.ended.0) (End callers ∷ []))))) did
+
+    front-pins : ArePinsCounted n at looked.front (outline_after looked.cell.value.limit looked.cell.value.opening looked.front)
+    front-pins =
+        let cell = is-cell k n at l looked in
+        let start : PlainCell = opening_cell looked.cell.value.limit looked.cell.value.opening in
+        let first = leads-front start cell.end looked.front (events_of_cell (cell_of trace.config.cells at) l.work.noted ++ looked.rest) cell.bases
+        (subst (λ (es : List CellEvent). Leads start es cell.bases cell.end) looked.whole cell.legal.legal) in
+        pins-are-counted looked.cell.value.limit looked.cell.value.opening looked.front first.0 first.1 n at first.2
+        (none-ended trace.config.callers trace.ops looked.front (all-events k n at l looked) front-none)
+
+    has-pin : count_by (is_unpin_by n at) (take k trace.ops) < count_by (is_pin_by n at) (take k trace.ops) → has_pin_at n at (outline_after looked.cell.value.limit looked.cell.value.opening looked.front) ≡ true
+    has-pin own =
+        let i : ℕ = cell_of trace.config.cells at in
+        let counts = front-pins in
+        let same : take k trace.ops ≡ ops_of (take k lines) = ops-taken trace.ops report.replies lines r.did.lines k in
+        let a = ap (count_by (is_pin_by n at)) same in
+        let b = ap (count_by (is_unpin_by n at)) same in
+        let c = pins-more trace.config n at (take k lines) (all-taken _ lines k (pin-counted n at)) in
+        let d = unpins-few trace.config n at (take k lines) (all-taken _ lines k (λ j x there his. unpins-line trace.config n at x.op x.reply x.work (fits-at n j x there his))) in
+        let e = sym (pins-done n at looked.front) ∙ ap (count_by (is_pin_of n at)) looked.mine in
+        let f = sym (unpins-done n at looked.front) ∙ ap (count_by (is_unpin_of n at)) looked.mine in
+        let count = counts.count in
+        let more : 0 < pins_at n at (outline_after looked.cell.value.limit looked.cell.value.opening looked.front) = omega (arith, own, a, b, c, d, e, f, count) in
+        counts.some ∙ less-test 0 _ more
+
+    unpin-fine : has_pin_at n at (outline_after looked.cell.value.limit looked.cell.value.opening looked.front) ≡ true → (refusal : Refusal)
+        → RefusesPin len (r.run.told k) looked.cell.value.limit looked.cell.value.opening looked.front l.work.brought n at refusal → is_pool_fault (replies.Refused refusal) ≡ true
+    unpin-fine has (refusals.NoPin named) is = absurd (let clash : true ≡ false = sym has ∙ is.1 in cc)
+    unpin-fine has (refusals.NoBlock named) is = absurd is
+    unpin-fine has (refusals.Range end size) is = absurd is
+    unpin-fine has (refusals.Key why) is = absurd is
+    unpin-fine has refusals.PoolFault is = absurd is
+    unpin-fine has (refusals.Mismatch other) is = absurd is
+    unpin-fine has (refusals.NoHold block) is = absurd is
+    unpin-fine has refusals.NoMemory is = absurd is
+
+  unpin-line : (k n : ℕ) (at : Oid) (reply : Reply) (work : Work) → slice_get trace.ops k ≡ Some (ops.Unpin n at) → slice_get report.replies k ≡ Some reply
+      → slice_get lines k ≡ Some (record { op = ops.Unpin n at; reply = reply; work = work }) → is_refusal reply ≡ false
+  unpin-line k n at reply work here told there =
+      let own = in_place.lines k (ops.Unpin n at) here in
+      let his : (n == n) ≡ true = eq-eqb n n refl in
+      let l : Line = record { op = ops.Unpin n at; reply = reply; work = work } in
+      let looked = r.run.objects.each k n l there his in
+      done-fine len (r.run.told k) looked.cell.value.limit looked.cell.value.opening looked.front work.brought
+      (RefusesPin len (r.run.told k) looked.cell.value.limit looked.cell.value.opening looked.front work.brought n at) reply
+      (unpin-fine k n at l looked (has-pin k n at l looked own)) looked.answer (fine k reply told)
+
   put-line : (k n t : ℕ) (at : Oid) (size fill : ℕ) (reply : Reply) (work : Work) → slice_get lines k ≡ Some (record { op = ops.Put n t at size fill; reply = reply; work = work }) → is_refusal reply ≡ false
   put-line k n t at size fill reply work there =
       let his : (n == n) ≡ true = eq-eqb n n refl in
@@ -257,7 +347,7 @@ module _ {P D : Type 0} (pool : Ghosts P) (device : Devices D) (before after : P
   line-fine k (ops.Put n t at size fill) reply work here told there = put-line k n t at size fill reply work there
   line-fine k (ops.Patch n t at from bytes) reply work here told there = patch-line k n t at from bytes reply work here told there
   line-fine k (ops.Pin n t at) reply work here told there = pin-line k n t at reply work here told there
-  line-fine k (ops.Unpin n at) reply work here told there = absurd (in_place.lines k (ops.Unpin n at) here)
+  line-fine k (ops.Unpin n at) reply work here told there = unpin-line k n at reply work here told there
   line-fine k ops.Feed reply work here told there = feed-fine reply (answers.each k ops.Feed reply here told)
   line-fine k (ops.Txg t) reply work here told there = ap is_refusal (answers.each k (ops.Txg t) reply here told).3
   line-fine k (ops.Cap c) reply work here told there = ap is_refusal (answers.each k (ops.Cap c) reply here told)
