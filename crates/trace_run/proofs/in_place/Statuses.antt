@@ -53,7 +53,7 @@ module _ (len : ℕ) (image : List ℕ) (trace : Trace) (size : ℕ) where
   bounded-line k (ops.Hold n t x) own = own
   bounded-line k (ops.Drop n x) own = own
   bounded-line k (ops.Pin n t at) own = own
-  bounded-line k (ops.Unpin n at) own = absurd own
+  bounded-line k (ops.Unpin n at) own = own
   bounded-line k (ops.Put n t at most fill) own = tt
   bounded-line k ops.Feed own = tt
   bounded-line k (ops.Txg t) own = tt
