@@ -1,10 +1,7 @@
 -- Several callers at the ends of groups and of their run: what a trace's lines are, which parties have stopped, and what waiting callers may do.
-use Rattle.std.proofs.Common.{◌≡◌, ◌≢◌, ℕ, zero, suc, ◌+◌, ◌<◌, ◌≤◌, List, [], ◌∷◌, ◌++◌, length, length-append, map, Option, Some, inl, inr, refl, sym, ap, ◌∙◌, subst, arith}
-use Rattle.std.specs.Prelude.{slice_get}
+use Rattle.std.proofs.Common.{◌≡◌, ◌≢◌, ℕ, zero, suc, ◌+◌, ◌<◌, ◌≤◌, List, [], ◌∷◌, ◌++◌, length, length-append, map, Option, inl, inr, refl, sym, ap, ◌∙◌, subst, arith}
 use Rattle.std.specs.List.{AllByRecursion}
 use Rattle.std.proofs.lemmas.Bool.{cases_lt}
-use Rattle.std.proofs.lemmas.List.Elements.{All-get_or}
-use Rattle.std.proofs.lemmas.Option.{get_or_from_slice_get, slice_get_within}
 use mathlib.Core.Option.{some, some-injective, some-ne-none}
 use lib.ListN.{get_elem?}
 use Rattle.blk_ptr.specs.declared.ptr.Ptr.{Ptr}
@@ -22,7 +19,7 @@ use Rattle.trace_text.specs.declared.op.Op.{Op}
 use Rattle.trace_text.specs.declared.op.Op.TheVariants as ops
 use Rattle.trace_text.specs.declared.reply.Reply.{Reply}
 use Rattle.trace_text.specs.declared.trace.Trace.{Trace}
-use Rattle.trace_text.specs.Grammar.{IsFormed, IsOperation, IsPossible}
+use Rattle.trace_text.specs.Grammar.{IsFormed, IsOperation}
 use Rattle.trace_run.specs.declared.groups.Crew.{Crew}
 use Rattle.trace_run.specs.declared.kept_blocks.KeptBlock.{KeptBlock}
 use Rattle.trace_run.specs.Acts.{acts_of_drops}
@@ -33,7 +30,6 @@ use Rattle.trace_run.specs.callers.WorkLines.{acts_of_work, noted_of_work}
 use Rattle.trace_run.specs.Deeds.{Noted}
 use Rattle.trace_run.specs.KeptBlocks.{Stands, read_of}
 use Rattle.trace_run.specs.KeptReads.{KeptRead}
-use Rattle.trace_run.specs.Lines.{caller_of}
 use Rattle.trace_run.specs.Meeting.{AllGave, AreWaiting, HaveGivenBack, IsApart, MayGoOn, Waits}
 use Rattle.trace_run.specs.dbufs.ObjectLines.{IsSized}
 use Rattle.trace_run.specs.dbufs.Objects.{Line}
@@ -42,15 +38,11 @@ use Rattle.trace_run.specs.one_caller.OverShards.{AreNamed}
 use Rattle.trace_run.specs.RunWork.{RunWork, kept_after_lines, lines_of_caller}
 use Rattle.trace_run.specs.Tally.{AreDeclared}
 use Rattle.trace_run.proofs.LineLemmas.{named-after}
-use Rattle.trace_run.proofs.one_caller.TellLemmas.{some-number}
+use Rattle.trace_run.proofs.TraceLines.{possible-at}
 
 -- ---- what a trace has
 
 module _ (trace : Trace) (formed : IsFormed trace) where
-  possible-at : (k : ℕ) (op : Op) → slice_get trace.ops k ≡ Some op → IsPossible trace.config trace.blocks op
-  possible-at k op at = subst (IsPossible trace.config trace.blocks) (get_or_from_slice_get trace.ops k op op at)
-      (All-get_or (IsPossible trace.config trace.blocks) trace.ops k op (slice_get_within trace.ops k op at) formed.ops)
-
   operation-sized : (callers shards : ℕ) (op : Op) → IsOperation callers shards op → IsSized op
   operation-sized callers shards (ops.Put n t at size fill) possible = possible.3
   operation-sized callers shards (ops.Get n t at window) possible = tt
@@ -65,23 +57,7 @@ module _ (trace : Trace) (formed : IsFormed trace) where
   operation-sized callers shards (ops.Cap c) possible = tt
 
   pub all-declared : AreDeclared (length trace.blocks) trace.ops
-  all-declared k op at = let possible = possible-at k op at in (possible.1, operation-sized trace.config.callers trace.config.shards op possible.0)
-
-  caller-below : (op : Op) → IsPossible trace.config trace.blocks op → (n : ℕ) → caller_of op ≡ Some n → n < trace.config.callers
-  caller-below (ops.Read m t x w) possible n of = subst (λ (k : ℕ). k < trace.config.callers) (some-number m n of) possible.0.0
-  caller-below (ops.Hold m t x) possible n of = subst (λ (k : ℕ). k < trace.config.callers) (some-number m n of) possible.0.0
-  caller-below (ops.Drop m x) possible n of = subst (λ (k : ℕ). k < trace.config.callers) (some-number m n of) possible.0.0
-  caller-below (ops.Get m t at window) possible n of = subst (λ (k : ℕ). k < trace.config.callers) (some-number m n of) possible.0.0
-  caller-below (ops.Put m t at size fill) possible n of = subst (λ (k : ℕ). k < trace.config.callers) (some-number m n of) possible.0.0
-  caller-below (ops.Patch m t at from bytes) possible n of = subst (λ (k : ℕ). k < trace.config.callers) (some-number m n of) possible.0.0
-  caller-below (ops.Pin m t at) possible n of = subst (λ (k : ℕ). k < trace.config.callers) (some-number m n of) possible.0.0
-  caller-below (ops.Unpin m at) possible n of = subst (λ (k : ℕ). k < trace.config.callers) (some-number m n of) possible.0.0
-  caller-below ops.Feed possible n of = cc
-  caller-below (ops.Txg t) possible n of = cc
-  caller-below (ops.Cap c) possible n of = cc
-
-  pub all-callers : (k : ℕ) (op : Op) → slice_get trace.ops k ≡ Some op → (n : ℕ) → caller_of op ≡ Some n → n < trace.config.callers
-  all-callers k op at = caller-below op (possible-at k op at)
+  all-declared k op at = let possible = possible-at trace formed k op at in (possible.1, operation-sized trace.config.callers trace.config.shards op possible.0)
 
 -- ---- the parties
 

@@ -1,5 +1,5 @@
 -- One group more of several callers: what their pool counts then, which groups were done, and what stands before the next one, or how the lines end.
-use Rattle.std.proofs.Common.{◌≡◌, ℕ, zero, suc, ◌+◌, ◌%◌, ◌^◌, ◌<◌, ◌≤◌, Bool, true, false, Option, List, [], ◌∷◌, ◌++◌, Some, None, Result, Ok, Err, length, take, drop, refl, sym, ap, ◌∙◌, subst, arith, append_assoc, append-nil, length-append, ◌-◌, inl, inr, if◌then◌else◌, ◌||◌}
+use Rattle.std.proofs.Common.{◌≡◌, ℕ, zero, suc, ◌+◌, ◌%◌, ◌^◌, ◌<◌, ◌≤◌, Bool, true, false, Option, List, [], ◌∷◌, ◌++◌, Some, None, Result, Ok, Err, length, take, drop, refl, sym, ap, ◌∙◌, subst, arith, append_assoc, append-nil, length-append, ◌-◌, inl, inr, if◌then◌else◌}
 use Rattle.std.specs.Prelude.{count_by, filter, slice_get, slice_range}
 use Rattle.std.specs.Option.{option_map}
 use Rattle.std.proofs.lemmas.Bool.{false≢true}
@@ -58,7 +58,8 @@ use Rattle.trace_run.proofs.callers.EndedLemmas.{asked-gives, have-come-ended, h
 use Rattle.trace_run.proofs.callers.FrontLemmas.{front-before, front-same, front-then, pool-front}
 use Rattle.trace_run.proofs.callers.GroupCounts.{over-add, over-same, over-zero}
 use Rattle.trace_run.proofs.callers.GroupLists.{EndsWhole, begun-append, group-begun, group-ended, group-last, groups-append, whole-of}
-use Rattle.trace_run.proofs.callers.GroupRunLemmas.{all-callers, all-declared, may-resize}
+use Rattle.trace_run.proofs.TraceLines.{all-callers, none-at}
+use Rattle.trace_run.proofs.callers.GroupRunLemmas.{all-declared, may-resize}
 use Rattle.trace_run.proofs.callers.GroupsLemmas.{have-restored, have-started, parted-length, restores-seen}
 use Rattle.trace_run.proofs.callers.LineLists.{AreInside, all-inside, calls-append, calls-few, ends-nobody, lines-failed, lines-long, nobody-callers}
 use Rattle.trace_run.proofs.callers.LookedLemmas.{answered-looked, lines-looked, stopped-looked}
@@ -767,17 +768,6 @@ next-forked cache restored pools devices trace start was begun is after rs w cre
 )
 
 -- ---- where no line asks for a sync
-
-pub none-at : (os : List Op) (k : ℕ) (op : Op) → has_sync os ≡ false → slice_get os k ≡ Some op → is_sync op ≡ false
-none-at [] k op none at = cc
-none-at (o ∷ os) zero op none at = elim (cases_true (is_sync o)) [
-  | inl is ↦ absurd (false≢true (sym none ∙ (λ i. is i || has_sync os)))
-  | inr not_it ↦ (let same : o ≡ op = cc in ap is_sync (sym same) ∙ not_it)
-]
-none-at (o ∷ os) (suc k) op none at = elim (cases_true (is_sync o)) [
-  | inl is ↦ absurd (false≢true (sym none ∙ (λ i. is i || has_sync os)))
-  | inr not_it ↦ none-at os k op ((λ i. sym not_it i || has_sync os) ∙ none) at
-]
 
 -- the pool tells what it told behind the next group
 pub next-still : {P : Type 0} (pools : Ghosts P) (trace : Trace) (os : List Op) → os ≡ trace.ops → (was from to fin : P) (end : ℕ) (op : Op) → slice_get os end ≡ Some op → IsUnused pools was from → LeavesPool pools from to

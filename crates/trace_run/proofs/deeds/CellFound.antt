@@ -29,7 +29,8 @@ use Rattle.trace_run.specs.Deeds.{lines_of_cell, noted_in}
 use Rattle.trace_run.specs.MadeLines.{made_from, made_of}
 use Rattle.trace_run.specs.dbufs.ObjectLines.{FindsCell, cell_lines}
 use Rattle.trace_run.proofs.CellsLeft.{LeavesCells}
-use Rattle.trace_run.proofs.deeds.CellsDone.{noted-here, turn-found, turn-front}
+use Rattle.trace_run.proofs.deeds.CellsDone.{turn-found, turn-front}
+use Rattle.trace_run.proofs.deeds.NotedCells.{noted-here}
 use Rattle.trace_run.proofs.deeds.OwnFound.{found-own}
 use Rattle.trace_run.proofs.deeds.TurnMakes.{AreTurnEvents, starts-on}
 

@@ -1,9 +1,8 @@
 -- What a turn of a cell of dbufs, or several, come to for their party: what it made of each history, what it has seen, and what it lists.
-use Rattle.std.proofs.Common.{◌≡◌, ◌≢◌, ◌⊎◌, ℕ, zero, suc, ◌<◌, ◌==◌, true, false, List, [], ◌∷◌, ◌++◌, map, Option, Some, refl, sym, ap, ◌∙◌, subst, inl, inr, arith, append-nil, append_assoc, eq-eqb, ne_eqb, length}
+use Rattle.std.proofs.Common.{◌≡◌, ◌≢◌, ◌⊎◌, ℕ, zero, suc, ◌<◌, List, [], ◌∷◌, ◌++◌, map, Option, Some, refl, sym, ap, ◌∙◌, subst, arith, append-nil, append_assoc, length}
 use Rattle.std.proofs.lemmas.List.{map-append}
 use mathlib.Core.Logic.{dite}
 use native.Mathlib.Decide.{ℕ_discrete}
-use Rattle.arc_lists.proofs.Tables.{cases_true}
 use Rattle.arc_core.specs.Config.{IsConfig}
 use Rattle.arc_core.specs.declared.config.Config.{Config}
 use Rattle.arc_core.specs.declared.event.Event.{Event}
@@ -35,25 +34,11 @@ use Rattle.trace_run.specs.dbufs.DbufTurns.{CellsDone, held_through}
 use Rattle.trace_run.specs.Deeds.{Noted, events_of_cell, events_there, lines_of_cell, noted_in, MakesLater}
 use Rattle.trace_run.specs.MadeLines.{made_of, is_listed}
 use Rattle.trace_run.proofs.CellsLeft.{leaves-seen}
+use Rattle.trace_run.proofs.deeds.NotedCells.{cell-append, noted-else, noted-here}
 use Rattle.trace_run.proofs.deeds.MadeCells.{given-made, given-made-else, took-made, took-made-else}
 use Rattle.trace_run.proofs.deeds.TurnMakes.{AreTurnEvents, TurnMakes, all-made, held-append, own-there, starts-on, there-append}
 use Rattle.trace_run.proofs.deeds.MakesLemmas.{later-same, later-then}
 use Rattle.trace_run.proofs.deeds.MadeLemmas.{listed-back}
-
-pub noted-here : (i : ℕ) (news : List CellEvent) → events_of_cell i (noted_in i news) ≡ news
-noted-here i [] = refl
-noted-here i (e ∷ es) = let here : (i == i) ≡ true = eq-eqb i i refl in rw here (ap (λ l. e ∷ l) (noted-here i es))
-
-pub noted-else : (i j : ℕ) (news : List CellEvent) → i ≢ j → events_of_cell j (noted_in i news) ≡ []
-noted-else i j [] differs = refl
-noted-else i j (e ∷ es) differs = let other : (i == j) ≡ false = ne_eqb i j differs in rw other (noted-else i j es differs)
-
-pub cell-append : (i : ℕ) (a b : List Noted) → events_of_cell i (a ++ b) ≡ events_of_cell i a ++ events_of_cell i b
-cell-append i [] b = refl
-cell-append i (n ∷ ns) b = elim (cases_true (n.cell == i)) [
-  | inl here ↦ rw here (ap (λ l. n.event ∷ l) (cell-append i ns b))
-  | inr other ↦ rw other (cell-append i ns b)
-]
 
 pub lines-append : (i : ℕ) (a b : List Noted) → lines_of_cell i (a ++ b) ≡ lines_of_cell i a ++ lines_of_cell i b
 lines-append i a b =

@@ -55,7 +55,8 @@ use Rattle.trace_run.proofs.callers.BesideLemmas.{fed-idle}
 use Rattle.trace_run.proofs.callers.EndLineLemmas.{Halted, Turned, end-halted, end-turned}
 use Rattle.trace_run.proofs.callers.EndedLemmas.{asked-gives, have-come-ended, have-come-stopped, made-sees, stopped-cut, with_end, with_stop}
 use Rattle.trace_run.proofs.callers.GroupCounts.{over-zero}
-use Rattle.trace_run.proofs.callers.GroupRunLemmas.{all-callers, may-resize}
+use Rattle.trace_run.proofs.TraceLines.{all-callers}
+use Rattle.trace_run.proofs.callers.GroupRunLemmas.{may-resize}
 use Rattle.trace_run.proofs.callers.FrontLemmas.{front-before, pool-front}
 use Rattle.trace_run.proofs.callers.LineLists.{all-inside, calls-few, ends-nobody, lines-failed, lines-long, nobody-callers}
 use Rattle.trace_run.proofs.callers.GroupsLemmas.{parted-at, parted-length}

@@ -46,7 +46,7 @@ use Rattle.trace_run.proofs.callers.AfterEnds.{last-same}
 use Rattle.trace_run.proofs.callers.CallerActLemmas.{caller-is}
 use Rattle.trace_run.proofs.callers.FoundLemmas.{by-object}
 use Rattle.trace_run.proofs.callers.MeetLemmas.{starts-then}
-use Rattle.trace_run.proofs.deeds.CellsDone.{noted-else}
+use Rattle.trace_run.proofs.deeds.NotedCells.{noted-else}
 use Rattle.trace_run.proofs.theorem.LookCuts.{LookedAs, look-since, look-until}
 
 -- what a party had seen of the cells, and knew of their beginnings, before the cache was closed with what it knows then

@@ -20,7 +20,7 @@ use Rattle.trace_run.specs.callers.Together.{ends_group}
 use Rattle.trace_run.specs.callers.WorkLines.{noted_of_work}
 use Rattle.trace_run.proofs.AnswerLemmas.{take_one}
 use Rattle.trace_run.proofs.callers.LineLists.{noted-append}
-use Rattle.trace_run.proofs.deeds.CellsDone.{cell-append}
+use Rattle.trace_run.proofs.deeds.NotedCells.{cell-append}
 
 -- ---- lists
 

@@ -60,7 +60,7 @@ use Rattle.trace_run.specs.callers.WorkLines.{calls_of_lines, effect_with}
 use Rattle.trace_run.proofs.callers.AbsorbLemmas.{over-few}
 use Rattle.trace_run.proofs.callers.CallerActLemmas.{line-kind}
 use Rattle.trace_run.proofs.callers.GroupCounts.{over-add, over-one, over-same, over-zero}
-use Rattle.trace_run.proofs.callers.GroupRunLemmas.{all-callers}
+use Rattle.trace_run.proofs.TraceLines.{all-callers}
 use Rattle.trace_run.proofs.callers.SyncRun.{in-groups-as, stood-then, stops-sync-as}
 use Rattle.trace_run.proofs.theorem.LineAnswers.{EndsWell, IsOfOne, end-lines, lines-replies, own-lines-of}
 use Rattle.trace_run.proofs.theorem.RunEnds.{did-work, ended-work, feeder-begins, feeder-lines, lines-long, run-answers, run-cells, run-counted, run-cut, run-cut-last, run-explains, run-kept, run-objects, run-reads, since, HaveMade}

@@ -19,7 +19,8 @@ use Rattle.trace_run.proofs.one_caller.AskingLines.{asks-line, capped-asks}
 use Rattle.trace_run.proofs.RunLemmas.{keeps-then}
 use Rattle.trace_run.proofs.FurtherLemmas.{nobody-else, off-objects, plain-there}
 use Rattle.trace_run.proofs.WorkLemmas.{with-asks, with-plain}
-use Rattle.trace_run.proofs.callers.GroupRunLemmas.{all-callers, all-declared}
+use Rattle.trace_run.proofs.TraceLines.{all-callers}
+use Rattle.trace_run.proofs.callers.GroupRunLemmas.{all-declared}
 use Rattle.trace_run.specs.dbufs.ObjectLines.{on_object}
 use Rattle.trace_run.specs.callers.WorkLines.{at_work}
 use Rattle.arc_table.specs.Reading.{outside}

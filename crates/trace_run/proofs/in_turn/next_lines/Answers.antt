@@ -10,7 +10,8 @@ use Rattle.trace_run.specs.Devices.{lent_in}
 use Rattle.trace_run.specs.one_caller.InTurn.{AreOwn, DidOwnLines}
 use Rattle.trace_run.specs.Tally.{AreDeclared}
 use Rattle.trace_run.proofs.callers.GroupRunLemmas.{come-named, may-start}
-use Rattle.trace_run.proofs.callers.StepLemmas.{none-at, range-declared, range-here, range-length}
+use Rattle.trace_run.proofs.TraceLines.{none-at}
+use Rattle.trace_run.proofs.callers.StepLemmas.{range-declared, range-here, range-length}
 use Rattle.trace_run.proofs.one_caller.TurnUses.{line-in-use}
 use Rattle.trace_run.proofs.one_caller.TurnSteps.{range-own, step-halted, step-other, step-own, turn-may}
 use Rattle.trace_run.proofs.in_turn.next_lines.Goals as goal
