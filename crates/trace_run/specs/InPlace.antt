@@ -1,5 +1,7 @@
 -- When nothing that a trace asks for is out of place, over a pool of some length that tells its bytes; and that nothing is refused then.
-use Rattle.std.specs.Prelude.{◌≡◌, ◌⊎◌, ℕ, ◌+◌, ◌^◌, ◌<◌, ◌≤◌, ◌==◌, ◌&&◌, Bool, true, false, if◌then◌else◌, List, [], ◌∷◌, count_by, length, take, Option, Some, None, IfSome, slice_get}
+use Rattle.std.specs.Prelude.{◌≡◌, ◌⊎◌, ℕ, ◌+◌, ◌^◌, ◌<◌, ◌≤◌, ◌==◌, ◌&&◌, Bool, true, false, if◌then◌else◌, List, [], ◌∷◌, ◌++◌, count_by, length, max, sum_by, take, Option, Some, None, IfSome, slice_get}
+use Rattle.std.specs.List.{list_any}
+use Rattle.std.specs.Option.{option_map_or}
 use Rattle.blk_ptr.specs.declared.ptr.Ptr.{Ptr}
 use Rattle.blk_ptr.specs.Key.{IsValid}
 use Rattle.blk_ptr.specs.Ptr.{IsOf, range_of}
@@ -19,10 +21,9 @@ use Rattle.trace_text.specs.declared.report.Report.{Report}
 use Rattle.trace_text.specs.declared.trace.Trace.{Trace}
 use Rattle.trace_run.specs.declared.ran.Ending.{Ending}
 use Rattle.trace_run.specs.Answers.{IsInside}
-use Rattle.trace_run.specs.Lines.{has_sync}
 use Rattle.trace_run.specs.Openings.{opening_map}
 use Rattle.trace_run.specs.Outcome.{HasRun}
-use Rattle.trace_run.specs.callers.Together.{ends_group}
+use Rattle.trace_run.specs.callers.Together.{IsFirstPlace, ends_group}
 
 -- ---- holds
 
@@ -107,10 +108,78 @@ module _ (pool_len : ℕ) (image : List ℕ) (trace : Trace) where
   HasItsOwn k (ops.Txg t) = Unit {0}
   HasItsOwn k (ops.Cap c) = Unit {0}
 
--- Each line has what it asks for. Traces with a line `txg` are not covered: what their syncs write, and the room that they need, is not told here.
+-- ---- room for syncs
+
+-- the block that the line writes, whole or in part
+abbrev pub block_written : Op → Option Oid
+block_written (ops.Put n t at size fill) = Some at
+block_written (ops.Patch n t at from bytes) = Some at
+block_written (ops.Read n t x window) = None
+block_written (ops.Hold n t x) = None
+block_written (ops.Drop n x) = None
+block_written (ops.Get n t at window) = None
+block_written (ops.Pin n t at) = None
+block_written (ops.Unpin n at) = None
+block_written ops.Feed = None
+block_written (ops.Txg t) = None
+block_written (ops.Cap c) = None
+
+-- with this block, where there is one and it isn't among them
+abbrev pub with_block : Option Oid → List Oid → List Oid
+with_block None ats = ats
+with_block (Some at) ats = if list_any (oid_eq at) ats then ats else (at ∷ ats)
+
+-- the blocks that lines write, each once
+abbrev pub blocks_written : List Op → List Oid
+blocks_written [] = []
+blocks_written (op ∷ os) = with_block (block_written op) (blocks_written os)
+
+-- the size that the line gives the block, which it writes whole; or 0
+abbrev pub size_put : Oid → Op → ℕ
+size_put at (ops.Put n t b size fill) = if oid_eq at b then size else 0
+size_put at (ops.Patch n t b from bytes) = 0
+size_put at (ops.Read n t x window) = 0
+size_put at (ops.Hold n t x) = 0
+size_put at (ops.Drop n x) = 0
+size_put at (ops.Get n t b window) = 0
+size_put at (ops.Pin n t b) = 0
+size_put at (ops.Unpin n b) = 0
+size_put at ops.Feed = 0
+size_put at (ops.Txg t) = 0
+size_put at (ops.Cap c) = 0
+
+-- the greatest that lines give it
+abbrev pub greatest_put : Oid → List Op → ℕ
+greatest_put at [] = 0
+greatest_put at (op ∷ os) = max (size_put at op) (greatest_put at os)
+
+-- and with that of its first pointer: a block that is dirty has one of these sizes, whatever the order of the callers' work
+abbrev pub greatest_size : Trace → Oid → ℕ
+greatest_size trace at = max (option_map_or (λ (ptr : Ptr). ptr.key.size) (begins_with trace at) 0) (greatest_put at trace.ops)
+
+-- as many bytes as a sync of what these lines write may need
+abbrev pub room_for : Trace → List Op → ℕ
+room_for trace os = sum_by (greatest_size trace) (blocks_written os)
+
+-- Each sync of these lines has room from this place of the pool on, behind lines that wrote since the sync before it. The next one writes behind it.
+abbrev pub HaveRoom : Trace → (pool_len place : ℕ) → (since left : List Op) → Type 0
+HaveRoom trace pool_len place since [] = Unit {0}
+HaveRoom trace pool_len place since (ops.Txg t ∷ left) = (place + room_for trace since ≤ pool_len) × HaveRoom trace pool_len (place + room_for trace since) [] left
+HaveRoom trace pool_len place since (ops.Read n t x window ∷ left) = HaveRoom trace pool_len place since left
+HaveRoom trace pool_len place since (ops.Hold n t x ∷ left) = HaveRoom trace pool_len place since left
+HaveRoom trace pool_len place since (ops.Drop n x ∷ left) = HaveRoom trace pool_len place since left
+HaveRoom trace pool_len place since (ops.Get n t at window ∷ left) = HaveRoom trace pool_len place since left
+HaveRoom trace pool_len place since (ops.Put n t at size fill ∷ left) = HaveRoom trace pool_len place (since ++ ops.Put n t at size fill ∷ []) left
+HaveRoom trace pool_len place since (ops.Patch n t at from bytes ∷ left) = HaveRoom trace pool_len place (since ++ ops.Patch n t at from bytes ∷ []) left
+HaveRoom trace pool_len place since (ops.Pin n t at ∷ left) = HaveRoom trace pool_len place since left
+HaveRoom trace pool_len place since (ops.Unpin n at ∷ left) = HaveRoom trace pool_len place since left
+HaveRoom trace pool_len place since (ops.Feed ∷ left) = HaveRoom trace pool_len place since left
+HaveRoom trace pool_len place since (ops.Cap c ∷ left) = HaveRoom trace pool_len place since left
+
+-- Each line has what it asks for, and each sync has room behind all declared blocks.
 pub record IsInPlace (pool_len : ℕ) (image : List ℕ) (trace : Trace) : Type 0 where
   pub lines : (k : ℕ) (op : Op) → slice_get trace.ops k ≡ Some op → HasItsOwn pool_len image trace k op
-  pub unsynced : has_sync trace.ops ≡ false
+  pub room : (place : ℕ) → IsFirstPlace pool_len trace.blocks place → HaveRoom trace pool_len place [] trace.ops
 
 -- Where nothing is out of place, and the pool's count of faults does not rise, each line is answered, and no reply is a refusal. The cache device may fail
 -- and have any bytes. (A run to which memory was refused has no report.)

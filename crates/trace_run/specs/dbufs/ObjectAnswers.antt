@@ -14,7 +14,7 @@ use Rattle.trace_run.specs.Lines.{is_of_caller}
 use Rattle.trace_run.specs.dbufs.ObjectLines.{OnObject, TellsBrought, on_object}
 use Rattle.trace_run.specs.dbufs.ObjectReplies.{ActsFor, AnswersObject, BringsAt}
 use Rattle.trace_run.specs.dbufs.Objects.{Line, own_event}
-use Rattle.trace_run.specs.RunWork.{lines_of_caller}
+use Rattle.trace_run.specs.RunWork.{lines_of_caller, lines_of_feeder}
 use Rattle.trace_run.specs.callers.Together.{ends_group}
 use Rattle.trace_run.specs.callers.WorkLines.{noted_of_work}
 
@@ -32,6 +32,8 @@ pub record LookedAt (g : Config) (pool_len : ℕ) (told : (k : ℕ) → Option (
   -- the feeder ended the cell behind both
   pub ended : (before : List CellEvent) × (rest ≡ before ++ End g.callers ∷ [])
   pub mine : done_by n front ≡ events_of_cell (cell_of g.cells at) (noted_of_work (lines_of_caller n (take k lines)))
+  -- and of the feeder's what the syncs before the line wrote there, which ended earlier groups
+  pub synced : done_by g.callers front ≡ events_of_cell (cell_of g.cells at) (noted_of_work (lines_of_feeder (take k lines)))
   -- it has what each caller's lines did there before a line that ends an earlier group, and nothing that any did behind one that ends this line's group or a later one
   pub since : (m x : ℕ) (e : Line) → m < g.callers → x < k → slice_get lines x ≡ Some e → ends_group e.op ≡ true → StartsWith (done_by m front) (events_of_cell (cell_of g.cells at) (noted_of_work (lines_of_caller m (take x lines))))
   pub until : (m x : ℕ) (e : Line) → m < g.callers → k < x → slice_get lines x ≡ Some e → ends_group e.op ≡ true → StartsWith (events_of_cell (cell_of g.cells at) (noted_of_work (lines_of_caller m (take x lines)))) (done_by m front)
