@@ -1,4 +1,6 @@
 pub mod DirtyBlocks
+pub mod DirtyNeed
+pub mod DirtySizes
 pub mod EventLines
 pub mod HeldReads
 pub mod Mapped
@@ -6,6 +8,7 @@ pub mod ObjectLines
 pub mod PinLines
 pub mod PutLines
 pub mod Refusals
+pub mod RoomLists
 pub mod RunLines
 pub mod Statuses
 pub mod Sums
