@@ -1,13 +1,13 @@
 -- Which blocks of a cell are dirty, by its history: none behind a sync, and behind that those that were written since.
-use Rattle.std.proofs.Common.{◌≡◌, ℕ, suc, zero, ◌+◌, ◌==◌, ◌&&◌, Bool, true, false, not, if◌then◌else◌, List, [], ◌∷◌, ◌++◌, map, length, Option, Some, None, refl, sym, ap, subst, ◌∙◌, inl, inr, arith, eq-eqb, IsPermutation}
+use Rattle.std.proofs.Common.{◌≡◌, ℕ, suc, zero, ◌+◌, ◌==◌, ◌&&◌, ◌||◌, Bool, true, false, not, List, [], ◌∷◌, ◌++◌, map, length, Option, Some, None, refl, sym, ap, subst, ◌∙◌, inl, inr, arith, eq-eqb}
 use Rattle.std.specs.Prelude.{slice_get}
-use Rattle.std.specs.List.{AllByRecursion, list_any}
+use Rattle.std.specs.List.{list_any}
 use Rattle.std.specs.Option.{option_map, option_map_or}
 use Rattle.std.proofs.lemmas.List.Sorted.{list_any-IsPermutation}
 use Rattle.arc_lists.proofs.Tables.{cases_true}
 use Rattle.blk_ptr.specs.declared.ptr.Ptr.{Ptr}
 use Rattle.dbuf_state.specs.CellLog.{CellLog}
-use Rattle.dbuf_state.specs.Dbufs.{dbuf_at, dbuf_is, dirty_oids, is_dirty, mapped_of}
+use Rattle.dbuf_state.specs.Dbufs.{dbuf_at, dbuf_is, dirty_oids, is_clean as is_clean_content, is_dirty, mapped_of}
 use Rattle.dbuf_state.specs.Oids.{oid_eq}
 use Rattle.dbuf_state.specs.Outline.{is_clean, mapped_at}
 use Rattle.dbuf_state.specs.Soundness.{IsSound, plain_cell}
@@ -23,11 +23,11 @@ use Rattle.dbuf_state.specs.declared.state.Mapping.{Mapping}
 use Rattle.dbuf_state.proofs.OutlineLemmas.{cell-is-in-outline, outline-is-told}
 use Rattle.dbuf_cells.specs.Turns.{OnHeap}
 use Rattle.dbuf_cells.specs.declared.kept.Kept.{Kept}
-use Rattle.txg_sync.specs.Items.{SyncItem, at_place, bytes_of_due, due_in, dues_from, dues_in, items_from}
+use Rattle.txg_sync.specs.Items.{SyncItem, bytes_of_due, due_in, dues_from, dues_in, items_from}
 use Rattle.txg_sync.specs.Syncing.{AreAllDirty}
 use Rattle.txg_sync.specs.Turns.{synced_in}
 use Rattle.txg_sync.specs.declared.due.Due.{Due}
-use Rattle.trace_run.proofs.in_place.Mapped.{mapped_then, mapped_through, mapped-told, oid-is, opened_mapped}
+use Rattle.trace_run.proofs.in_place.Mapped.{mapped_then, mapped_through, mapped-told, opened_mapped}
 use Rattle.trace_run.proofs.in_place.PutLines.{any-first, any-left, any-right}
 
 -- the event writes the block, whole or in part
@@ -60,9 +60,9 @@ pub sound-mapped : (c : CellLog Kept) → IsSound c → (at : Oid) → option_ma
 sound-mapped c sound at =
     (cell-is-in-outline sound.evicting c at).mapped
     ∙ (ap (mapped_at at) (outline-is-told c.limit c.opening c.history sound.bases (plain_cell sound.evicting c) sound.history.legal)
-        ∙ mapped-told at c.limit c.opening c.history)
+    ∙ mapped-told at c.limit c.opening c.history)
 
-content-dirty : (c : Content) → not (is_clean (mapped_of c)) ≡ not (Rattle.dbuf_state.specs.Dbufs.is_clean c)
+content-dirty : (c : Content) → not (is_clean (mapped_of c)) ≡ not (is_clean_content c)
 content-dirty (content.Clean ptr) = refl
 content-dirty (content.Dirty bytes) = refl
 
@@ -134,15 +134,15 @@ module _ (n i : ℕ) (at : Oid) where
   gets-clean (x ∷ xs) m among = elim (cases_true (x.due.cell == i)) [
     | inl mine ↦
         let next : is_dirty_mapped (mapped_through at (mapped_then at m (Synced n x.due.at x.ptr)) (synced_in n i xs)) ≡ false
-            = elim (cases_true (oid_eq at x.due.at)) [
-              | inl here ↦ rw here (stays-clean xs (option_map (λ y. Clean x.ptr) m) (synced-clean m x.ptr))
-              | inr far ↦ rw far (gets-clean xs m (rw far at among))
-            ] in
+        = elim (cases_true (oid_eq at x.due.at)) [
+          | inl here ↦ rw here (stays-clean xs (option_map (λ y. Clean x.ptr) m) (synced-clean m x.ptr))
+          | inr far ↦ rw far (gets-clean xs m (rw far at among))
+        ] in
         rw mine next
     | inr other ↦ rw other (gets-clean xs m (past (oid_eq at x.due.at) (x.due.cell == i) _ other among))
   ]
     where
-      past : (a b c : Bool) → b ≡ false → Rattle.std.specs.Prelude.◌||◌ (a && b) c ≡ true → c ≡ true
+      past : (a b c : Bool) → b ≡ false → ((a && b) || c) ≡ true → c ≡ true
       past true true c none h = absurd (let clash : true ≡ false = none in cc)
       past true false c none h = h
       past false b c none h = h
@@ -184,7 +184,7 @@ module _ (n i : ℕ) (at : Oid) where
       let is : x ≡ c = some-cell x c there in
       let here : k ≡ i = omega (arith, sum) in
       any-left is_here (dues_in k x.value.dbufs) (dues_from (suc k) cs)
-          (subst (λ (z : ℕ). list_any is_here (dues_in z x.value.dbufs) ≡ true) (sym here) (any-dues (dirty_oids x.value.dbufs) (any-dirty x.value.dbufs (ap (λ (y : OnHeap). dbuf_is is_dirty at y.value.dbufs) is ∙ dirty))))
+      (subst (λ (z : ℕ). list_any is_here (dues_in z x.value.dbufs) ≡ true) (sym here) (any-dues (dirty_oids x.value.dbufs) (any-dirty x.value.dbufs (ap (λ (y : OnHeap). dbuf_is is_dirty at y.value.dbufs) is ∙ dirty))))
     where
       some-cell : (a b : OnHeap) → ◌≡◌ {A = Option OnHeap} (Some a) (Some b) → a ≡ b
       some-cell a b e = cc

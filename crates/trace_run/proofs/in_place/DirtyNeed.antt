@@ -1,12 +1,11 @@
 -- What a sync needs is within what all blocks that were written since the sync before may need.
-use Rattle.std.proofs.Common.{◌≡◌, ◌≢◌, ℕ, suc, zero, ◌+◌, ◌<◌, ◌≤◌, Bool, true, false, List, [], ◌∷◌, ◌++◌, map, length, sum_by, Option, Some, None, IfSome, refl, sym, ap, subst, ◌∙◌, inl, inr, arith}
+use Rattle.std.proofs.Common.{◌≡◌, ℕ, suc, ◌+◌, ◌<◌, ◌≤◌, true, false, List, [], ◌∷◌, ◌++◌, map, length, sum_by, Option, Some, IfSome, refl, sym, ap, subst, ◌∙◌, inl, inr, arith}
 use Rattle.std.specs.Prelude.{slice_get}
 use Rattle.std.specs.List.{AllByRecursion, list_any}
 use Rattle.std.specs.Option.{option_map_or}
 use Rattle.std.proofs.lemmas.List.Sums.{sum_by-cons}
 use Rattle.std.proofs.lemmas.List.Sorted.{sum_by-IsPermutation}
 use Rattle.arc_lists.proofs.Tables.{cases_true}
-use Rattle.blk_ptr.specs.declared.ptr.Ptr.{Ptr}
 use Rattle.dbuf_state.specs.CellLog.{CellLog}
 use Rattle.dbuf_state.specs.Dbufs.{dbuf_is, dirty_oids, is_dirty}
 use Rattle.dbuf_state.specs.Oids.{oid_eq}
@@ -129,7 +128,7 @@ module _ (m : ℕ) (size : Oid → ℕ) (ats : List Oid) (cells : List OnHeap) (
   later-from k [] = tt
   later-from k (c ∷ cs) =
       both-all (λ (due : Due). k ≤ due.cell) (dues_in k c.value.dbufs) (dues_from (suc k) cs) (later-in k k (dirty_oids c.value.dbufs) (omega arith))
-          (map-all (λ (due : Due). suc k ≤ due.cell) (λ (due : Due). k ≤ due.cell) (dues_from (suc k) cs) (λ due le. omega (arith, le)) (later-from (suc k) cs))
+      (map-all (λ (due : Due). suc k ≤ due.cell) (λ (due : Due). k ≤ due.cell) (dues_from (suc k) cs) (λ due le. omega (arith, le)) (later-from (suc k) cs))
 
   none-later : (x : Oid) (k : ℕ) → cell_of m x < k → (dues : List Due) → AllByRecursion IsRoomyDue dues → AllByRecursion (λ (due : Due). k ≤ due.cell) dues → list_any (oid_eq x) (oids_of dues) ≡ false
   none-later x k less [] all later = refl
@@ -154,7 +153,7 @@ module _ (m : ℕ) (size : Oid → ℕ) (ats : List Oid) (cells : List OnHeap) (
       let oids = dirty_oids c.value.dbufs in
       let same : oids_of (dues_in k c.value.dbufs ++ rest) ≡ oids ++ oids_of rest = oids-both (dues_in k c.value.dbufs) rest ∙ ap (λ (l : List Oid). l ++ oids_of rest) (oids-in k oids) in
       subst AreDistinct (sym same) (distinct-both oids (oids_of rest) (its-oids k c there) (distinct-from (suc k) cs behind)
-          (none-behind k rest (all-dues (suc k) cs behind) (later-from (suc k) cs) oids (its-dues k c there)))
+      (none-behind k rest (all-dues (suc k) cs behind) (later-from (suc k) cs) oids (its-dues k c there)))
 
   -- ---- the sums
 

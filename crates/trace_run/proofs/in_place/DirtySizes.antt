@@ -1,5 +1,5 @@
 -- How many bytes the dirty blocks of a cell have, and that none stands twice among them: by its history.
-use Rattle.std.proofs.Common.{◌≡◌, ℕ, ◌+◌, ◌≤◌, Bool, true, false, not, if◌then◌else◌, List, [], ◌∷◌, map, length, Option, Some, None, IfSome, refl, sym, ap, subst, ◌∙◌, inl, inr, arith}
+use Rattle.std.proofs.Common.{◌≡◌, ℕ, ◌+◌, ◌≤◌, Bool, true, false, if◌then◌else◌, List, [], ◌∷◌, map, length, Option, Some, None, IfSome, refl, sym, ap, subst, ◌∙◌, inl, inr, arith}
 use Rattle.std.specs.List.{AllByRecursion, list_any}
 use Rattle.std.specs.Option.{option_map, option_map_or}
 use Rattle.arc_lists.proofs.Tables.{cases_true}
@@ -28,7 +28,7 @@ use Rattle.dbuf_state.proofs.OutlineLemmas.{cell-is-in-outline, outline-follows,
 use Rattle.dbuf_cells.specs.declared.kept.Kept.{Kept}
 use Rattle.txg_sync.specs.Items.{dirty_bytes_at, written_in}
 use Rattle.trace_run.specs.InPlace.{opened_ptr}
-use Rattle.trace_run.proofs.in_place.Mapped.{mapped-all, mapped-told, mapped_then, opened_mapped}
+use Rattle.trace_run.proofs.in_place.Mapped.{mapped-all, mapped-told, mapped_then, oid-is}
 use Rattle.txg_sync.proofs.Gathering.{oid-same}
 use Rattle.trace_run.proofs.in_place.Sums.{AreDistinct, any-cons, none-apart}
 
@@ -86,7 +86,7 @@ then-within at most c (Load n b) legal put within = within
 then-within at most c (Evict n b) legal put within = within
 then-within at most c (Synced n b ptr) legal put within = elim (cases_true (oid_eq at b)) [
   | inl here ↦
-      let is = Rattle.trace_run.proofs.in_place.Mapped.oid-is at b here in
+      let is = oid-is at b here in
       let its = subst (λ (x : Oid). IsWrittenAt ptr (plain.dbuf_at x c)) (sym is) legal.1 in
       let same = plain-mapped at c in
       rw here (subst (λ (o : Option Mapped). IsWithin most (option_map (λ (x : Mapped). Clean ptr) o)) (sym same) (synced-within most ptr (plain.dbuf_at at c) its (subst (IsWithin most) same within)))
@@ -100,7 +100,7 @@ leads-within at most c [] bases end leads puts within = subst (λ (x : PlainCell
 leads-within at most c (e ∷ es) bases end leads puts within =
     let base = leads.1.0 in
     let same : mapped_at at (outline_of (plain.after base c e)) ≡ mapped_then at (mapped_at at (outline_of c)) e
-        = ap (mapped_at at) (outline-follows c e base leads.0 leads.1.3) ∙ mapped-all at (outline_of c) (e ∷ []) in
+    = ap (mapped_at at) (outline-follows c e base leads.0 leads.1.3) ∙ mapped-all at (outline_of c) (e ∷ []) in
     leads-within at most (plain.after base c e) es leads.1.1 end leads.1.4 puts.1 (subst (IsWithin most) (sym same) (then-within at most c e leads.0 puts.0 within))
 
 opened-within : (most : ℕ) (o : Option Ptr) → IfSome o (λ ptr. ptr.key.size ≤ most) → IsWithin most (option_map (λ (ptr : Ptr). Clean ptr) o)

@@ -1,5 +1,5 @@
 -- What a trace says of the blocks that a sync writes: how they begin, the most bytes that its lines give them, and which lines write them. And a cell's events by their numbers.
-use Rattle.std.proofs.Common.{◌≡◌, ℕ, suc, zero, ◌+◌, ◌<◌, ◌≤◌, ◌==◌, ◌&&◌, Bool, true, false, if◌then◌else◌, List, [], ◌∷◌, ◌++◌, filter, map, max, Option, Some, None, IfSome, refl, sym, ap, subst, ◌∙◌, inl, inr, arith, eq-eqb, eqb-true}
+use Rattle.std.proofs.Common.{◌≡◌, ℕ, suc, zero, ◌+◌, ◌<◌, ◌≤◌, ◌==◌, Bool, true, false, List, [], ◌∷◌, ◌++◌, map, max, Option, Some, None, IfSome, refl, sym, ap, subst, ◌∙◌, inl, inr, arith, eq-eqb, eqb-true}
 use Rattle.std.specs.Prelude.{slice_get}
 use Rattle.std.specs.List.{AllByRecursion, list_any}
 use Rattle.std.specs.Option.{option_map_or}
@@ -17,7 +17,7 @@ use Rattle.trace_text.specs.declared.mapping.Mapping.{Mapping as ObjectLine}
 use Rattle.trace_text.specs.declared.op.Op.{Op}
 use Rattle.trace_text.specs.declared.trace.Trace.{Trace}
 use Rattle.trace_run.specs.InPlace.{begins_with, block_written, blocks_written, greatest_put, greatest_size, opened_ptr, size_put, with_block}
-use Rattle.trace_run.specs.Openings.{mapping_of, mappings_in, opening_map}
+use Rattle.trace_run.specs.Openings.{mappings_in, opening_map}
 use Rattle.trace_run.specs.dbufs.CellEnds.{done_by}
 use Rattle.trace_run.proofs.in_place.DirtySizes.{mapping_oid}
 use Rattle.trace_run.proofs.in_place.Mapped.{oid-is}
@@ -64,11 +64,14 @@ any-by p most (e ∷ h) few has = elim (cases_true (p e)) [
       let same : (number_of e == number_of e) ≡ true = eq-eqb (number_of e) (number_of e) refl in
       (number_of e, few.0, rw same (any-first p e (done_by (number_of e) h) passes))
   | inr fails ↦
-      let rest = any-by p most h few.1 (rw fails at has) in
-      (rest.0, rest.1, elim (cases_true (number_of e == rest.0)) [
-        | inl his ↦ rw his (any-right p (e ∷ []) (done_by rest.0 h) rest.2)
-        | inr other ↦ rw other rest.2
-      ])
+      let rest = any-by p most h few.1 (rw fails at has) in (
+        rest.0,
+        rest.1,
+        elim (cases_true (number_of e == rest.0)) [
+          | inl his ↦ rw his (any-right p (e ∷ []) (done_by rest.0 h) rest.2)
+          | inr other ↦ rw other rest.2
+        ],
+      )
 ]
 
 -- ---- how blocks begin
