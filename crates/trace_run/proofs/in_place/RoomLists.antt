@@ -1,5 +1,5 @@
 -- What a trace says of the blocks that a sync writes: how they begin, the most bytes that its lines give them, and which lines write them. And a cell's events by their numbers.
-use Rattle.std.proofs.Common.{◌≡◌, ℕ, suc, zero, ◌+◌, ◌<◌, ◌≤◌, ◌==◌, Bool, true, false, List, [], ◌∷◌, ◌++◌, map, max, Option, Some, None, IfSome, refl, sym, ap, subst, ◌∙◌, inl, inr, arith, eq-eqb, eqb-true}
+use Rattle.std.proofs.Common.{◌≡◌, ℕ, suc, zero, ◌+◌, ◌<◌, ◌≤◌, ◌==◌, true, false, List, [], ◌∷◌, ◌++◌, map, max, Option, Some, None, IfSome, refl, sym, ap, subst, ◌∙◌, inl, inr, arith, eq-eqb, eqb-true}
 use Rattle.std.specs.Prelude.{slice_get}
 use Rattle.std.specs.List.{AllByRecursion, list_any}
 use Rattle.std.specs.Option.{option_map_or}
@@ -26,20 +26,9 @@ use Rattle.trace_run.proofs.in_place.Sums.{AreDistinct, any-cons}
 
 -- ---- events by their numbers
 
-pub done-append : (n : ℕ) (a b : List CellEvent) → done_by n (a ++ b) ≡ done_by n a ++ done_by n b
-done-append n [] b = refl
-done-append n (e ∷ a) b = elim (cases_true (number_of e == n)) [
-  | inl his ↦ rw his (ap (λ (l : List CellEvent). e ∷ l) (done-append n a b))
-  | inr other ↦ rw other (done-append n a b)
-]
-
-pub all-front : (P : CellEvent → Type 0) (a b : List CellEvent) → AllByRecursion P (a ++ b) → AllByRecursion P a
-all-front P [] b all = tt
-all-front P (e ∷ a) b all = (all.0, all-front P a b all.1)
-
-pub all-behind : (P : CellEvent → Type 0) (a b : List CellEvent) → AllByRecursion P (a ++ b) → AllByRecursion P b
-all-behind P [] b all = all
-all-behind P (e ∷ a) b all = all-behind P a b all.1
+pub all-behind : {X : Type 0} (P : X → Type 0) (xs ys : List X) → AllByRecursion P (xs ++ ys) → AllByRecursion P ys
+all-behind P [] ys all = all
+all-behind P (x ∷ xs) ys all = all-behind P xs ys all.1
 
 -- of what each number did, less its first
 done-rest : (P : CellEvent → Type 0) (n : ℕ) (e : CellEvent) (h : List CellEvent) → AllByRecursion P (done_by n (e ∷ h)) → AllByRecursion P (done_by n h)
@@ -55,24 +44,6 @@ done-first P e h all = let same : (number_of e == number_of e) ≡ true = eq-eqb
 pub all-done : (P : CellEvent → Type 0) (most : ℕ) (h : List CellEvent) → AllByRecursion (λ e. number_of e < most) h → ((n : ℕ) → n < most → AllByRecursion P (done_by n h)) → AllByRecursion P h
 all-done P most [] few each = tt
 all-done P most (e ∷ h) few each = (done-first P e h (each (number_of e) few.0), all-done P most h few.1 (λ n less. done-rest P n e h (each n less)))
-
--- what is among all is among what some number did
-pub any-by : (p : CellEvent → Bool) (most : ℕ) (h : List CellEvent) → AllByRecursion (λ e. number_of e < most) h → list_any p h ≡ true → (n : ℕ) × (n < most) × (list_any p (done_by n h) ≡ true)
-any-by p most [] few has = absurd (let clash : false ≡ true = has in cc)
-any-by p most (e ∷ h) few has = elim (cases_true (p e)) [
-  | inl passes ↦
-      let same : (number_of e == number_of e) ≡ true = eq-eqb (number_of e) (number_of e) refl in
-      (number_of e, few.0, rw same (any-first p e (done_by (number_of e) h) passes))
-  | inr fails ↦
-      let rest = any-by p most h few.1 (rw fails at has) in (
-        rest.0,
-        rest.1,
-        elim (cases_true (number_of e == rest.0)) [
-          | inl his ↦ rw his (any-right p (e ∷ []) (done_by rest.0 h) rest.2)
-          | inr other ↦ rw other rest.2
-        ],
-      )
-]
 
 -- ---- how blocks begin
 
