@@ -1,11 +1,13 @@
 //! The texts of reports.
+ghost use Rattle.std.specs.Prelude.{◌≤◌, length};
+
 use arc_core::{Event, FailedAt, History as EventList, Origin};
 use blk_ptr::{Digest, Key, KeyFault};
 use std::alloc::{AllocError, Global};
 use std::test::Fail;
 use trace_text::{
     Ends, FeedReport, FeedStop, Histories, History, LogFault, Oid, Rebuilt, Refusal, Replies,
-    Reply, Report, Restored, RestoredList, Served, ShardEnd, Shown, Stop, Totals, counts_of,
+    Reply, Report, Restored, RestoredList, Served, ShardEnd, ShownBytes, Stop, Totals, counts_of,
     report_text,
 };
 
@@ -51,14 +53,14 @@ fn has_words(alloc: Global, reply: Reply, words: &str) -> Result<bool, AllocErro
 }
 
 /// A read that shows these bytes.
-fn read_of(served: Served, bytes: &[u8; 2]) -> Reply {
+fn read_of(alloc: Global, served: Served, bytes: &[u8; 2]) -> Result<Reply, AllocError> {
     let digest = some_digest();
-    let shown = Shown::of(bytes);
-    Reply::Read {
+    let shown = ShownBytes::of(alloc, bytes)?;
+    Ok(Reply::Read {
         served,
         digest,
         shown,
-    }
+    })
 }
 
 #[test]
@@ -70,7 +72,8 @@ fn lines_of_reads(rt: HostRuntime) -> Result<(), Fail> {
         (Served::Past, "past"),
     ] {
         let words = format!(in rt.alloc(); "ok {word} {AB} 000f")?;
-        assert!(rt; has_words(rt.alloc(), read_of(served, &[0, 15]), words.as_str())?);
+        let read = read_of(rt.alloc(), served, &[0, 15])?;
+        assert!(rt; has_words(rt.alloc(), read, words.as_str())?);
     }
     Ok(())
 }
@@ -79,7 +82,7 @@ fn lines_of_reads(rt: HostRuntime) -> Result<(), Fail> {
 fn the_line_of_an_empty_window(rt: HostRuntime) -> Result<(), Fail> {
     let served = Served::Hit;
     let digest = some_digest();
-    let shown = Shown::of(&[]);
+    let shown = ShownBytes::of(rt.alloc(), &[])?;
     let reply = Reply::Read {
         served,
         digest,
@@ -87,6 +90,30 @@ fn the_line_of_an_empty_window(rt: HostRuntime) -> Result<(), Fail> {
     };
     let words = format!(in rt.alloc(); "ok hit {AB} -")?;
     assert!(rt; has_words(rt.alloc(), reply, words.as_str())?);
+    Ok(())
+}
+
+/// 22 bytes as hex digits: the most that lie in the reply itself.
+const FEW: &str = "5a5a5a5a5a5a5a5a5a5a5a5a5a5a5a5a5a5a5a5a5a5a";
+
+/// What a block of an object is told of which these bytes are shown.
+fn got(alloc: Global, bytes: &[u8]) -> Result<Reply, AllocError>
+    requires { length bytes.now ≤ 64 }
+{
+    let shown = ShownBytes::of(alloc, bytes)?;
+    Ok(Reply::Got { size: 512, shown })
+}
+
+#[test]
+fn lines_of_windows_inside_and_on_the_heap(rt: HostRuntime) -> Result<(), Fail> {
+    let inside = format!(in rt.alloc(); "got 512 {FEW}")?;
+    assert!(rt; has_words(rt.alloc(), got(rt.alloc(), &[0x5a; 22])?, inside.as_str())?);
+    let heap = format!(in rt.alloc(); "got 512 {FEW}5a")?;
+    assert!(rt; has_words(rt.alloc(), got(rt.alloc(), &[0x5a; 23])?, heap.as_str())?);
+    let most = format!(in rt.alloc();
+        "got 512 {FEW}{FEW}5a5a5a5a5a5a5a5a5a5a5a5a5a5a5a5a5a5a5a5a"
+    )?;
+    assert!(rt; has_words(rt.alloc(), got(rt.alloc(), &[0x5a; 64])?, most.as_str())?);
     Ok(())
 }
 
@@ -110,7 +137,7 @@ fn is_refused(alloc: Global, refusal: Refusal, words: &str) -> Result<bool, Allo
 
 #[test]
 fn lines_of_blocks_feeds_and_groups(rt: HostRuntime) -> Result<(), Fail> {
-    let shown = Shown::of(&[0, 171]);
+    let shown = ShownBytes::of(rt.alloc(), &[0, 171])?;
     let got = Reply::Got { size: 512, shown };
     assert!(rt; has_words(rt.alloc(), got, "got 512 00ab")?);
     let synced = Reply::Synced {

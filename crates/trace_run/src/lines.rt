@@ -29,18 +29,18 @@ use arc_core::{Keeps, ReadFault};
 use arc_table::{Arcs, Party};
 use blk_ptr::{Block, NoMemory, Ptr, Shows};
 use dbuf_cells::{Cells, HeapCell};
-use std::alloc::Global;
+use std::alloc::{AllocError, Global};
 use std::sync::Wait;
-use trace_text::{Op, Refusal, Reply, Shown, Window};
+use trace_text::{Op, Refusal, Reply, ShownBytes, Window};
 use vdev_io::{CacheDev, Gate, Pool};
 
 /// The bytes that a window shows.
-fn window_of(block: &Block, window: Window) -> Shown
+fn window_of(alloc: Global, block: &Block, window: Window) -> Result<ShownBytes, AllocError>
     requires { IsInside window (length block.now) }
-    ensures { result ≡ window_of window block.now }
+    ensures { IfOk result (λ shown. shown ≡ window_of window block.now) }
 {
     let at = window.at as usize;
-    Shown::of(&block.bytes()[at..at + window.len as usize])
+    ShownBytes::of(alloc, &block.bytes()[at..at + window.len as usize])
 }
 
 /// What a caller is told of a read that was refused. Want of memory ends the run.
@@ -97,6 +97,7 @@ fn hold_line<C: Keeps, P: Pool, D: CacheDev>(
 
 /// Answers a read that shows a window of its block.
 fn read_line<C: Keeps, P: Pool, D: CacheDev>(
+    alloc: Global,
     rt: &impl Wait,
     arcs: &Arcs<C>,
     party: &mut Party<C>,
@@ -131,8 +132,9 @@ fn read_line<C: Keeps, P: Pool, D: CacheDev>(
     }
     match get(rt, arcs, party, pool, device, ptr, block, t) {
         Ok(Got { served, read }) => {
-            let shown = window_of(read.kept.block(), window);
+            let shown = window_of(alloc, read.kept.block(), window);
             give_back(rt, arcs, party, read);
+            let shown = shown?;
             let digest = ptr.digest;
             Ok(Reply::Read {
                 served,
@@ -192,7 +194,18 @@ pub(crate) fn line<P: Pool, D: CacheDev>(
 {
     match *op {
         Op::Read { t, x, w, .. } => {
-            read_line(rt, arcs, party, pool, device, &blocks[x as usize], x, t, w)
+            read_line(
+                alloc,
+                rt,
+                arcs,
+                party,
+                pool,
+                device,
+                &blocks[x as usize],
+                x,
+                t,
+                w,
+            )
         }
         Op::Hold { t, x, .. } => {
             hold_line(

@@ -14,7 +14,7 @@ use dbuf_cells::{Cells, HeapCell, get, hold, patch, put, unhold};
 use dbuf_state::{DbufFault, Oid, Shown, Window};
 use std::alloc::Global;
 use std::sync::Wait;
-use trace_text::{Op, Refusal, Reply};
+use trace_text::{Op, Refusal, Reply, ShownBytes};
 use vdev_io::{CacheDev, Pool};
 
 /// What a caller is told of a fault of a call on dbufs. Want of memory ends the run.
@@ -31,16 +31,18 @@ fn refusal_of(fault: DbufFault) -> Result<Refusal, NoMemory>
 }
 
 /// What a caller is told of a block whose bytes were there.
-fn got(size: u64, shown: Shown) -> Reply
+fn got(alloc: Global, size: u64, shown: &Shown) -> Result<Reply, NoMemory>
     requires { IsBlockSize size }
-    ensures { result ≡ Reply.Got size shown }
+    ensures { IfOk result (λ reply. reply ≡ Reply.Got size shown.now) }
 {
     let size = size as u32;
-    Reply::Got { size, shown }
+    let shown = ShownBytes::of(alloc, shown.bytes())?;
+    Ok(Reply::Got { size, shown })
 }
 
 /// Answers a read of a window of a block.
 pub(crate) fn get_line<P: Pool, D: CacheDev>(
+    alloc: Global,
     rt: &impl Wait,
     arcs: &Cells,
     party: &mut Party<HeapCell>,
@@ -57,7 +59,7 @@ pub(crate) fn get_line<P: Pool, D: CacheDev>(
     ensures device { KeepsDevice D.CacheDev device.old device.new }
 {
     match get(arcs, rt, party, at, w, t, pool, device) {
-        Ok((size, shown)) => Ok(got(size, shown)),
+        Ok((size, shown)) => got(alloc, size, &shown),
         Err(fault) => Ok(Reply::Refused(refusal_of(fault)?)),
     }
 }
@@ -166,7 +168,7 @@ pub(crate) fn object_line<P: Pool, D: CacheDev>(
     ensures device { KeepsDevice D.CacheDev device.old device.new }
 {
     match op {
-        Op::Get { t, at, w, .. } => get_line(rt, arcs, party, pool, device, *at, *w, *t),
+        Op::Get { t, at, w, .. } => get_line(alloc, rt, arcs, party, pool, device, *at, *w, *t),
         Op::Put { at, size, fill, .. } => put_line(alloc, rt, arcs, party, *at, *size, *fill),
         Op::Patch {
             t,

@@ -9,6 +9,7 @@ pub mod Reading
 pub mod RebuiltText
 pub mod ReportText
 pub mod ReportWords
+pub mod ShownBytes
 pub mod SizesText
 pub mod Taken
 pub mod TraceText

@@ -6,9 +6,9 @@ ghost use Rattle.trace_text.specs.ReportText.{reply_text};
 ghost use Rattle.trace_text.specs.ReportWords.{served_word};
 
 use crate::reply::Reply;
+use crate::shown_bytes::ShownBytes;
 use arc_core::Served;
 use blk_ptr::Digest;
-use dbuf_state::Shown;
 use std::alloc::AllocError;
 
 /// Appends what a reply's line says behind the operation's number.
@@ -59,7 +59,7 @@ fn write_digest(text: &mut Vec<u8>, digest: Digest) -> Result<(), AllocError>
 }
 
 /// Appends the bytes that are shown.
-fn write_shown(text: &mut Vec<u8>, shown: &Shown) -> Result<(), AllocError>
+fn write_shown(text: &mut Vec<u8>, shown: &ShownBytes) -> Result<(), AllocError>
     ensures { OnOk result (text.new.items ≡ text.old.items ++ shown_text shown.now) }
 {
     let bytes = shown.bytes();

@@ -2,9 +2,10 @@
 ghost use Rattle.std.specs.Prelude.{◌≡◌, Some};
 ghost use Rattle.trace_text.specs.ReportWords.{end_word, served_word};
 
+use crate::shown_bytes::ShownBytes;
 use arc_core::Served;
 use blk_ptr::{Digest, KeyFault};
-use dbuf_state::{Oid, Shown};
+use dbuf_state::Oid;
 use l2_dev::{FeedReport, FeedStop};
 use std::fmt;
 
@@ -55,7 +56,7 @@ pub enum Reply {
     Read {
         served: Served,
         digest: Digest,
-        shown: Shown,
+        shown: ShownBytes,
     },
     /// A read that is kept.
     Kept {
@@ -66,7 +67,7 @@ pub enum Reply {
     /// A block of an object: how many bytes it has, and those of the window.
     Got {
         size: u32,
-        shown: Shown,
+        shown: ShownBytes,
     },
     /// A block was written, or its dbuf is kept or let go.
     Done,
