@@ -10,8 +10,8 @@ use Rattle.arc_lists.proofs.InState.{stands-member}
 use Rattle.arc_lists.proofs.Keeping.{on-place, post-of}
 use Rattle.arc_lists.proofs.Tables.{some_is}
 use Rattle.arc_lists.proofs.Walking.{newer-on}
-use Rattle.arc_core.specs.EntryRows.{parts}
-use Rattle.arc_core.specs.Seats.{posts_in, seat, seat_key}
+use Rattle.arc_core.specs.seats.EntryRows.{parts}
+use Rattle.arc_core.specs.seats.Seats.{posts_in, seat, seat_key}
 use Rattle.arc_core.proofs.EntryRows.{post-at, post-some}
 use Rattle.arc_core.proofs.SeatRows.{found-some, some-at}
 use Rattle.arc_core.proofs.entries.Entries.newer.Goals as goal
