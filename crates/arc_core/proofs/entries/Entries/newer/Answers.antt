@@ -20,7 +20,7 @@ pub returns-in-Some : goal.returns-in-Some
 returns-in-Some c =
     let t = c.self.inside in
     let k = c.args.key in
-    let found = c.in-Some.ensures in
+    let found = c.in-Some.ensures.some in
     subst (λ z. (u : State) → stands_on k (sequence_of u z.sequences) ≡ true → c.in-Some.ahead ≡ next_to k (oldest_first u z.sequences)) c.self.view_is
     (λ u there. newer-on (parts t) k found.0 found.1.0 c.in-Some.ahead u c.self.invariant.lists found.1.1 found.1.2 there)
 
