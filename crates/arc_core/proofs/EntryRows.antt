@@ -13,9 +13,9 @@ use Rattle.arc_core.specs.declared.entry.Entry.{Entry}
 use Rattle.arc_core.specs.declared.rows.Linked.{Linked}
 use Rattle.arc_core.specs.Changes.{with_place}
 use Rattle.arc_core.specs.Entries.{PlainEntries}
-use Rattle.arc_core.specs.EntryRows.{AreKeyed, EntriesKeep, parts}
+use Rattle.arc_core.specs.seats.EntryRows.{AreKeyed, EntriesKeep, parts}
 use Rattle.arc_core.specs.PlainShard.{entry_key, member_of}
-use Rattle.arc_core.specs.Seats.{Seat, Seats, entries_in, entry_in, post_in, posts_in, seat, seat_key}
+use Rattle.arc_core.specs.seats.Seats.{Seat, Seats, entries_in, entry_in, post_in, posts_in, seat, seat_key}
 
 -- the lists know each entry's key and state
 pub members-in : (ss : List Seat) → members_of (posts_in ss) ≡ map member_of (entries_in ss)

@@ -7,7 +7,7 @@ use Rattle.blk_ptr.proofs.Keys.{key_eq-is, key_lt-apart, key_lt-flip, key_lt-tra
 use Rattle.arc_lists.specs.ByKey.{with_item}
 use Rattle.arc_lists.specs.Sequences.{stands_on}
 use Rattle.arc_lists.proofs.Tables.{cases_true, length-with_item}
-use Rattle.arc_core.specs.FewKeys.{beside}
+use Rattle.arc_core.specs.seats.FewKeys.{beside}
 use Rattle.arc_core.proofs.Marking.{stands_on-with_key}
 
 -- a smaller key and a greater one come in either order

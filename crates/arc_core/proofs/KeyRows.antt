@@ -11,7 +11,7 @@ use Rattle.arc_lists.specs.Sequences.{stands_on}
 use Rattle.arc_lists.proofs.Names.{one}
 use Rattle.arc_lists.proofs.Rising.{absent-row, length-listed, listed, listed-gains, listed-loses, row-item}
 use Rattle.arc_lists.proofs.Tables.{cases_true, length-with_item, length-without}
-use Rattle.arc_core.specs.KeyRows.{AreListed, key_in, name}
+use Rattle.arc_core.specs.seats.KeyRows.{AreListed, key_in, name}
 use Rattle.arc_core.proofs.Feeding.{has_key-stands}
 
 pub spells : (r : Row Name (Unit {0})) → name (key_in r) ≡ r.key

@@ -15,7 +15,7 @@ use Rattle.arc_lists.specs.Walks.{first_of}
 use Rattle.arc_lists.proofs.Tables.{cases_true, some_is}
 use Rattle.arc_core.specs.declared.entry.Picked.{Picked}
 use Rattle.arc_core.specs.Changes.{pick_of, without_pick}
-use Rattle.arc_core.specs.KeyRows.{name}
+use Rattle.arc_core.specs.seats.KeyRows.{name}
 use Rattle.arc_core.specs.PickPlaces.{AreIndexed}
 use Rattle.arc_core.proofs.Feeding.{pick_of-append}
 

@@ -9,8 +9,8 @@ use Rattle.arc_lists.proofs.Names.{name, one}
 use Rattle.arc_lists.proofs.Rising.{has-row, length-listed, listed, listed-changes, listed-gains, listed-loses, row-item}
 use Rattle.arc_lists.proofs.Tables.{is_some_of}
 use Rattle.arc_core.specs.declared.rows.Linked.{Linked}
-use Rattle.arc_core.specs.SeatRows.{seat_of}
-use Rattle.arc_core.specs.Seats.{Seat, seat, seat_key}
+use Rattle.arc_core.specs.seats.SeatRows.{seat_of}
+use Rattle.arc_core.specs.seats.Seats.{Seat, seat, seat_key}
 
 pub spells : (r : Row Name Linked) → name (seat_key (seat_of r)) ≡ r.key
 spells r = refl

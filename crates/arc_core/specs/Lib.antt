@@ -7,14 +7,11 @@ pub mod Digests
 pub mod Edits
 pub mod Ending
 pub mod Entries
-pub mod EntryRows
 pub mod EventLog
 pub mod FeedWalk
-pub mod FewKeys
 pub mod Halts
 pub mod HistoryModel
 pub mod Keeps
-pub mod KeyRows
 pub mod Keys
 pub mod Operations
 pub mod Owed
@@ -28,9 +25,6 @@ pub mod Replay
 pub mod Rules
 pub mod Scan
 pub mod Search
-pub mod SeatLends
-pub mod SeatRows
-pub mod Seats
 pub mod ShardLog
 pub mod ShardModel
 pub mod Sound
@@ -39,3 +33,4 @@ pub mod Sparing
 pub mod Step
 pub mod TableModel
 pub mod View
+pub mod seats

@@ -6,7 +6,7 @@ use Rattle.key_table.specs.PlainTable.{AreApart as AreRowsApart, IsAmong, Row, r
 use Rattle.arc_lists.specs.declared.name.Name.{Name}
 use Rattle.arc_core.specs.declared.entry.Picked.{Picked}
 use Rattle.arc_core.specs.declared.picks.Picks.TheInside.{Inside}
-use Rattle.arc_core.specs.KeyRows.{name}
+use Rattle.arc_core.specs.seats.KeyRows.{name}
 use Rattle.arc_core.specs.Picks.{PlainPicks}
 
 -- the last pick is at the head

@@ -35,7 +35,7 @@ impl Model for Entries {
 
     ghost Value = { PlainEntries };
 
-    ghost use Rattle.arc_core.specs.EntryRows.{entries, EntriesKeep};
+    ghost use Rattle.arc_core.specs.seats.EntryRows.{entries, EntriesKeep};
 
     ghost view = { entries };
 

@@ -30,7 +30,7 @@ impl Model for Keys {
 
     ghost Value = { PlainKeys };
 
-    ghost use Rattle.arc_core.specs.FewKeys.{keys, KeysKeep};
+    ghost use Rattle.arc_core.specs.seats.FewKeys.{keys, KeysKeep};
 
     ghost view = { keys };
 

@@ -3,7 +3,7 @@ ghost use Rattle.std.specs.Prelude.{◌≡◌, ◌+◌, ◌-◌, ◌<◌, ◌≤
 ghost use Rattle.key_table.specs.PlainTable.{HasKey, IsAmong, row};
 ghost use Rattle.arc_lists.specs.Walks.{first_of};
 ghost use Rattle.arc_core.specs.Changes.{pick_of, without_pick, writing_phase};
-ghost use Rattle.arc_core.specs.KeyRows.{name};
+ghost use Rattle.arc_core.specs.seats.KeyRows.{name};
 ghost use Rattle.arc_core.specs.Picks.{no_picks};
 
 use crate::entry::{Phase, Picked};

@@ -2,7 +2,7 @@
 ghost use Rattle.std.specs.Prelude.{◌≡◌, ◌+◌, ◌-◌, ◌<◌, false, length, max, IsSome, IfNone, IfSome, OnOk, OnErr, Some, None};
 ghost use Rattle.std.specs.Borrow.{sem};
 ghost use Rattle.arc_lists.specs.ByKey.{has_key, item_at, with_item, without};
-ghost use Rattle.arc_core.specs.Seats.{no_seats, seat, seat_key};
+ghost use Rattle.arc_core.specs.seats.Seats.{no_seats, seat, seat_key};
 
 use crate::entry::Entry;
 use arc_lists::Name;
@@ -26,11 +26,11 @@ pub struct Rows {
 }
 
 impl Model for Rows {
-    ghost use Rattle.arc_core.specs.Seats.{Seats};
+    ghost use Rattle.arc_core.specs.seats.Seats.{Seats};
 
     ghost Value = { Seats };
 
-    ghost use Rattle.arc_core.specs.SeatRows.{seats, AreRowsApart};
+    ghost use Rattle.arc_core.specs.seats.SeatRows.{seats, AreRowsApart};
 
     ghost view = { seats };
 
@@ -38,7 +38,7 @@ impl Model for Rows {
 }
 
 impl Rows {
-    ghost use Rattle.arc_core.specs.SeatLends.{lends_linked};
+    ghost use Rattle.arc_core.specs.seats.SeatLends.{lends_linked};
 
     pub fn new(alloc: Global) -> Rows
         ensures { result ≡ no_seats }

@@ -1,5 +1,5 @@
 //! The four sequences, each a linked list with the newest key first.
-ghost use Rattle.std.specs.Prelude.{◌≡◌, ℕ, ◌+◌, ◌<◌, ◌≤◌, Bool, IfSome, IsSome, OnOk};
+ghost use Rattle.std.specs.Prelude.{◌≡◌, ◌≢◌, ℕ, ◌+◌, ◌<◌, ◌≤◌, Bool, IfNone, IfSome, IsSome, OnOk, Some};
 ghost use Rattle.blk_ptr.specs.declared.key.Key.{Key};
 ghost use Rattle.blk_ptr.specs.declared.state.State.{State};
 ghost use Rattle.arc_links.specs.PlainLinks.{AreApart, element_at, elements, in_front};
@@ -59,7 +59,8 @@ fn key_ahead(sequence: &Links<Key>, at: usize) -> Option<Key>
 // The key in front of this one, where it is the last of a sequence.
 fn ahead_of_last(sequence: &Links<Key>, key: Key) -> Option<Option<Key>>
     requires { AreApart sequence.now.nodes }
-    ensures { IfSome result (λ ahead. IsAheadIn key sequence.now.nodes ahead) }
+    ensures some { IfSome result (λ ahead. IsAheadIn key sequence.now.nodes ahead) }
+    ensures none { IfNone result (last_key sequence.now.nodes ≢ Some key) }
 {
     let last = sequence.last()?;
     if sequence.key_at(last) == key {
@@ -166,10 +167,11 @@ impl Queues {
         };
     }
 
-    /// The key in front of this one, where it is the last of one of the sequences.
+    /// The key in front of this one, where it is the last of one of the sequences. None exactly where it is the last of none.
     pub fn ahead_of_last(&self, key: Key) -> Option<Option<Key>>
         requires { AreNodesApart self.now }
-        ensures { IfSome result (λ ahead. (s : State) × IsAheadIn key (nodes_of s self.now) ahead) }
+        ensures some { IfSome result (λ ahead. (s : State) × IsAheadIn key (nodes_of s self.now) ahead) }
+        ensures none { IfNone result ((s : State) → last_key (nodes_of s self.now) ≢ Some key) }
     {
         let mru = ahead_of_last(&self.mru, key);
         if mru.is_some() {

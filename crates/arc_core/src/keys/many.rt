@@ -3,7 +3,7 @@ ghost use Rattle.std.specs.Prelude.{◌≡◌, ℕ, ◌+◌, ◌-◌, ◌<◌, �
 ghost use Rattle.arc_lists.specs.ByKey.{with_item};
 ghost use Rattle.arc_lists.specs.Sequences.{stands_on};
 ghost use Rattle.arc_core.specs.Keys.{empty_keys};
-ghost use Rattle.arc_core.specs.KeyRows.{AreListed, AreListedBut};
+ghost use Rattle.arc_core.specs.seats.KeyRows.{AreListed, AreListedBut};
 
 use arc_lists::Name;
 use blk_ptr::{Key, NoMemory};
@@ -24,7 +24,7 @@ impl Model for ManyKeys {
 
     ghost Value = { PlainKeys };
 
-    ghost use Rattle.arc_core.specs.KeyRows.{keys, KeysKeep};
+    ghost use Rattle.arc_core.specs.seats.KeyRows.{keys, KeysKeep};
 
     ghost view = { keys };
 

@@ -3,9 +3,9 @@ use Rattle.arc_lists.specs.ByKey.{has_key, with_item}
 use Rattle.arc_lists.proofs.Changing.{posts_with}
 use Rattle.arc_lists.proofs.Keeping.{ListsKeep-put_held, size_at-lt}
 use Rattle.arc_core.specs.declared.rows.Linked.{Linked}
-use Rattle.arc_core.specs.EntryRows.{AreKeyed, parts}
+use Rattle.arc_core.specs.seats.EntryRows.{AreKeyed, parts}
 use Rattle.arc_core.specs.PlainShard.{entry_key}
-use Rattle.arc_core.specs.Seats.{Seats, seat, seat_key}
+use Rattle.arc_core.specs.seats.Seats.{Seats, seat, seat_key}
 use Rattle.arc_core.proofs.EntryRows.{entries-come, entries-same, keeps, keyed-comes, no-post, no-seat, posts-come, posts_of}
 use Rattle.arc_core.proofs.entries.Entries.add.Goals as goal
 

@@ -7,9 +7,9 @@ use Rattle.arc_lists.proofs.Keeping.{is-on, size_at-lt}
 use Rattle.arc_lists.proofs.Placing.{member-at}
 use Rattle.arc_lists.proofs.SizeSums.{member-le}
 use Rattle.arc_core.specs.declared.rows.Linked.{Linked}
-use Rattle.arc_core.specs.EntryRows.{parts}
+use Rattle.arc_core.specs.seats.EntryRows.{parts}
 use Rattle.arc_core.specs.PlainShard.{entry_key, is_unheld}
-use Rattle.arc_core.specs.Seats.{posts_in}
+use Rattle.arc_core.specs.seats.Seats.{posts_in}
 use Rattle.arc_core.proofs.EntryRows.{entries-change, entries-same, entry-at, keeps, keyed-changes, post-at, posts-change, seat-some}
 use Rattle.arc_core.proofs.entries.Entries.change_near.Goals as goal
 

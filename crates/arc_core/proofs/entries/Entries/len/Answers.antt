@@ -1,6 +1,6 @@
 use Rattle.std.proofs.Common.{sym, ◌∙◌}
 use Rattle.std.proofs.lemmas.List.{length-map}
-use Rattle.arc_core.specs.Seats.{entry_in}
+use Rattle.arc_core.specs.seats.Seats.{entry_in}
 use Rattle.arc_core.proofs.entries.Entries.len.Goals as goal
 
 pub returns : goal.returns

@@ -10,8 +10,8 @@ use Rattle.arc_lists.proofs.InState.{stands-member}
 use Rattle.arc_lists.proofs.Keeping.{on-place, post-of}
 use Rattle.arc_lists.proofs.Tables.{some_is}
 use Rattle.arc_lists.proofs.Walking.{newer-on}
-use Rattle.arc_core.specs.EntryRows.{parts}
-use Rattle.arc_core.specs.Seats.{posts_in, seat, seat_key}
+use Rattle.arc_core.specs.seats.EntryRows.{parts}
+use Rattle.arc_core.specs.seats.Seats.{posts_in, seat, seat_key}
 use Rattle.arc_core.proofs.EntryRows.{post-at, post-some}
 use Rattle.arc_core.proofs.SeatRows.{found-some, some-at}
 use Rattle.arc_core.proofs.entries.Entries.newer.Goals as goal
@@ -20,7 +20,7 @@ pub returns-in-Some : goal.returns-in-Some
 returns-in-Some c =
     let t = c.self.inside in
     let k = c.args.key in
-    let found = c.in-Some.ensures in
+    let found = c.in-Some.ensures.some in
     subst (λ z. (u : State) → stands_on k (sequence_of u z.sequences) ≡ true → c.in-Some.ahead ≡ next_to k (oldest_first u z.sequences)) c.self.view_is
     (λ u there. newer-on (parts t) k found.0 found.1.0 c.in-Some.ahead u c.self.invariant.lists found.1.1 found.1.2 there)
 

@@ -1,7 +1,7 @@
 use Rattle.std.proofs.Common.{arith}
 use Rattle.blk_ptr.specs.declared.state.State.TheVariants.{Anon, Mru, Mfu}
 use Rattle.arc_lists.proofs.Keeping.{size_at-lt}
-use Rattle.arc_core.specs.EntryRows.{parts}
+use Rattle.arc_core.specs.seats.EntryRows.{parts}
 use Rattle.arc_core.proofs.entries.Entries.pick.Goals as goal
 
 -- each size is far from the end of its type

@@ -5,9 +5,9 @@ use Rattle.arc_lists.proofs.Changing.{posts_with}
 use Rattle.arc_lists.proofs.Keeping.{ListsKeep-take_out, is-on, left-of}
 use Rattle.arc_lists.proofs.Placing.{member-at}
 use Rattle.arc_lists.proofs.SizeSums.{member-le}
-use Rattle.arc_core.specs.EntryRows.{AreKeyed, parts}
+use Rattle.arc_core.specs.seats.EntryRows.{AreKeyed, parts}
 use Rattle.arc_core.specs.PlainShard.{entry_key}
-use Rattle.arc_core.specs.Seats.{Seats, posts_in, seat_key}
+use Rattle.arc_core.specs.seats.Seats.{Seats, posts_in, seat_key}
 use Rattle.arc_core.proofs.EntryRows.{entries-go, entries-same, keeps, keyed-goes, post-at, posts-go, posts_of, seat-some}
 use Rattle.arc_core.proofs.entries.Entries.remove.Goals as goal
 

@@ -3,8 +3,8 @@ use Rattle.std.proofs.lemmas.List.{length-map}
 use Rattle.arc_lists.specs.Queues.{HaveCapacity}
 use Rattle.arc_lists.proofs.Keeping.{ListsKeep-reserve}
 use Rattle.arc_lists.proofs.Standing.{HaveCapacity-le}
-use Rattle.arc_core.specs.EntryRows.{AreKeyed, parts}
-use Rattle.arc_core.specs.Seats.{Seats, post_in, posts_in}
+use Rattle.arc_core.specs.seats.EntryRows.{AreKeyed, parts}
+use Rattle.arc_core.specs.seats.Seats.{Seats, post_in, posts_in}
 use Rattle.arc_core.proofs.EntryRows.{keeps, posts_of, reserved-le}
 use Rattle.arc_core.proofs.entries.Entries.reserve.Goals as goal
 

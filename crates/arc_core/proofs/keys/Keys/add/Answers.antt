@@ -1,7 +1,7 @@
 use Rattle.std.proofs.Common.{◌≡◌, false, sym, ap, subst, ◌∙◌}
 use Rattle.arc_lists.specs.ByKey.{with_item}
 use Rattle.arc_lists.specs.Sequences.{stands_on}
-use Rattle.arc_core.specs.FewKeys.{beside}
+use Rattle.arc_core.specs.seats.FewKeys.{beside}
 use Rattle.arc_core.proofs.FewKeys.{absent-more, beside-few, beside-more}
 use Rattle.arc_core.proofs.keys.Keys.add.Goals as goal
 

@@ -1,6 +1,6 @@
 use Rattle.std.proofs.Common.{◌≡◌, vec_len, ap, ◌∙◌, arith}
 use Rattle.std.proofs.lemmas.Bool.Decides.{nat_tests}
-use Rattle.arc_core.specs.FewKeys.{beside}
+use Rattle.arc_core.specs.seats.FewKeys.{beside}
 use Rattle.arc_core.proofs.FewKeys.{no-keys}
 use Rattle.arc_core.proofs.keys.Keys.is_empty.Goals as goal
 

@@ -1,5 +1,5 @@
 use Rattle.std.proofs.Common.{◌∷◌, length, sym, ap, subst, ◌∙◌, arith, refl}
-use Rattle.arc_core.specs.KeyRows.{AreListed}
+use Rattle.arc_core.specs.seats.KeyRows.{AreListed}
 use Rattle.arc_core.proofs.KeyRows.{listed-none, none-left, listed-swap}
 use Rattle.arc_core.proofs.keys.many.take_all.Goals as goal
 

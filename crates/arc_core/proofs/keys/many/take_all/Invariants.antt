@@ -1,5 +1,5 @@
 use Rattle.std.proofs.Common.{◌≡◌, ◌+◌, length, vec_capacity}
-use Rattle.arc_core.specs.KeyRows.{AreListed}
+use Rattle.arc_core.specs.seats.KeyRows.{AreListed}
 use Rattle.arc_core.proofs.keys.many.take_all.Given as goal
 
 abbrev pub invariant-loop-key : goal.invariant-loop-key

@@ -1,6 +1,6 @@
 use Rattle.std.proofs.Common.{sym, ◌∙◌, arith}
 use Rattle.key_table.specs.PlainTable.{HasKey}
-use Rattle.arc_core.specs.KeyRows.{name}
+use Rattle.arc_core.specs.seats.KeyRows.{name}
 use Rattle.arc_core.proofs.KeyRows.{found-has, found-none, listed-off, listed-past, shorter}
 use Rattle.arc_core.proofs.keys.many.take_off.Goals as goal
 

@@ -1,6 +1,6 @@
 use Rattle.std.proofs.Common.{◌≡◌, ◌-◌, false, sym, ap, subst}
 use Rattle.arc_lists.specs.ByKey.{has_key}
-use Rattle.arc_core.specs.Seats.{seat_key}
+use Rattle.arc_core.specs.seats.Seats.{seat_key}
 use Rattle.arc_core.proofs.SeatRows.{comes, seated, no-name}
 use Rattle.arc_core.proofs.rows.Rows.add.Goals as goal
 

@@ -2,7 +2,7 @@ use Rattle.std.proofs.Common.{◌≡◌, None, Some}
 use Rattle.key_table.specs.PlainTable.{HasKey, IsAmong, row}
 use Rattle.arc_lists.specs.ByKey.{item_at}
 use Rattle.arc_lists.proofs.Names.{name}
-use Rattle.arc_core.specs.Seats.{seat, seat_key}
+use Rattle.arc_core.specs.seats.Seats.{seat, seat_key}
 use Rattle.arc_core.proofs.SeatRows.{if-none, if-some, seat-nowhere, seat-there, seated}
 use Rattle.arc_core.proofs.rows.Rows.find.Goals as goal
 

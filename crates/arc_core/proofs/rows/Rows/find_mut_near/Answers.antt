@@ -2,7 +2,7 @@ use Rattle.std.proofs.Common.{IsSome, refl, sym, ap, subst}
 use Rattle.key_table.specs.PlainTable.{HasKey}
 use Rattle.arc_lists.specs.ByKey.{item_at}
 use Rattle.arc_lists.proofs.Names.{name}
-use Rattle.arc_core.specs.Seats.{seat_key}
+use Rattle.arc_core.specs.seats.Seats.{seat_key}
 use Rattle.arc_core.proofs.SeatRows.{has-name, seat-there, turns}
 use Rattle.arc_core.proofs.rows.Rows.find_mut_near.Goals as goal
 

@@ -1,6 +1,6 @@
 use Rattle.std.proofs.Common.{◌+◌, IsSome, sym, ap, subst}
 use Rattle.arc_lists.specs.ByKey.{item_at}
-use Rattle.arc_core.specs.Seats.{seat_key}
+use Rattle.arc_core.specs.seats.Seats.{seat_key}
 use Rattle.arc_core.proofs.SeatRows.{goes, has-name, seat-there}
 use Rattle.arc_core.proofs.rows.Rows.remove.Goals as goal
 

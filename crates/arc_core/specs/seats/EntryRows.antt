@@ -6,7 +6,7 @@ use Rattle.arc_lists.specs.Kept.{ListsKeep, Parts}
 use Rattle.arc_lists.specs.Queues.{sequences_in, size_at}
 use Rattle.arc_core.specs.declared.entries.Entries.TheInside.{Inside}
 use Rattle.arc_core.specs.Entries.{PlainEntries, bytes_in}
-use Rattle.arc_core.specs.Seats.{Seat, entries_in, posts_in}
+use Rattle.arc_core.specs.seats.Seats.{Seat, entries_in, posts_in}
 
 abbrev pub entries : Inside → PlainEntries
 entries t = record { items = entries_in t.rows.seats; sequences = sequences_in t.queues; p = t.p; c = t.c; spare = t.rows.spare }

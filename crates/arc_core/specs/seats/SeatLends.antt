@@ -5,7 +5,7 @@ use Rattle.arc_core.specs.declared.rows.Linked.{Linked}
 use Rattle.arc_core.specs.contracts.rows.Rows.{the_row}
 use Rattle.arc_core.specs.contracts.rows.Linked.{the_row as linked_row}
 use Rattle.arc_lists.specs.ByKey.{with_change}
-use Rattle.arc_core.specs.Seats.{Seats, seat, seat_key}
+use Rattle.arc_core.specs.seats.Seats.{Seats, seat, seat_key}
 
 -- the rows with this in the place of a key's
 abbrev pub with_linked : Seats → Key → Linked → Seats

@@ -5,7 +5,7 @@ use Rattle.arc_lists.specs.declared.name.Name.{Name}
 use Rattle.arc_lists.specs.ByKey.{in_order}
 use Rattle.arc_core.specs.declared.rows.Linked.{Linked}
 use Rattle.arc_core.specs.declared.rows.Rows.TheInside.{Inside}
-use Rattle.arc_core.specs.Seats.{Seat, Seats, seat, seat_key}
+use Rattle.arc_core.specs.seats.Seats.{Seat, Seats, seat, seat_key}
 
 -- the seat that a row stands for
 abbrev pub seat_of : Row Name Linked → Seat
