@@ -1,3 +1,6 @@
+pub mod DirtyBlocks
+pub mod DirtyNeed
+pub mod DirtySizes
 pub mod EventLines
 pub mod HeldReads
 pub mod Mapped
@@ -5,5 +8,14 @@ pub mod ObjectLines
 pub mod PinLines
 pub mod PutLines
 pub mod Refusals
+pub mod Room
+pub mod RoomGroups
+pub mod RoomInTurn
+pub mod RoomLines
+pub mod RoomLists
+pub mod RoomNotes
+pub mod RoomSyncs
+pub mod RoomTogether
 pub mod RunLines
 pub mod Statuses
+pub mod Sums

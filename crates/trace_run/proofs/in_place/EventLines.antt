@@ -40,7 +40,7 @@ IsPutOf callers lines (events.End n) = n ≡ callers
 abbrev pub IsOfLines : (callers : ℕ) → List Op → CellEvent → Type 0
 IsOfLines callers lines e = (is_synced e ≡ false) × IsPutOf callers lines e
 
-all-filter : {X : Type 0} (P : X → Type 0) (p : X → Bool) (xs : List X) → AllByRecursion P xs → AllByRecursion P (filter p xs)
+pub all-filter : {X : Type 0} (P : X → Type 0) (p : X → Bool) (xs : List X) → AllByRecursion P xs → AllByRecursion P (filter p xs)
 all-filter P p [] all = tt
 all-filter P p (x ∷ xs) all = elim (cases_true (p x)) [
   | inl passes ↦ rw passes (all.0, all-filter P p xs all.1)

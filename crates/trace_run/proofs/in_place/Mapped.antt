@@ -139,7 +139,7 @@ effects at ds (End n) = ends at ds
 
 -- ---- a history
 
-mapped-all : (at : Oid) (o : Outline) (es : List CellEvent) → mapped_at at (after_all o es) ≡ mapped_through at (mapped_at at o) es
+pub mapped-all : (at : Oid) (o : Outline) (es : List CellEvent) → mapped_at at (after_all o es) ≡ mapped_through at (mapped_at at o) es
 mapped-all at o [] = refl
 mapped-all at o (e ∷ es) =
     mapped-all at (after o e) es ∙ ap (λ (m : Option Mapped). mapped_through at m es) (touches at (o.events + 1) (use_of e) (outline.effect o.dbufs e) ∙ effects at o.dbufs e)
