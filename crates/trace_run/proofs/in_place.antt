@@ -1,9 +1,16 @@
 pub mod EventLines
+pub mod FedFronts
 pub mod HeldReads
 pub mod Mapped
 pub mod ObjectLines
 pub mod PinLines
 pub mod PutLines
+pub mod ReadableFront
 pub mod Refusals
+pub mod Room
 pub mod RunLines
+pub mod RunLists
 pub mod Statuses
+pub mod SyncedAlone
+pub mod SyncedBlocks
+pub mod SyncedTold

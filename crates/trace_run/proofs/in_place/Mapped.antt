@@ -139,10 +139,13 @@ effects at ds (End n) = ends at ds
 
 -- ---- a history
 
+pub mapped-after : (at : Oid) (o : Outline) (e : CellEvent) → mapped_at at (after o e) ≡ mapped_then at (mapped_at at o) e
+mapped-after at o e = touches at (o.events + 1) (use_of e) (outline.effect o.dbufs e) ∙ effects at o.dbufs e
+
 mapped-all : (at : Oid) (o : Outline) (es : List CellEvent) → mapped_at at (after_all o es) ≡ mapped_through at (mapped_at at o) es
 mapped-all at o [] = refl
 mapped-all at o (e ∷ es) =
-    mapped-all at (after o e) es ∙ ap (λ (m : Option Mapped). mapped_through at m es) (touches at (o.events + 1) (use_of e) (outline.effect o.dbufs e) ∙ effects at o.dbufs e)
+    mapped-all at (after o e) es ∙ ap (λ (m : Option Mapped). mapped_through at m es) (mapped-after at o e)
 
 -- what it has at first
 abbrev pub opened_mapped : Oid → List Mapping → Option Mapped
@@ -321,11 +324,11 @@ EndsInPut at last (Evict n b) = Unit {0}
 EndsInPut at last (Synced n b ptr) = Unit {0}
 EndsInPut at last (End n) = Unit {0}
 
-abbrev EndsIn : (last : ℕ) → Option Mapped → Type 0
+abbrev pub EndsIn : (last : ℕ) → Option Mapped → Type 0
 EndsIn last o = IfSome o (λ m. last ≤ mapped_size m)
 
 -- and inside what a patch leaves
-patched-in : (last : ℕ) (m : Option Mapped) → EndsIn last m → EndsIn last (option_map (λ x. Dirty (mapped_size x)) m)
+pub patched-in : (last : ℕ) (m : Option Mapped) → EndsIn last m → EndsIn last (option_map (λ x. Dirty (mapped_size x)) m)
 patched-in last None ends = tt
 patched-in last (Some m) ends = ends
 

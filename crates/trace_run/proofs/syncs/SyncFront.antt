@@ -42,11 +42,11 @@ put-front at m bytes image low inside =
 
 -- ---- blocks that are written from a place on
 
-record IsWrittenFrom (m : ℕ) (image now : List ℕ) : Type 0 where
+pub record IsWrittenFrom (m : ℕ) (image now : List ℕ) : Type 0 where
   pub long : length now ≡ length image
   pub front : take m now ≡ take m image
 
-written-from : (group place m : ℕ) (cells : List OnHeap) (dues : List Due) (image : List ℕ) → m ≤ place → place + need_of cells dues ≤ length image → IsWrittenFrom m image (written_over (items_from group place cells dues) image)
+pub written-from : (group place m : ℕ) (cells : List OnHeap) (dues : List Due) (image : List ℕ) → m ≤ place → place + need_of cells dues ≤ length image → IsWrittenFrom m image (written_over (items_from group place cells dues) image)
 written-from group place m cells [] image low inside = record { long = refl; front = refl }
 written-from group place m cells (due ∷ dues) image low inside =
     let bytes : List ℕ = bytes_of_due cells due in
