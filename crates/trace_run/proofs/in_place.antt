@@ -1,3 +1,6 @@
+pub mod DirtyBlocks
+pub mod DirtyNeed
+pub mod DirtySizes
 pub mod EventLines
 pub mod FedFronts
 pub mod HeldReads
@@ -8,9 +11,17 @@ pub mod PutLines
 pub mod ReadableFront
 pub mod Refusals
 pub mod Room
+pub mod RoomGroups
+pub mod RoomInTurn
+pub mod RoomLines
+pub mod RoomLists
+pub mod RoomNotes
+pub mod RoomSyncs
+pub mod RoomTogether
 pub mod RunLines
 pub mod RunLists
 pub mod Statuses
+pub mod Sums
 pub mod SyncedAlone
 pub mod SyncedBlocks
 pub mod SyncedTold

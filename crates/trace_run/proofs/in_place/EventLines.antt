@@ -36,7 +36,7 @@ IsOfLines callers lines (events.Evict n b) = Unit {0}
 IsOfLines callers lines (events.Synced n b ptr) = n ≡ callers
 IsOfLines callers lines (events.End n) = n ≡ callers
 
-all-filter : {X : Type 0} (P : X → Type 0) (p : X → Bool) (xs : List X) → AllByRecursion P xs → AllByRecursion P (filter p xs)
+pub all-filter : {X : Type 0} (P : X → Type 0) (p : X → Bool) (xs : List X) → AllByRecursion P xs → AllByRecursion P (filter p xs)
 all-filter P p [] all = tt
 all-filter P p (x ∷ xs) all = elim (cases_true (p x)) [
   | inl passes ↦ rw passes (all.0, all-filter P p xs all.1)

@@ -142,7 +142,7 @@ effects at ds (End n) = ends at ds
 pub mapped-after : (at : Oid) (o : Outline) (e : CellEvent) → mapped_at at (after o e) ≡ mapped_then at (mapped_at at o) e
 mapped-after at o e = touches at (o.events + 1) (use_of e) (outline.effect o.dbufs e) ∙ effects at o.dbufs e
 
-mapped-all : (at : Oid) (o : Outline) (es : List CellEvent) → mapped_at at (after_all o es) ≡ mapped_through at (mapped_at at o) es
+pub mapped-all : (at : Oid) (o : Outline) (es : List CellEvent) → mapped_at at (after_all o es) ≡ mapped_through at (mapped_at at o) es
 mapped-all at o [] = refl
 mapped-all at o (e ∷ es) =
     mapped-all at (after o e) es ∙ ap (λ (m : Option Mapped). mapped_through at m es) (mapped-after at o e)
