@@ -298,7 +298,8 @@ module _ (len : ℕ) (told : (k : ℕ) → Option (List ℕ)) where
         let at_first = begins first.least in
         let start : HaveSynced [] (between_groups before 1 place) = record { image = image; tells = tells; size = size; born = omega arith; aligned = at_first.0; inside = at_first.1; notes = tt } in
         let all = subst (AllTold []) (flat-groups ls) (groups-told [] (groups_of ls) (between_groups before 1 place) reached w (quiet-groups trace.config ls fits) start) in
-        all-told-at [] ls all k l at inside
+        let here : 0 + k ≡ k = omega arith in
+        subst (λ (n : ℕ). TellsSynced (told n) (take k ls)) here (all-told-at [] ls all k l at inside)
       where
         begins : ((place ≡ 0) ⊎ ((j : ℕ) × (ptr : Ptr) × (slice_get trace.blocks j ≡ Some ptr) × IsValid len ptr.key × (place ≡ key_end ptr.key))) → (place % sector ≡ 0) × (place ≤ len)
         begins (inl none) = (ap (λ (n : ℕ). n % sector) none, omega (arith, none))
