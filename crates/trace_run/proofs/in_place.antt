@@ -1,3 +1,4 @@
+pub mod AloneStands
 pub mod EventLines
 pub mod HeldReads
 pub mod Mapped
@@ -7,3 +8,5 @@ pub mod PutLines
 pub mod Refusals
 pub mod RunLines
 pub mod Statuses
+pub mod SyncedAlone
+pub mod SyncedBlocks
