@@ -1,3 +1,4 @@
+pub mod AloneStands
 pub mod DirtyBlocks
 pub mod DirtyNeed
 pub mod DirtySizes

@@ -27,7 +27,7 @@ take-take (suc m) (suc n) [] below = refl
 take-take (suc m) (suc n) (x ∷ xs) below = ap (λ (l : List ℕ). x ∷ l) (take-take m n xs (omega (arith, below)))
 
 -- the same up to a place is the same up to each before it
-front-below : (m n : ℕ) (xs ys : List ℕ) → m ≤ n → take n xs ≡ take n ys → take m xs ≡ take m ys
+pub front-below : (m n : ℕ) (xs ys : List ℕ) → m ≤ n → take n xs ≡ take n ys → take m xs ≡ take m ys
 front-below m n xs ys below same = sym (take-take m n xs below) ∙ (ap (take m) same ∙ take-take m n ys below)
 
 put-front : (at m : ℕ) (bytes image : List ℕ) → m ≤ at → at + length bytes ≤ length image → take m (put at bytes image) ≡ take m image
