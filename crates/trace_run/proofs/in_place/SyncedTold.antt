@@ -180,13 +180,12 @@ module _ (len : ℕ) (told : (k : ℕ) → Option (List ℕ)) where
   in-group image before [] rest begun notes quiet all = subst (λ (ls : List Line). AllTold ls rest) (append-nil before) all
   in-group image before (l ∷ left) rest begun notes quiet all =
       let here : length before + 0 ≡ length before = omega arith in
-      let long = length-append before (l ∷ []) in
-      (
+      let long = length-append before (l ∷ []) in (
         λ inside. record { image = image; is = ap told (sym here) ∙ begun 0 (omega arith); notes = notes },
         in-group image (before ++ l ∷ []) left rest
-        (λ j lt. let shift : length (before ++ l ∷ []) + j ≡ length before + suc j = omega (arith, long) in ap told shift ∙ begun (suc j) (omega (arith, lt)))
-        (all-fed (λ note. IsReadableNote len image note.event) before l notes (subst (AllByRecursion (λ note. IsReadableNote len image note.event)) (sym (quiet-notes l quiet.0)) tt)) quiet.1
-        (subst (λ (ls : List Line). AllTold ls rest) (sym (append_assoc before (l ∷ []) left)) all),
+            (λ j lt. let shift : length (before ++ l ∷ []) + j ≡ length before + suc j = omega (arith, long) in ap told shift ∙ begun (suc j) (omega (arith, lt)))
+            (all-fed (λ note. IsReadableNote len image note.event) before l notes (subst (AllByRecursion (λ note. IsReadableNote len image note.event)) (sym (quiet-notes l quiet.0)) tt)) quiet.1
+            (subst (λ (ls : List Line). AllTold ls rest) (sym (append_assoc before (l ∷ []) left)) all),
       )
 
   module _ {P : Type 0} (pool : Ghosts P) (told_len : (p : P) (bytes : List ℕ) → pool.told p ≡ Some bytes → length bytes ≡ pool.size p) (trace : Trace) (closed : List OnHeap) where
