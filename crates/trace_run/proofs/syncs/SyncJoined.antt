@@ -319,6 +319,7 @@ module _ (cache : Cache) (p : PartyPlace) (others : List PartyPlace) (stands : S
           cells = w.cells;
           dues = w.dues;
           dirty = w.dirty;
+          sized = w.sized;
           fits = w.fits;
           turns = syncs-joined w.cells _ w.turns (done-inside w.cells w.dues w.turns.all w.dirty) news z parts;
           told = w.told;
