@@ -1,12 +1,15 @@
+pub mod AloneStands
 pub mod DirtyBlocks
 pub mod DirtyNeed
 pub mod DirtySizes
 pub mod EventLines
+pub mod FedFronts
 pub mod HeldReads
 pub mod Mapped
 pub mod ObjectLines
 pub mod PinLines
 pub mod PutLines
+pub mod ReadableFront
 pub mod Refusals
 pub mod Room
 pub mod RoomGroups
@@ -17,5 +20,9 @@ pub mod RoomNotes
 pub mod RoomSyncs
 pub mod RoomTogether
 pub mod RunLines
+pub mod RunLists
 pub mod Statuses
 pub mod Sums
+pub mod SyncedAlone
+pub mod SyncedBlocks
+pub mod SyncedTold

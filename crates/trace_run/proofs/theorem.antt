@@ -1,4 +1,5 @@
 pub mod AnsweredCells
+pub mod AnsweredFronts
 pub mod CellActs
 pub mod CellRun
 pub mod CloseLemmas
@@ -21,6 +22,7 @@ pub mod RestLemmas
 pub mod RunEnds
 pub mod SequenceClose
 pub mod SourceLemmas
+pub mod SyncCuts
 pub mod TogetherRun
 pub mod TurnRun
 pub mod ToldLemmas

@@ -111,6 +111,8 @@ pub record SyncsJoined (cache : Cache) (tick : ℕ) (p : PartyPlace) (olds : Lis
   -- where all had seen the same, it is that
   pub same : (before : ℕ → List Line) → IsLevel cache.config before p → AllByRecursion (IsLevel cache.config before) olds → (shard : ℕ) → front shard ≡ events_in (before shard)
   pub same_cells : (entries : ℕ → List Line) → SeesEntries cache.config entries p → AllByRecursion (SeesEntries cache.config entries) olds → (i : ℕ) (c : OnHeap) → slice_get cells i ≡ Some c → lines_of c.value.history ≡ entries i
+  -- each of them had seen no more of a cell than was done to it before
+  pub known : (i : ℕ) (c : OnHeap) → slice_get cells i ≡ Some c → AllByRecursion (λ o. StartsWith (lines_of c.value.history) (front_of i o.own.seen)) olds
   pub count : length cells ≡ cache.config.cells
   pub sound : (i : ℕ) (c : OnHeap) → slice_get cells i ≡ Some c → IsSound c.value
   pub began : (i : ℕ) (c : OnHeap) → slice_get cells i ≡ Some c → opening_numbers c.value.limit c.value.opening ≡ slice_index_or p.own.about.openings i []

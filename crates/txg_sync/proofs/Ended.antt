@@ -7,9 +7,9 @@ use Rattle.arc_core.specs.declared.config.Config.{Config}
 use Rattle.arc_table.specs.Cache.{Cache}
 use Rattle.dbuf_cells.specs.InHand.{HasDone}
 use Rattle.dbuf_cells.specs.Turns.{OnHeap, PartyPlace}
-use Rattle.txg_sync.specs.InHand.{HasTakenAll, InSync, MayGiveAll, SyncsInHand, turns_below}
+use Rattle.txg_sync.specs.InHand.{AreDueIn, HasTakenAll, InSync, MayGiveAll, SyncsInHand, turns_below}
 use Rattle.txg_sync.specs.Items.{SyncItem, need_of}
-use Rattle.txg_sync.specs.Syncing.{AnswersWith, AreAllDirty, RefusedAt, RefusedFirst, Same, StopsAt}
+use Rattle.txg_sync.specs.Syncing.{AnswersWith, AreAllDirty, AreSized, RefusedAt, RefusedFirst, Same, StopsAt}
 use Rattle.txg_sync.specs.Turns.{GivesFrom, SyncsCells, TakesFrom, synced_in}
 use Rattle.txg_sync.specs.Writing.{AnswersDues, StopsIn, sync_fault_of}
 use Rattle.txg_sync.specs.declared.due.Due.{Due}
@@ -66,6 +66,7 @@ module _ {P : Type 0} (pool : Ghosts P) (group next : ℕ) (before now : P) (g :
     cells = a.cells;
     dues = a.dues;
     dirty = a.dirty;
+    sized = a.sized;
     fits = a.fits;
     turns = goes a.cells _ _ a.turns;
     told = a.told;
@@ -95,6 +96,11 @@ module _ {P : Type 0} (pool : Ghosts P) (group next : ℕ) (before now : P) (g :
 
 -- ---- with all cells in hand
 
+-- what is left to be written has such sizes
+pub sized-all : (cells : List OnHeap) (dues : List Due) → AreDueIn cells dues → AreSized cells dues
+sized-all cells [] due = tt
+sized-all cells (d ∷ ds) due = (due.0.sized, sized-all cells ds due.1)
+
 -- nothing was done yet
 pub nothing-done : (cache : Cache) (tick : ℕ) (cells : List OnHeap) (q : PartyPlace) → HasTakenAll cache cells q → InSync cache tick cells cells q q [] Same
 nothing-done cache tick cells q taken = record { reached = q; inserts = refl; besides = refl; holding = taken.holding; count = refl; cells = taken.cells }
@@ -118,12 +124,13 @@ module _ {P : Type 0} (pool : Ghosts P) (cache : Cache) (group tick next : ℕ) 
     }
 
     -- all of them were written
-    pub dues-written : (place : ℕ) (done : Synced) → AnswersDues pool cache group tick next cells nows dues before now p q (Ok place) → done.blocks ≡ length dues → done.bytes ≡ place - next → done.next ≡ place
+    pub dues-written : (place : ℕ) (done : Synced) → AreSized cells dues → AnswersDues pool cache group tick next cells nows dues before now p q (Ok place) → done.blocks ≡ length dues → done.bytes ≡ place - next → done.next ≡ place
         → AnswersWith pool group next before now cache.config InAll (Ok done)
-    dues-written place done a blocks bytes behind = record {
+    dues-written place done sized a blocks bytes behind = record {
       cells = cells;
       dues = dues;
       dirty = dirty;
+      sized = sized;
       fits = fits;
       turns = (refl, a.sync);
       told = a.told;

@@ -1,12 +1,14 @@
 -- What `sync` answers.
 use Rattle.std.specs.Prelude.{◌≡◌, ◌⊎◌, ℕ, ◌+◌, ◌-◌, ◌<◌, ◌≤◌, List, [], ◌∷◌, ◌++◌, length, Option, None, Some, Result, Ok, Err, IsPermutation, IsSortedBy}
+use Rattle.std.specs.List.{AllByRecursion}
+use Rattle.blk_ptr.specs.Size.{IsBlockSize}
 use Rattle.vdev_io.specs.Device.{IsTorn}
 use Rattle.vdev_io.specs.Faults.{CountsOne}
 use Rattle.vdev_io.specs.declared.pool.Pool.{Ghosts}
 use Rattle.arc_core.specs.declared.config.Config.{Config}
 use Rattle.arc_table.specs.Both.{Does}
 use Rattle.dbuf_cells.specs.Turns.{OnHeap, PartyPlace, dbuf_meanings}
-use Rattle.txg_sync.specs.Items.{SyncItem, due_lt, dues_from, at_place, items_from, need_of, tells_written}
+use Rattle.txg_sync.specs.Items.{SyncItem, at_place, bytes_of_due, due_lt, dues_from, items_from, need_of, tells_written}
 use Rattle.txg_sync.specs.Turns.{SyncsCells}
 use Rattle.txg_sync.specs.declared.due.Due.{Due}
 use Rattle.txg_sync.specs.declared.syncing.SyncFault.{SyncFault}
@@ -21,6 +23,10 @@ Same p q = q ≡ p
 pub record AreAllDirty (cells : List OnHeap) (dues : List Due) : Type 0 where
   pub rising : IsSortedBy due_lt dues
   pub all : IsPermutation (dues_from 0 cells) dues
+
+-- each of these blocks has a size that a block may have
+abbrev pub AreSized : List OnHeap → List Due → Type 0
+AreSized cells = AllByRecursion (λ due. IsBlockSize (length (bytes_of_due cells due)))
 
 -- the bucket and the shard of the block's key were taken and given back, without an event
 abbrev pub Looked : Config → SyncItem → PartyPlace → PartyPlace → Type 0
@@ -53,6 +59,8 @@ module _ {P : Type 0} (pool : Ghosts P) (group next : ℕ) (before now : P) (g :
     pub cells : List OnHeap
     pub dues : List Due
     pub dirty : AreAllDirty cells dues
+    -- each has a size that a block may have
+    pub sized : AreSized cells dues
     pub fits : need_of cells dues ≤ pool.size before - next
     pub turns : Turns cells (items_from group next cells dues) Same
     pub told : pool.told now ≡ tells_written (items_from group next cells dues) (pool.told before)

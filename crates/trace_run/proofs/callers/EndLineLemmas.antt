@@ -5,8 +5,12 @@ use Rattle.blk_ptr.specs.Size.{sector}
 use Rattle.arc_core.specs.declared.config.Config.{Config}
 use Rattle.arc_core.specs.declared.event.Event.{Event}
 use Rattle.arc_table.specs.Cache.{Cache}
+use Rattle.arc_table.specs.declared.view.Line.{Line as Seen}
+use Rattle.arc_table.specs.Geometry.{IsCell}
 use Rattle.dbuf_cells.specs.Turns.{OnHeap}
+use Rattle.dbuf_state.specs.declared.event.CellEvent.{CellEvent}
 use Rattle.txg_sync.specs.Items.{SyncItem}
+use Rattle.txg_sync.specs.Turns.{synced_in}
 use Rattle.txg_sync.specs.declared.syncing.SyncFault.{SyncFault}
 use Rattle.txg_sync.specs.declared.syncing.SyncFault.TheVariants as fault
 use Rattle.txg_sync.specs.declared.syncing.Synced.{Synced as SyncAnswer}
@@ -19,17 +23,20 @@ use Rattle.vdev_io.specs.declared.pool.Pool.{Ghosts}
 use Rattle.trace_run.specs.declared.groups.Crew.{Crew}
 use Rattle.trace_run.specs.declared.ran.Ending.{Ending}
 use Rattle.trace_run.specs.declared.ran.Ending.TheVariants.{Fork, Full, Sync, Whole}
-use Rattle.trace_run.specs.Deeds.{HasToldOthers, acts_of_events}
+use Rattle.trace_run.specs.dbufs.CellEnds.{done_by}
+use Rattle.trace_run.specs.Deeds.{HasToldOthers, acts_of_events, events_of_cell}
 use Rattle.trace_run.specs.Meeting.{resizes_in}
 use Rattle.trace_run.specs.dbufs.Objects.{Line, Work, no_work}
 use Rattle.trace_run.specs.Openings.{Knows, openings_of}
 use Rattle.trace_run.specs.RunWork.{RunWork}
-use Rattle.trace_run.specs.Syncing.{SyncedJoined, SyncsJoined, inserts_in, noted_of}
+use Rattle.trace_run.specs.Syncing.{SyncedJoined, SyncsJoined, inserts_in, lines_of, noted_of}
 use Rattle.trace_run.specs.callers.Group.{LeavesFront}
 use Rattle.trace_run.specs.callers.Groups.{DidCap, DidEndLine, DidSync, EndsLines, MaySync, StoodSo, TellsSync, goes_on}
 use Rattle.trace_run.specs.callers.Together.{EndsGroup, BetweenGroups, OfCells, StoppedAt, StopsSync, SyncsGroup, groups_begun, groups_done}
-use Rattle.trace_run.proofs.callers.EndedLemmas.{EndsSo, MadeWork, StopsSo, cap-ends, with_stop}
+use Rattle.trace_run.proofs.callers.EndedLemmas.{EndsSo, JoinedCell, MadeWork, StopsSo, cap-ends, with_stop}
 use Rattle.trace_run.proofs.callers.FrontLemmas.{front-same}
+use Rattle.trace_run.proofs.callers.GroupLists.{slice-there}
+use Rattle.trace_run.proofs.syncs.SyncTold.{noted-there}
 use Rattle.trace_run.proofs.syncs.SyncTurned.{AreToldOf, more-acts, more-noted, none-own, sync-of, sync-stood, sync_work, work-fits}
 
 -- The pool is as it was, and has counted nothing since.
@@ -96,6 +103,19 @@ pub record Halted {P : Type 0} (cache : Cache) (pools : Ghosts P) (trace : Trace
 
 module _ (cache : Cache) (old new : Crew OnHeap) (number : old.feeder.number ≡ cache.config.callers) (kept : new.kept.items ≡ old.kept.items) (t : ℕ) (cells : List OnHeap) (xs : List SyncItem)
     (j : SyncsJoined cache t old.feeder old.parties.items new.feeder new.parties.items cells xs) where
+  -- what all had seen of a cell as they joined is what the sync took
+  sync-joined : (i : ℕ) → IsCell cache.config i → (all : List Seen) × JoinedCell cache.config i (sync_work cache.config.callers xs j.inserts) old new all
+  sync-joined i range =
+      let c = slice-there cells i (let n = j.count in omega (arith, range, n)) in
+      let h : List CellEvent = c.0.value.history in (
+        lines_of h,
+        record {
+          olds = j.known i c.0 c.1;
+          level = j.noted i c.0 c.1 ∙ ap (λ (es : List CellEvent). lines_of h ++ lines_of es) (ap (λ (n : ℕ). synced_in n i xs) number ∙ sym (noted-there cache.config cache.config.callers i xs));
+          fed = inr (h, refl, λ noted made. subst (λ (n : ℕ). done_by n h ≡ events_of_cell i noted) number (j.did.0 noted made i c.0 c.1));
+        },
+      )
+
   abbrev sync-made : MadeWork cache (sync_work cache.config.callers xs j.inserts) (λ shard. inserts_in cache.config t xs shard (j.front shard)) old new
   sync-made = record {
     lines = j.lines;
@@ -116,6 +136,7 @@ module _ (cache : Cache) (old new : Crew OnHeap) (number : old.feeder.number ≡
     behind = j.behind;
     told = λ acts noted told. subst (λ (n : ℕ). HasToldOthers cache.config (acts ++ acts_of_events j.inserts) (noted ++ noted_of n xs) new.feeder) number (j.told acts noted told);
     met = j.met;
+    joined = sync-joined;
     keeps = j.keeps;
     inserted = more-acts cache t old.feeder old.parties.items new.feeder new.parties.items cells xs j;
   }

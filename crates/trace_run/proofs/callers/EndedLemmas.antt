@@ -1,5 +1,5 @@
 -- Several callers behind what the feeder did for the line that ends their group, while all had joined it: the line is answered, or a sync stopped there.
-use Rattle.std.proofs.Common.{◌≡◌, ℕ, zero, suc, ◌==◌, ◌<◌, ◌≤◌, nat_lt, Bool, true, false, if◌then◌else◌, List, [], ◌∷◌, ◌++◌, Option, None, length, take, refl, sym, ap, ◌∙◌, subst, inl, inr, arith, append-nil, append_assoc, length-append, eq-eqb, ◌+◌, ne_eqb}
+use Rattle.std.proofs.Common.{◌≡◌, ◌⊎◌, ℕ, zero, suc, ◌==◌, ◌<◌, ◌≤◌, nat_lt, Bool, true, false, if◌then◌else◌, List, [], ◌∷◌, ◌++◌, Option, None, length, take, refl, sym, ap, ◌∙◌, subst, inl, inr, arith, append-nil, append_assoc, length-append, eq-eqb, ◌+◌, ne_eqb}
 use Rattle.std.specs.Prelude.{slice_get}
 use Rattle.std.specs.List.{AllByRecursion}
 use Rattle.std.proofs.lemmas.Bool.{cases_lt, false≢true}
@@ -27,6 +27,7 @@ use Rattle.arc_table.specs.Seen.{seen_of, turn_of}
 use Rattle.arc_table.specs.TableLaws.{get_front, starts_whole, within}
 use Rattle.arc_table.specs.Telling.{opening_of}
 use Rattle.dbuf_cells.specs.Turns.{OnHeap}
+use Rattle.dbuf_state.specs.declared.event.CellEvent.{CellEvent}
 use Rattle.l2_feed.specs.Series.{GivesNone}
 use Rattle.trace_text.specs.declared.op.Op.{Op}
 use Rattle.trace_text.specs.declared.op.Op.TheVariants as ops
@@ -35,7 +36,8 @@ use Rattle.trace_text.specs.declared.reply.Reply.TheVariants.{Capped}
 use Rattle.trace_run.specs.declared.groups.Crew.{Crew}
 use Rattle.trace_run.specs.declared.kept_blocks.KeptBlock.{KeptBlock}
 use Rattle.trace_run.specs.Acts.{events_of_feeder}
-use Rattle.trace_run.specs.Deeds.{HasToldOthers, Noted, acts_of_events, with_number, KeepsCells, MakesFrom}
+use Rattle.trace_run.specs.dbufs.CellEnds.{done_by}
+use Rattle.trace_run.specs.Deeds.{HasToldOthers, Noted, acts_of_events, events_of_cell, lines_of_cell, with_number, KeepsCells, MakesFrom}
 use Rattle.trace_run.specs.FeedEvents.{events_of_lines, feeds_told}
 use Rattle.trace_run.specs.FeedSeries.{SeesMore}
 use Rattle.trace_run.specs.Feeds.{FeedDone, is_feed}
@@ -46,7 +48,7 @@ use Rattle.trace_run.specs.Meeting.{HasSettled, HaveMet, HaveParted, IsFed, Resi
 use Rattle.trace_run.specs.dbufs.Objects.{Line, Work, no_work, ops_of, replies_of}
 use Rattle.trace_run.specs.Restores.{events_by_feeder, restores_in}
 use Rattle.trace_run.specs.RunWork.{FitsBy, FitsFeeder, IsSyncWork, RunWork, acts_of_syncs, lines_of_caller, lines_of_feeder, noted_of_syncs, lines_of_party}
-use Rattle.trace_run.specs.Syncing.{inserts_noted}
+use Rattle.trace_run.specs.Syncing.{inserts_noted, lines_of}
 use Rattle.trace_run.specs.callers.Groups.{AreEndLines, ComesAt, HaveCome, IsEndLine, AreMakers}
 use Rattle.trace_run.specs.callers.Together.{AreCut, IsCut, IsCutLast, ends_group, events_at_end}
 use Rattle.trace_run.specs.callers.WorkLines.{acts_of_work, acts_with, acts_with_op, noted_of_work}
@@ -60,7 +62,7 @@ use Rattle.trace_run.proofs.feeds.FedLemmas.{as-told, lines-append, one-asked, o
 use Rattle.trace_run.proofs.feeds.SeriesLemmas.{sees-by}
 use Rattle.trace_run.proofs.one_caller.TellLemmas.{all-append}
 use Rattle.trace_run.specs.Making.{AreEventsSeen}
-use Rattle.trace_run.specs.MadeLines.{IsMaker, is_listed, made_in, owned_from}
+use Rattle.trace_run.specs.MadeLines.{IsMaker, is_listed, made_in, made_of, owned_from}
 use Rattle.trace_run.proofs.callers.MakerLemmas.{GoesBehind, GoesOnOf, events-few, maker-before, maker-goes, maker-owned, passes-before}
 use Rattle.trace_run.proofs.theorem.PlacedLemmas.{EachGoesOn, placed-of}
 use Rattle.trace_run.proofs.deeds.MakesLemmas.{seen-below}
@@ -76,6 +78,13 @@ abbrev pub with_stop : RunWork → Work → RunWork
 with_stop w work = record { lines = w.lines; stopped = work; feeds = w.feeds; ended = [] }
 
 -- ---- what the feeder did
+
+-- Of a cell all had seen this as they joined, and the entries of this work stand right behind it. Where the work is one, the cell was taken so: the feeder had done to it just what it is told.
+pub record JoinedCell (g : Config) (i : ℕ) (work : Work) (old new : Crew OnHeap) (all : List Seen) : Type 0 where
+  pub olds : AllByRecursion (λ o. StartsWith all (front_of i o.own.seen)) old.parties.items
+  pub level : front_of i new.feeder.own.seen ≡ all ++ lines_of_cell i work.noted
+  pub fed : (work ≡ no_work)
+      ⊎ ((es : List CellEvent) × (all ≡ lines_of es) × ((noted : List Noted) → ((j : ℕ) → IsCell g j → made_of j old.feeder ≡ lines_of_cell j noted) → done_by g.callers es ≡ events_of_cell i noted))
 
 -- While all callers had joined it, the feeder made these events of each shard, behind all that anybody had done there, and with other numbers than its own it did this work.
 -- Then they parted, and all have seen it.
@@ -100,6 +109,8 @@ pub record MadeWork (cache : Cache) (work : Work) (more : (shard : ℕ) → List
   pub told : (acts : List Act) (noted : List Noted) → HasToldOthers cache.config acts noted old.feeder → HasToldOthers cache.config (acts ++ work.acts) (noted ++ work.noted) new.feeder
   -- of each cell all have seen the same
   pub met : HaveMet cache.config (old.feeder ∷ old.parties.items) (new.feeder ∷ new.parties.items)
+  -- and before that all had seen this
+  pub joined : (i : ℕ) → IsCell cache.config i → (all : List Seen) × JoinedCell cache.config i work old new all
   -- it has seen of each cell and of each shard what it had, and its acts with the numbers of cells are those of these events
   pub keeps : KeepsCells cache.config old.feeder new.feeder
   pub inserted : (shard i : ℕ) → IsCell cache.config i → acts_in (shard_of cache.config.shards) shard (cell_number cache.config i) work.acts ≡ acts_of_events (with_number (cell_number cache.config i) (more shard))
@@ -500,6 +511,7 @@ cap-ends cache c old new number resized kept = record {
     told = λ acts noted told. subst (λ (x : List Act × List Noted). HasToldOthers cache.config x.0 x.1 new.feeder) (λ i. (sym (append-nil acts) i, sym (append-nil noted) i))
         (others-still cache.config acts noted old.feeder new.feeder resized.made told);
     met = resized.met;
+    joined = λ i range. let m = resized.met i range in (m.0, record { olds = m.1.1; level = m.2.0 ∙ sym (append-nil m.0); fed = inl refl });
     keeps = resized.made.keeps;
     inserted = λ shard i range. sym (none-inserted cache.config.callers c (cell_number cache.config i) (nat_lt shard cache.config.shards));
   };

@@ -65,7 +65,7 @@ module _ {P : Type 0} (pools : Ghosts P) where
 -- ---- answers
 
 -- the bytes of a block that ends before the place
-range-front : (place : ℕ) (key : Key) (a b : List ℕ) → key_end key ≤ place → take place a ≡ take place b → range_of a key ≡ range_of b key
+pub range-front : (place : ℕ) (key : Key) (a b : List ℕ) → key_end key ≤ place → take place a ≡ take place b → range_of a key ≡ range_of b key
 range-front place key a b le same =
     sym (drop-take key.offset key.size a)
     ∙ (ap (drop key.offset) (sym (take-take (key.offset + key.size) place a le) ∙ (ap (take (key.offset + key.size)) same ∙ take-take (key.offset + key.size) place b le)) ∙ drop-take key.offset key.size b)

@@ -30,6 +30,11 @@ module _ {X : Type 0} where
   get-right [] ys k = let same : 0 + k ≡ k = omega arith in ap (slice_get ys) same
   get-right (x ∷ xs) ys k = let same : suc (length xs) + k ≡ suc (length xs + k) = omega arith in ap (slice_get (x ∷ (xs ++ ys))) same ∙ get-right xs ys k
 
+  pub slice-there : (xs : List X) (k : ℕ) → k < length xs → (x : X) × (slice_get xs k ≡ Some x)
+  slice-there [] k lt = absurd (omega arith)
+  slice-there (x ∷ xs) zero lt = (x, refl)
+  slice-there (x ∷ xs) (suc k) lt = slice-there xs k (omega arith)
+
   pub some-same : (a b : X) → ◌≡◌ {A = Option X} (Some a) (Some b) → a ≡ b
   some-same a b is = cc
 

@@ -1,5 +1,5 @@
 -- Several callers behind more lines: how those on objects looked at cells, behind the lines of a group, and behind the line that ends it.
-use Rattle.std.proofs.Common.{◌≡◌, ℕ, ◌<◌, List, [], ◌∷◌, ◌++◌, Option, None, length, sym, ◌∙◌, subst, inl, inr, arith}
+use Rattle.std.proofs.Common.{◌≡◌, ℕ, ◌<◌, List, [], ◌∷◌, ◌++◌, Option, None, length, sym, ap, ◌∙◌, subst, inl, inr, arith, append-nil}
 use Rattle.std.proofs.lemmas.Bool.{cases_lt}
 use mathlib.Core.Option.{some, some-injective}
 use lib.ListN.{get_elem?}
@@ -11,27 +11,38 @@ use Rattle.arc_core.specs.declared.event.Event.{Event}
 use Rattle.arc_core.specs.declared.served.Restored.{Restored}
 use Rattle.arc_table.specs.declared.view.Line.{Line as Seen}
 use Rattle.arc_table.specs.Cache.{Cache}
-use Rattle.arc_table.specs.Fronts.{front_of}
+use Rattle.arc_table.specs.Fronts.{StartsWith, front_of}
 use Rattle.arc_table.specs.Geometry.{IsCell}
 use Rattle.arc_table.specs.TableLaws.{within}
 use Rattle.dbuf_cells.specs.Turns.{OnHeap, PartyPlace}
 use Rattle.trace_text.specs.declared.op.Op.{Op}
 use Rattle.trace_text.specs.declared.reply.Reply.{Reply}
 use Rattle.trace_run.specs.declared.groups.Crew.{Crew}
-use Rattle.trace_run.specs.Deeds.{HasToldAll}
+use Rattle.trace_run.specs.declared.ran.Ending.{Ending}
+use Rattle.trace_run.specs.declared.ran.Ending.TheVariants.{Fork, Full, Sync, Whole}
+use Rattle.trace_run.specs.Deeds.{HasToldAll, Noted, lines_of_cell}
 use Rattle.trace_run.specs.Lines.{caller_of}
-use Rattle.trace_run.specs.dbufs.Objects.{Line, Work}
-use Rattle.trace_run.specs.RunWork.{RunWork, lines_of_caller}
+use Rattle.trace_run.specs.dbufs.Objects.{Line, Work, no_work}
+use Rattle.trace_run.specs.MadeLines.{made_of}
+use Rattle.trace_run.specs.RunWork.{RunWork, lines_of_caller, lines_of_feeder}
 use Rattle.trace_run.specs.callers.Group.{AllWorked}
-use Rattle.trace_run.specs.callers.Groups.{ComesAt, HaveCome}
-use Rattle.trace_run.specs.callers.Looking.{HaveLooked}
+use Rattle.trace_run.specs.callers.Groups.{ComesAt, HaveCome, lines_with_stop, stopped_line}
+use Rattle.trace_run.specs.callers.Looking.{EndsCell, HaveLooked}
+use Rattle.trace_run.specs.callers.Together.{groups_begun, groups_done}
 use Rattle.trace_run.specs.callers.WorkLines.{LooksLines, acts_of_work, noted_of_work}
-use Rattle.trace_run.proofs.callers.EndedLemmas.{MadeWork, all-at}
+use Rattle.trace_run.proofs.callers.EndedLemmas.{JoinedCell, MadeWork, all-at}
 use Rattle.trace_run.proofs.callers.FoundLemmas.{look-there}
 use Rattle.trace_run.proofs.callers.GroupsLemmas.{parted-at}
 use Rattle.trace_run.proofs.callers.LineLists.{AreInside}
-use Rattle.trace_run.proofs.callers.LookingLemmas.{Had, LooksOn, ended-looked, kept-looked, more-looked}
+use Rattle.trace_run.proofs.callers.LookingLemmas.{Had, LooksOn, ended-looked, more-looked}
 use Rattle.trace_run.proofs.callers.ToldLemmas.{told_then}
+
+-- where a sync stopped, that stands behind all lines
+pub stop-behind : (ending : Ending) (work : RunWork) → groups_done ending [] ≡ groups_begun [] → lines_with_stop ending work ≡ work.lines ++ stopped_line work ∷ []
+stop-behind Whole work begun = cc
+stop-behind Fork work begun = cc
+stop-behind Sync work begun = refl
+stop-behind (Full need left) work begun = refl
 
 module _ {P : Type 0} (pools : Ghosts P) (cache : Cache) (restored : List Restored) (len : ℕ) (image : Option (List ℕ)) (place : ℕ) (blocks : List Ptr) (os : List Op) (rs : List Reply) (w : RunWork) (old new : Crew OnHeap)
     (before : HaveCome cache restored len image place blocks os rs w old) (told : (k : ℕ) → Option (List ℕ)) (looked : HaveLooked cache.config len told w.lines old.parties.items) where
@@ -75,22 +86,45 @@ module _ {P : Type 0} (pools : Ghosts P) (cache : Cache) (restored : List Restor
     pub lines-looked : HaveLooked g len (told_then told (length w.lines) now) (w.lines ++ ms) new.parties.items
     lines-looked = more-looked g valid len told now w.lines ms old.parties.items new.parties.items own on-any looked
 
-  -- ---- what the feeder did behind them
+  -- ---- what the feeder did behind them, for the line that ends their group
 
-  module _ (work : Work) (more : (shard : ℕ) → List Event) (made : MadeWork cache work more old new) (parties : length new.parties.items ≡ g.callers) where
+  module _ (l : Line) (nobody : caller_of l.op ≡ None) (more : (shard : ℕ) → List Event) (made : MadeWork cache l.work more old new) (parties : length new.parties.items ≡ g.callers) (goes_on : w.stopped ≡ no_work) where
     had : (n : ℕ) (q : PartyPlace) → get_elem? new.parties.items n ≡ some q → Had g valid len told old.parties.items n q
     had n q party =
         let b = before.each n (subst (λ (k : ℕ). n < k) parties (within new.parties.items n q party)) in
         let x = parted-at cache made.lines n old.parties.items new.parties.items b.party made.parted b.at.party_at in
         subst (Had g valid len told old.parties.items n) (some-injective x.0 q (sym x.1 ∙ party)) (b.party, b.at.party_at, (x.2.same b.reads b.come.waits.stands).keeps)
 
-    pub stopped-looked : HaveLooked g len told w.lines new.parties.items
-    stopped-looked = kept-looked g valid len told w.lines old.parties.items new.parties.items had looked
-
     level : (n : ℕ) (q : PartyPlace) → get_elem? new.parties.items n ≡ some q → (i : ℕ) → IsCell g i → front_of i q.own.seen ≡ front_of i new.feeder.own.seen
     level n q party i in_range =
         let all = made.met i in_range in
         all-at (λ x. front_of i x.own.seen ≡ all.0) new.parties.items n q all.2.1 party ∙ sym all.2.0
 
-    pub answered-looked : (l : Line) → caller_of l.op ≡ None → HaveLooked g len told (w.lines ++ l ∷ []) new.parties.items
-    answered-looked l nobody = ended-looked g valid len told w.lines l old.parties.items new.parties.items new.feeder nobody had level looked
+    -- what all had seen of a cell as they joined
+    at-join : (i : ℕ) → (all : List Seen) × (IsCell g i → JoinedCell g i l.work old new all)
+    at-join i = elim (cases_lt i g.cells) [
+      | inl inside ↦ let c = made.joined i inside in (c.0, λ in_range. c.1)
+      | inr out ↦ ([], λ in_range. absurd (let i_in : i < g.cells = in_range in omega (arith, out, i_in)))
+    ]
+
+    -- what the feeder had made of each cell is what its lines noted
+    feeder-made : (i : ℕ) → IsCell g i → made_of i old.feeder ≡ lines_of_cell i (noted_of_work (lines_of_feeder w.lines))
+    feeder-made i in_range =
+        let noted : List Noted = noted_of_work (lines_of_feeder w.lines) in
+        before.feeder.told.entries i in_range ∙ ap (lines_of_cell i) (ap (λ (x : Work). noted ++ x.noted) goes_on ∙ append-nil noted)
+
+    ended : (i : ℕ) → IsCell g i → EndsCell g w.lines l.work i (at-join i).0 (front_of i new.feeder.own.seen)
+    ended i in_range =
+        let c = (at-join i).1 in_range in
+        record {
+          is = c.level;
+          fed = elim c.fed [
+            | inl none ↦ inl none
+            | inr took ↦ inr (took.0, took.1, took.2 (noted_of_work (lines_of_feeder w.lines)) feeder-made)
+          ];
+        }
+
+    pub answered-looked : HaveLooked g len told (w.lines ++ l ∷ []) new.parties.items
+    answered-looked =
+        ended-looked g valid len told w.lines l old.parties.items new.parties.items new.feeder nobody had level (λ i. (at-join i).0)
+        (λ n p party i in_range. all-at (λ o. StartsWith (at-join i).0 (front_of i o.own.seen)) old.parties.items n p ((at-join i).1 in_range).olds party) ended looked

@@ -45,7 +45,7 @@ use Rattle.trace_run.specs.Tally.{AreDeclared}
 use Rattle.trace_run.specs.callers.Beside.{WorksBeside}
 use Rattle.trace_run.specs.callers.DeviceForks.{HaveRead, UsedAtOnce, UsedInGroups}
 use Rattle.trace_run.specs.callers.Group.{AllWorked, HaveWorked, LeavesFront, LeavesPool}
-use Rattle.trace_run.specs.callers.Groups.{AreBetween, AreDone, DidEndLine, DidLinesOfAll, DidLinesAtOnce, ForkFailed, HaveCome, HaveCounted, HaveReached, KeepNothing, MaySync, StepsOn, StoodSo, goes_on}
+use Rattle.trace_run.specs.callers.Groups.{AreBetween, AreDone, DidEndLine, DidLinesOfAll, DidLinesAtOnce, ForkFailed, HaveCome, HaveCounted, HaveReached, KeepNothing, MaySync, StepsOn, StoodSo, goes_on, stopped_line}
 use Rattle.trace_run.specs.callers.InOrder.{AreInGroup}
 use Rattle.trace_run.specs.callers.Looking.{HaveLooked}
 use Rattle.trace_run.specs.callers.Together.{BeginsGroup, EndsGroup, GroupLines, IsFirstPlace, OfCells, BetweenGroups, ToldAsBegun, WorkAtOnce, WorkInGroups, between_groups, ends_group, groups_done, groups_of, over_callers, IsCutLast, lines_with_end, with_first}
@@ -61,7 +61,7 @@ use Rattle.trace_run.proofs.callers.GroupLists.{EndsWhole, begun-append, group-b
 use Rattle.trace_run.proofs.callers.GroupRunLemmas.{all-callers, all-declared, may-resize}
 use Rattle.trace_run.proofs.callers.GroupsLemmas.{have-restored, have-started, parted-length, restores-seen}
 use Rattle.trace_run.proofs.callers.LineLists.{AreInside, all-inside, calls-append, calls-few, ends-nobody, lines-failed, lines-long, nobody-callers}
-use Rattle.trace_run.proofs.callers.LookedLemmas.{answered-looked, lines-looked, stopped-looked}
+use Rattle.trace_run.proofs.callers.LookedLemmas.{answered-looked, lines-looked, stop-behind}
 use Rattle.trace_run.proofs.callers.LookingLemmas.{none-looked}
 use Rattle.trace_run.proofs.callers.MoreLemmas.{fed-about, have-come-more, lines-of, with_lines}
 use Rattle.trace_run.proofs.callers.ToldLemmas.{told-early, told-front, told-late, told_then}
@@ -495,8 +495,9 @@ module _ {P D : Type 0} (cache : Cache) (restored : List Restored) (pools : Ghos
       used = λ several. subst (λ (gs : List GroupLines). UsedInGroups devices trace.blocks callers gs done.feeds (lent_in begun) (lent_in b)) (sym groups-are) (used-lines several alone-group refl);
       fed = moved-so-far dbuf_meanings devices cache restored done.feeds begun b new.feeder last.feeder fed-lines
           (λ shard below. made-sees cache h.work h.more new last come-lines.feeder.number h.so.made shard [] (h.so.none shard below) tt);
-      looked = stopped-looked pools cache restored (pools.size start.pool) (pools.told start.pool) start.next trace.blocks (os ++ qs) (rs ++ ss) done new last come-lines told_begun looked-lines h.work h.more h.so.made
-          (parted-length cache h.so.made.lines new.parties.items last.parties.items h.so.made.parted ∙ come-lines.parties);
+      looked = subst (λ (ls : List Line). HaveLooked cache.config (pools.size start.pool) told_begun ls last.parties.items) (sym (stop-behind ending (with_stop done h.work) (h.begun [])))
+          (answered-looked pools cache restored (pools.size start.pool) (pools.told start.pool) start.next trace.blocks (os ++ qs) (rs ++ ss) done new last come-lines told_begun looked-lines (stopped_line (with_stop done h.work)) refl h.more h.so.made
+          (parted-length cache h.so.made.lines new.parties.items last.parties.items h.so.made.parted ∙ come-lines.parties) refl);
     };
     ended = h.ended;
     last = λ t stopped shard below owner makers. subst (λ (tick : ℕ). IsCutLast cache.config restored trace.blocks shard owner tick (with_stop done h.work) (seen_of cache.config shard last.feeder)) (sym (h.ticks t stopped))
@@ -566,8 +567,8 @@ module _ {P D : Type 0} (cache : Cache) (restored : List Restored) (pools : Ghos
         used = λ several. subst (λ (gs : List GroupLines). UsedInGroups devices trace.blocks callers gs done.feeds (lent_in begun) (lent_in b)) (sym groups-ended) (used-lines several ended-group refl);
         fed = moved-so-far dbuf_meanings devices cache restored done.feeds begun b new.feeder last.feeder fed-lines
             (λ shard below. made-sees cache turn.work turn.more new last come-lines.feeder.number turn.so.made shard (events_of_feeder callers op) (turn.so.feeds shard below) (asked-gives callers op));
-        looked = answered-looked pools cache restored (pools.size start.pool) (pools.told start.pool) start.next trace.blocks (os ++ qs) (rs ++ ss) done new last come-lines told_begun looked-lines turn.work turn.more turn.so.made
-            (parted-length cache turn.so.made.lines new.parties.items last.parties.items turn.so.made.parted ∙ come-lines.parties) l (ends-nobody op turn.so.ends).0;
+        looked = answered-looked pools cache restored (pools.size start.pool) (pools.told start.pool) start.next trace.blocks (os ++ qs) (rs ++ ss) done new last come-lines told_begun looked-lines l (ends-nobody op turn.so.ends).0 turn.more turn.so.made
+            (parted-length cache turn.so.made.lines new.parties.items last.parties.items turn.so.made.parted ∙ come-lines.parties) refl;
       };
       begins = λ less. subst (BeginsGroup trace.ops) (sym all-long) (op, at, turn.so.ends);
       goes_on = refl;

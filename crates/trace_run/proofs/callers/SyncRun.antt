@@ -41,6 +41,7 @@ module _ {P : Type 0} (pools : Ghosts P) (config : Config) (Said So : OfCells) (
       cells = s.answer.cells;
       dues = s.answer.dues;
       dirty = s.answer.dirty;
+      sized = s.answer.sized;
       fits = s.answer.fits;
       turns = turned before t work s.answer.cells _ s.answer.turns;
       told = s.answer.told;

@@ -1,7 +1,7 @@
--- Each event of a closed cell comes from a line of the trace: a whole write from one that says so, and where no line is a sync, nothing was synced.
-use Rattle.std.proofs.Common.{◌≡◌, ℕ, zero, suc, ◌<◌, ◌==◌, Bool, true, false, List, [], ◌∷◌, ◌++◌, map, Option, Some, None, refl, sym, ap, ◌∙◌, subst, inl, inr, eq-eqb}
+-- Each event of a closed cell comes from a line of the trace: a whole write from one that says so, and what is synced or ended is the feeder's.
+use Rattle.std.proofs.Common.{◌≡◌, ℕ, zero, suc, ◌<◌, ◌==◌, Bool, true, List, [], ◌∷◌, ◌++◌, map, Option, Some, None, refl, sym, ap, ◌∙◌, subst, inl, inr, eq-eqb}
 use Rattle.std.specs.Prelude.{filter, slice_get}
-use Rattle.std.specs.List.{AllByRecursion, list_all, list_any}
+use Rattle.std.specs.List.{AllByRecursion}
 use Rattle.std.proofs.lemmas.Bool.{eqb-true}
 use Rattle.arc_lists.proofs.Tables.{cases_true}
 use Rattle.arc_core.specs.declared.config.Config.{Config}
@@ -17,28 +17,24 @@ use Rattle.trace_text.specs.declared.reply.Reply.{Reply}
 use Rattle.trace_text.specs.declared.reply.Reply.TheVariants as replies
 use Rattle.trace_text.specs.declared.trace.Trace.{Trace}
 use Rattle.trace_run.specs.Deeds.{Noted, events_of_cell, noted_in}
-use Rattle.trace_run.specs.Lines.{caller_of, is_sync}
-use Rattle.trace_run.specs.RunWork.{AllFit, FitsBy, FitsFeeder, RunWork, lines_of_caller, lines_of_feeder, noted_by, noted_of_syncs}
+use Rattle.trace_run.specs.Lines.{caller_of}
+use Rattle.trace_run.specs.RunWork.{AllFit, FitsBy, FitsFeeder, IsSyncedNote, RunWork, lines_of_caller, lines_of_feeder, noted_by, noted_of_syncs}
 use Rattle.trace_run.specs.callers.WorkLines.{AreLinesOf, IsWorkOf, NotesLine, noted_of_work}
 use Rattle.trace_run.specs.dbufs.CellEnds.{IsCellOf, done_by, noted_ends}
 use Rattle.trace_run.specs.dbufs.Objects.{Brought, Line, Loaded, NotesOwn, Nothing, OwnEvent, Refused, Work, loads_of, no_work}
-use Rattle.trace_run.proofs.one_caller.TellLemmas.{all-append}
-use Rattle.trace_run.proofs.in_place.Mapped.{is_synced}
+use Rattle.trace_run.proofs.one_caller.TellLemmas.{all-append, all-map}
 
--- a whole write is a line's, and an End the feeder's, which is the number behind so many callers
-abbrev pub IsPutOf : (callers : ℕ) → List Op → CellEvent → Type 0
-IsPutOf callers lines (events.Put n b size fill) = (k : ℕ) × (t : ℕ) × (slice_get lines k ≡ Some (ops.Put n t b size fill))
-IsPutOf callers lines (events.Get n b) = Unit {0}
-IsPutOf callers lines (events.Patch n b from bytes) = Unit {0}
-IsPutOf callers lines (events.Pin n b) = Unit {0}
-IsPutOf callers lines (events.Unpin n b) = Unit {0}
-IsPutOf callers lines (events.Load n b) = Unit {0}
-IsPutOf callers lines (events.Evict n b) = Unit {0}
-IsPutOf callers lines (events.Synced n b ptr) = Unit {0}
-IsPutOf callers lines (events.End n) = n ≡ callers
-
+-- a whole write is a line's; a Synced and an End are the feeder's, which is the number behind so many callers
 abbrev pub IsOfLines : (callers : ℕ) → List Op → CellEvent → Type 0
-IsOfLines callers lines e = (is_synced e ≡ false) × IsPutOf callers lines e
+IsOfLines callers lines (events.Put n b size fill) = (k : ℕ) × (t : ℕ) × (slice_get lines k ≡ Some (ops.Put n t b size fill))
+IsOfLines callers lines (events.Get n b) = Unit {0}
+IsOfLines callers lines (events.Patch n b from bytes) = Unit {0}
+IsOfLines callers lines (events.Pin n b) = Unit {0}
+IsOfLines callers lines (events.Unpin n b) = Unit {0}
+IsOfLines callers lines (events.Load n b) = Unit {0}
+IsOfLines callers lines (events.Evict n b) = Unit {0}
+IsOfLines callers lines (events.Synced n b ptr) = n ≡ callers
+IsOfLines callers lines (events.End n) = n ≡ callers
 
 pub all-filter : {X : Type 0} (P : X → Type 0) (p : X → Bool) (xs : List X) → AllByRecursion P xs → AllByRecursion P (filter p xs)
 all-filter P p [] all = tt
@@ -77,12 +73,12 @@ module _ (callers : ℕ) (lines : List Op) where
 
   loads-all : (n : ℕ) (at : Oid) (brought : Brought) → AllByRecursion (IsOfLines callers lines) (loads_of n at brought)
   loads-all n at Nothing = tt
-  loads-all n at (Loaded ptr from) = ((refl, tt), tt)
+  loads-all n at (Loaded ptr from) = (tt, tt)
   loads-all n at (Refused ptr) = tt
 
   evicts-all : (n : ℕ) (xs : List Oid) → AllByRecursion (IsOfLines callers lines) (map (events.Evict n) xs)
   evicts-all n [] = tt
-  evicts-all n (x ∷ xs) = ((refl, tt), evicts-all n xs)
+  evicts-all n (x ∷ xs) = (tt, evicts-all n xs)
 
   own-all : (g : Config) (n : ℕ) (own : OwnEvent) (work : Work) → IsOfLines callers lines own.event → NotesOwn g n own work → AllByRecursion OfNote work.noted
   own-all g n own work is notes =
@@ -108,11 +104,11 @@ module _ (callers : ℕ) (lines : List Op) where
   IsAmong op = (k : ℕ) × (slice_get lines k ≡ Some op)
 
   caller-all : (g : Config) (n : ℕ) (op : Op) (reply : Reply) (work : Work) → IsAmong op → IsWorkOf g n (record { op = op; reply = reply; work = work }) → AllByRecursion OfNote work.noted
-  caller-all g n (ops.Get m t at w) reply work among f = reply-all g n (record { at = at; event = events.Get m at }) work reply (refl, tt) f.notes
-  caller-all g n (ops.Put m t at size fill) reply work among f = reply-all g n (record { at = at; event = events.Put m at size fill }) work reply (refl, (among.0, t, among.1)) f.notes
-  caller-all g n (ops.Patch m t at from bytes) reply work among f = reply-all g n (record { at = at; event = events.Patch m at from bytes }) work reply (refl, tt) f.notes
-  caller-all g n (ops.Pin m t at) reply work among f = reply-all g n (record { at = at; event = events.Pin m at }) work reply (refl, tt) f.notes
-  caller-all g n (ops.Unpin m at) reply work among f = reply-all g n (record { at = at; event = events.Unpin m at }) work reply (refl, tt) f.notes
+  caller-all g n (ops.Get m t at w) reply work among f = reply-all g n (record { at = at; event = events.Get m at }) work reply tt f.notes
+  caller-all g n (ops.Put m t at size fill) reply work among f = reply-all g n (record { at = at; event = events.Put m at size fill }) work reply (among.0, t, among.1) f.notes
+  caller-all g n (ops.Patch m t at from bytes) reply work among f = reply-all g n (record { at = at; event = events.Patch m at from bytes }) work reply tt f.notes
+  caller-all g n (ops.Pin m t at) reply work among f = reply-all g n (record { at = at; event = events.Pin m at }) work reply tt f.notes
+  caller-all g n (ops.Unpin m at) reply work among f = reply-all g n (record { at = at; event = events.Unpin m at }) work reply tt f.notes
   caller-all g n (ops.Read m t x window) reply work among f = none-all work f.notes
   caller-all g n (ops.Hold m t x) reply work among f = none-all work f.notes
   caller-all g n (ops.Drop m x) reply work among f = none-all work f.notes
@@ -120,38 +116,37 @@ module _ (callers : ℕ) (lines : List Op) where
   caller-all g n (ops.Txg t) reply work among f = none-all work f.notes
   caller-all g n (ops.Cap c) reply work among f = none-all work f.notes
 
-  feeder-all : (g : Config) (op : Op) (work : Work) → is_sync op ≡ false → FitsFeeder g op work → AllByRecursion OfNote work.noted
-  feeder-all g (ops.Txg t) work un f = absurd (let clash : true ≡ false = un in cc)
-  feeder-all g (ops.Cap c) work un f = none-all work f
-  feeder-all g ops.Feed work un f = none-all work f
-  feeder-all g (ops.Read n t x window) work un f = absurd f
-  feeder-all g (ops.Hold n t x) work un f = absurd f
-  feeder-all g (ops.Drop n x) work un f = absurd f
-  feeder-all g (ops.Get n t at window) work un f = absurd f
-  feeder-all g (ops.Put n t at size fill) work un f = absurd f
-  feeder-all g (ops.Patch n t at from bytes) work un f = absurd f
-  feeder-all g (ops.Pin n t at) work un f = absurd f
-  feeder-all g (ops.Unpin n at) work un f = absurd f
+  feeder-all : (g : Config) (op : Op) (work : Work) → g.callers ≡ callers → FitsFeeder g op work → AllByRecursion OfNote work.noted
+  feeder-all g (ops.Txg t) work so_many f = all-map (IsSyncedNote g) OfNote work.noted (λ note is. subst (IsOfLines callers lines) (sym is.is) so_many) f.synced
+  feeder-all g (ops.Cap c) work so_many f = none-all work f
+  feeder-all g ops.Feed work so_many f = none-all work f
+  feeder-all g (ops.Read n t x window) work so_many f = absurd f
+  feeder-all g (ops.Hold n t x) work so_many f = absurd f
+  feeder-all g (ops.Drop n x) work so_many f = absurd f
+  feeder-all g (ops.Get n t at window) work so_many f = absurd f
+  feeder-all g (ops.Put n t at size fill) work so_many f = absurd f
+  feeder-all g (ops.Patch n t at from bytes) work so_many f = absurd f
+  feeder-all g (ops.Pin n t at) work so_many f = absurd f
+  feeder-all g (ops.Unpin n at) work so_many f = absurd f
 
-  fit-all : (g : Config) (by : Option ℕ) (l : Line) → IsAmong l.op → is_sync l.op ≡ false → FitsBy g by l → OfLine l
-  fit-all g None l among un f = feeder-all g l.op l.work un f
-  fit-all g (Some n) l among un f = caller-all g n l.op l.reply l.work among f
+  fit-all : (g : Config) (by : Option ℕ) (l : Line) → g.callers ≡ callers → IsAmong l.op → FitsBy g by l → OfLine l
+  fit-all g None l so_many among f = feeder-all g l.op l.work so_many f
+  fit-all g (Some n) l so_many among f = caller-all g n l.op l.reply l.work among f
 
-  lines-all : (g : Config) (os : List Op) (rs : List Reply) (ls : List Line) → AreLinesOf os rs ls → AllFit g ls → ((k : ℕ) (op : Op) → slice_get os k ≡ Some op → IsAmong op × (is_sync op ≡ false)) → AllByRecursion OfLine ls
-  lines-all g [] [] [] are fits each = tt
-  lines-all g [] [] (l ∷ ls) are fits each = absurd are
-  lines-all g [] (r ∷ rs) ls are fits each = absurd are
-  lines-all g (o ∷ os) [] ls are fits each = absurd are
-  lines-all g (o ∷ os) (r ∷ rs) [] are fits each = absurd are
-  lines-all g (o ∷ os) (r ∷ rs) (l ∷ ls) are fits each =
-      let here = subst (λ (op : Op). IsAmong op × (is_sync op ≡ false)) (sym are.0) (each 0 o refl) in
-      (fit-all g (caller_of l.op) l here.0 here.1 fits.0, lines-all g os rs ls are.2 fits.1 (λ k op at. each (suc k) op at))
+  lines-all : (g : Config) (os : List Op) (rs : List Reply) (ls : List Line) → g.callers ≡ callers → AreLinesOf os rs ls → AllFit g ls → ((k : ℕ) (op : Op) → slice_get os k ≡ Some op → IsAmong op) → AllByRecursion OfLine ls
+  lines-all g [] [] [] so_many are fits each = tt
+  lines-all g [] [] (l ∷ ls) so_many are fits each = absurd are
+  lines-all g [] (r ∷ rs) ls so_many are fits each = absurd are
+  lines-all g (o ∷ os) [] ls so_many are fits each = absurd are
+  lines-all g (o ∷ os) (r ∷ rs) [] so_many are fits each = absurd are
+  lines-all g (o ∷ os) (r ∷ rs) (l ∷ ls) so_many are fits each =
+      (fit-all g (caller_of l.op) l so_many (subst IsAmong (sym are.0) (each 0 o refl)) fits.0, lines-all g os rs ls so_many are.2 fits.1 (λ k op at. each (suc k) op at))
 
   -- ---- a cell
 
   ends-all : (n i count : ℕ) → n ≡ callers → AllByRecursion OfNote (noted_ends n i count)
   ends-all n i zero is = tt
-  ends-all n i (suc count) is = ((refl, is), ends-all n (suc i) count is)
+  ends-all n i (suc count) is = (is, ends-all n (suc i) count is)
 
   -- what is noted of a party
   party-all : (g : Config) (work : RunWork) → g.callers ≡ callers → work.stopped ≡ no_work → AllByRecursion OfLine work.lines → (n : ℕ) → AllByRecursion OfNote (noted_by g work n)
@@ -180,8 +175,8 @@ module _ (callers : ℕ) (lines : List Op) where
 
 -- each event of a closed cell
 pub history-all : (trace : Trace) (os : List Op) (rs : List Reply) (work : RunWork) → os ≡ trace.ops → AreLinesOf os rs work.lines → AllFit trace.config work.lines → work.stopped ≡ no_work
-    → ((k : ℕ) (op : Op) → slice_get trace.ops k ≡ Some op → is_sync op ≡ false) → (i : ℕ) (cell : OnHeap) → IsCellOf trace (noted_by trace.config work) i cell → AllByRecursion (IsOfLines trace.config.callers trace.ops) cell.value.history
-history-all trace os rs work whole are fits still un i cell of =
-    let all = lines-all trace.config.callers trace.ops trace.config os rs work.lines are fits (λ k op at. let there = ap (λ (l : List Op). slice_get l k) (sym whole) ∙ at in ((k, there), un k op there)) in
+    → (i : ℕ) (cell : OnHeap) → IsCellOf trace (noted_by trace.config work) i cell → AllByRecursion (IsOfLines trace.config.callers trace.ops) cell.value.history
+history-all trace os rs work whole are fits still i cell of =
+    let all = lines-all trace.config.callers trace.ops trace.config os rs work.lines refl are fits (λ k op at. (k, ap (λ (l : List Op). slice_get l k) (sym whole) ∙ at)) in
     numbers-all trace.config.callers trace.ops (parties_of trace.config) cell.value.history of.parties
     (λ n lt. subst (AllByRecursion (IsOfLines trace.config.callers trace.ops)) (sym (of.did n lt)) (cell-all trace.config.callers trace.ops i (noted_by trace.config work n) (party-all trace.config.callers trace.ops trace.config work refl still all n)))

@@ -1,6 +1,6 @@
 -- What the object map has of a block, event by event.
-use Rattle.std.proofs.Common.{◌≡◌, ◌⊎◌, ℕ, ◌+◌, ◌≤◌, Bool, true, false, List, [], ◌∷◌, map, Option, Some, None, IfSome, refl, sym, ap, ◌∙◌, inl, inr, arith, if◌then◌else◌}
-use Rattle.std.specs.List.{AllByRecursion, list_any}
+use Rattle.std.proofs.Common.{◌≡◌, ℕ, ◌+◌, ◌≤◌, Bool, true, false, List, [], ◌∷◌, map, Option, Some, None, IfSome, refl, sym, ap, ◌∙◌, inl, inr, arith, if◌then◌else◌}
+use Rattle.std.specs.List.{list_any}
 use Rattle.std.specs.Option.{option_map}
 use Rattle.std.proofs.lemmas.Bool.Decides.{nat_tests}
 use Rattle.arc_lists.proofs.Tables.{cases_true}
@@ -139,10 +139,13 @@ effects at ds (End n) = ends at ds
 
 -- ---- a history
 
+pub mapped-after : (at : Oid) (o : Outline) (e : CellEvent) → mapped_at at (after o e) ≡ mapped_then at (mapped_at at o) e
+mapped-after at o e = touches at (o.events + 1) (use_of e) (outline.effect o.dbufs e) ∙ effects at o.dbufs e
+
 pub mapped-all : (at : Oid) (o : Outline) (es : List CellEvent) → mapped_at at (after_all o es) ≡ mapped_through at (mapped_at at o) es
 mapped-all at o [] = refl
 mapped-all at o (e ∷ es) =
-    mapped-all at (after o e) es ∙ ap (λ (m : Option Mapped). mapped_through at m es) (touches at (o.events + 1) (use_of e) (outline.effect o.dbufs e) ∙ effects at o.dbufs e)
+    mapped-all at (after o e) es ∙ ap (λ (m : Option Mapped). mapped_through at m es) (mapped-after at o e)
 
 -- what it has at first
 abbrev pub opened_mapped : Oid → List Mapping → Option Mapped
@@ -158,8 +161,9 @@ opens at (m ∷ ms) = elim (cases_true (oid_eq at m.at)) [
 pub mapped-told : (at : Oid) (limit : ℕ) (opening : List Mapping) (es : List CellEvent) → mapped_at at (outline_after limit opening es) ≡ mapped_through at (opened_mapped at opening) es
 mapped-told at limit opening es = mapped-all at (outline_of (opening_cell limit opening)) es ∙ ap (λ (m : Option Mapped). mapped_through at m es) (opens at opening)
 
--- ---- what that may be, where nothing was synced
+-- ---- what there is once there is something
 
+-- a sync noted that it wrote the block
 abbrev pub is_synced : CellEvent → Bool
 is_synced (Get n b) = false
 is_synced (Put n b size fill) = false
@@ -216,97 +220,6 @@ put-mapped at m (e ∷ es) has is = elim (cases_true (is_put_of at e)) [
   | inr other ↦ put-mapped at (mapped_then at m e) es (rw other at has) is
 ]
 
--- a dirty block stays dirty, and a block that is clean in the end was so at first, with that pointer
-then-dirty : (at : Oid) (size : ℕ) (e : CellEvent) → is_synced e ≡ false → (x : ℕ) × (mapped_then at (Some (Dirty size)) e ≡ Some (Dirty x))
-then-dirty at size (Put n b most fill) un = elim (cases_true (oid_eq at b)) [
-  | inl here ↦ (most, rw here refl)
-  | inr far ↦ (size, rw far refl)
-]
-then-dirty at size (Patch n b from bytes) un = elim (cases_true (oid_eq at b)) [
-  | inl here ↦ (size, rw here refl)
-  | inr far ↦ (size, rw far refl)
-]
-then-dirty at size (Synced n b ptr) un = absurd (let clash : true ≡ false = un in cc)
-then-dirty at size (Get n b) un = (size, refl)
-then-dirty at size (Pin n b) un = (size, refl)
-then-dirty at size (Unpin n b) un = (size, refl)
-then-dirty at size (Load n b) un = (size, refl)
-then-dirty at size (Evict n b) un = (size, refl)
-then-dirty at size (End n) un = (size, refl)
-
-abbrev pub AreUnsynced : List CellEvent → Type 0
-AreUnsynced = AllByRecursion (λ e. is_synced e ≡ false)
-
-dirty-stays : (at : Oid) (size : ℕ) (es : List CellEvent) (ptr : Ptr) → AreUnsynced es → mapped_through at (Some (Dirty size)) es ≡ Some (Clean ptr) → ⊥
-dirty-stays at size [] ptr un is = let clash : ◌≡◌ {A = Option Mapped} (Some (Dirty size)) (Some (Clean ptr)) = is in cc
-dirty-stays at size (e ∷ es) ptr un is = let s = then-dirty at size e un.0 in dirty-stays at s.0 es ptr un.1 (ap (λ (o : Option Mapped). mapped_through at o es) (sym s.1) ∙ is)
-
--- where a block is clean behind an event, it was so before
-then-clean : (at : Oid) (p : Ptr) (e : CellEvent) → is_synced e ≡ false → (mapped_then at (Some (Clean p)) e ≡ Some (Clean p)) ⊎ ((x : ℕ) × (mapped_then at (Some (Clean p)) e ≡ Some (Dirty x)))
-then-clean at p (Put n b most fill) un = elim (cases_true (oid_eq at b)) [
-  | inl here ↦ inr (most, rw here refl)
-  | inr far ↦ inl (rw far refl)
-]
-then-clean at p (Patch n b from bytes) un = elim (cases_true (oid_eq at b)) [
-  | inl here ↦ inr (p.key.size, rw here refl)
-  | inr far ↦ inl (rw far refl)
-]
-then-clean at p (Synced n b ptr) un = absurd (let clash : true ≡ false = un in cc)
-then-clean at p (Get n b) un = inl refl
-then-clean at p (Pin n b) un = inl refl
-then-clean at p (Unpin n b) un = inl refl
-then-clean at p (Load n b) un = inl refl
-then-clean at p (Evict n b) un = inl refl
-then-clean at p (End n) un = inl refl
-
--- where nothing is mapped there is nothing, or a whole write of so many bytes
-then-none : (at : Oid) (e : CellEvent) → (mapped_then at None e ≡ None) ⊎ ((x : ℕ) × (mapped_then at None e ≡ Some (Dirty x)))
-then-none at (Put n b most fill) = elim (cases_true (oid_eq at b)) [
-  | inl here ↦ inr (most, rw here refl)
-  | inr far ↦ inl (rw far refl)
-]
-then-none at (Patch n b from bytes) = elim (cases_true (oid_eq at b)) [
-  | inl here ↦ inl (rw here refl)
-  | inr far ↦ inl (rw far refl)
-]
-then-none at (Synced n b ptr) = elim (cases_true (oid_eq at b)) [
-  | inl here ↦ inl (rw here refl)
-  | inr far ↦ inl (rw far refl)
-]
-then-none at (Get n b) = inl refl
-then-none at (Pin n b) = inl refl
-then-none at (Unpin n b) = inl refl
-then-none at (Load n b) = inl refl
-then-none at (Evict n b) = inl refl
-then-none at (End n) = inl refl
-
-some-clean : (a b : Ptr) → ◌≡◌ {A = Option Mapped} (Some (Clean a)) (Some (Clean b)) → a ≡ b
-some-clean a b is = cc
-
-clean-was : (at : Oid) (m : Mapped) (es : List CellEvent) (ptr : Ptr) → AreUnsynced es → mapped_through at (Some m) es ≡ Some (Clean ptr) → m ≡ Clean ptr
-clean-was at (Dirty size) es ptr un is = absurd (dirty-stays at size es ptr un is)
-clean-was at (Clean p) [] ptr un is = ap (λ (x : Ptr). Clean x) (some-clean p ptr is)
-clean-was at (Clean p) (e ∷ es) ptr un is = elim (then-clean at p e un.0) [
-  | inl same ↦ clean-was at (Clean p) es ptr un.1 (ap (λ (o : Option Mapped). mapped_through at o es) (sym same) ∙ is)
-  | inr dirty ↦ absurd (dirty-stays at dirty.0 es ptr un.1 (ap (λ (o : Option Mapped). mapped_through at o es) (sym dirty.1) ∙ is))
-]
-
--- so the pointer is the one that it had at first, and nothing wrote the block whole
-pub clean-first : (at : Oid) (m : Option Mapped) (es : List CellEvent) (ptr : Ptr) → AreUnsynced es → mapped_through at m es ≡ Some (Clean ptr) → m ≡ Some (Clean ptr)
-clean-first at (Some m) es ptr un is = ap (λ (x : Mapped). Some x) (clean-was at m es ptr un is)
-clean-first at None [] ptr un is = is
-clean-first at None (e ∷ es) ptr un is = elim (then-none at e) [
-  | inl none ↦ clean-first at None es ptr un.1 (ap (λ (o : Option Mapped). mapped_through at o es) (sym none) ∙ is)
-  | inr dirty ↦ absurd (dirty-stays at dirty.0 es ptr un.1 (ap (λ (o : Option Mapped). mapped_through at o es) (sym dirty.1) ∙ is))
-]
-
-pub clean-unput : (at : Oid) (m : Option Mapped) (es : List CellEvent) (ptr : Ptr) → AreUnsynced es → mapped_through at m es ≡ Some (Clean ptr) → list_any (is_put_of at) es ≡ true → ⊥
-clean-unput at m [] ptr un is has = let clash : false ≡ true = has in cc
-clean-unput at m (e ∷ es) ptr un is has = elim (cases_true (is_put_of at e)) [
-  | inl here ↦ let d = put-dirty at m e here in dirty-stays at d.0 es ptr un.1 (ap (λ (o : Option Mapped). mapped_through at o es) (sym d.1) ∙ is)
-  | inr other ↦ clean-unput at (mapped_then at m e) es ptr un.1 is (rw other at has)
-]
-
 -- ---- its size
 
 -- so many bytes end inside each whole write of the block
@@ -321,31 +234,10 @@ EndsInPut at last (Evict n b) = Unit {0}
 EndsInPut at last (Synced n b ptr) = Unit {0}
 EndsInPut at last (End n) = Unit {0}
 
-abbrev EndsIn : (last : ℕ) → Option Mapped → Type 0
+abbrev pub EndsIn : (last : ℕ) → Option Mapped → Type 0
 EndsIn last o = IfSome o (λ m. last ≤ mapped_size m)
 
 -- and inside what a patch leaves
-patched-in : (last : ℕ) (m : Option Mapped) → EndsIn last m → EndsIn last (option_map (λ x. Dirty (mapped_size x)) m)
+pub patched-in : (last : ℕ) (m : Option Mapped) → EndsIn last m → EndsIn last (option_map (λ x. Dirty (mapped_size x)) m)
 patched-in last None ends = tt
 patched-in last (Some m) ends = ends
-
-then-in : (at : Oid) (last : ℕ) (m : Option Mapped) (e : CellEvent) → is_synced e ≡ false → EndsInPut at last e → EndsIn last m → EndsIn last (mapped_then at m e)
-then-in at last m (Put n b size fill) un put ends = elim (cases_true (oid_eq at b)) [
-  | inl here ↦ rw here (put here)
-  | inr far ↦ rw far ends
-]
-then-in at last m (Patch n b from bytes) un put ends = elim (cases_true (oid_eq at b)) [
-  | inl here ↦ rw here (patched-in last m ends)
-  | inr far ↦ rw far ends
-]
-then-in at last m (Synced n b ptr) un put ends = absurd (let clash : true ≡ false = un in cc)
-then-in at last m (Get n b) un put ends = ends
-then-in at last m (Pin n b) un put ends = ends
-then-in at last m (Unpin n b) un put ends = ends
-then-in at last m (Load n b) un put ends = ends
-then-in at last m (Evict n b) un put ends = ends
-then-in at last m (End n) un put ends = ends
-
-pub through-in : (at : Oid) (last : ℕ) (m : Option Mapped) (es : List CellEvent) → AreUnsynced es → AllByRecursion (EndsInPut at last) es → EndsIn last m → EndsIn last (mapped_through at m es)
-through-in at last m [] un puts ends = ends
-through-in at last m (e ∷ es) un puts ends = through-in at last (mapped_then at m e) es un.1 puts.1 (then-in at last m e un.0 puts.0 ends)

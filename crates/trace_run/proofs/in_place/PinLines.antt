@@ -1,10 +1,7 @@
 -- Where a caller's earlier lines that take pins of a block were done, and are more than those that take one back, the caller has a pin there in the front of the cell's history at which its line looked.
-use Rattle.std.proofs.Common.{◌≡◌, ℕ, zero, suc, ◌+◌, ◌<◌, ◌≤◌, ◌==◌, ◌&&◌, cond, Bool, true, false, not, List, [], ◌∷◌, ◌++◌, length, length-append, map, take, Option, Some, None, refl, sym, ap, ◌∙◌, subst, inl, inr, arith, eq-eqb}
+use Rattle.std.proofs.Common.{◌≡◌, ℕ, zero, suc, ◌+◌, ◌≤◌, ◌==◌, ◌&&◌, cond, Bool, true, false, List, [], ◌∷◌, ◌++◌, map, take, Option, Some, None, refl, sym, ap, ◌∙◌, subst, inl, inr, arith}
 use Rattle.std.specs.Prelude.{count_by, filter, slice_get}
-use Rattle.std.specs.List.{AllByRecursion, list_all}
-use Rattle.std.specs.Option.{option_map_or}
-use Rattle.std.proofs.lemmas.List.{nil_from_length}
-use Rattle.std.proofs.lemmas.List.Elements.{filter-append}
+use Rattle.std.specs.List.{AllByRecursion}
 use Rattle.std.proofs.lemmas.List.Sums.{sum_by-append, sum_by-cons}
 use mathlib.Core.Logic.{dite}
 use native.Mathlib.Decide.{ℕ_discrete}
@@ -14,7 +11,7 @@ use Rattle.dbuf_state.specs.History.{Leads}
 use Rattle.dbuf_state.specs.Numbers.{number_of}
 use Rattle.dbuf_state.specs.Objects.{PlainCell, after, untold}
 use Rattle.dbuf_state.specs.Oids.{oid_eq}
-use Rattle.dbuf_state.specs.Outline.{is_end, is_pin_of, is_unpin_of}
+use Rattle.dbuf_state.specs.Outline.{is_pin_of, is_unpin_of}
 use Rattle.dbuf_state.specs.declared.event.CellEvent.{CellEvent}
 use Rattle.dbuf_state.specs.declared.event.CellEvent.TheVariants as events
 use Rattle.dbuf_state.specs.declared.oid.Oid.{Oid}
@@ -27,14 +24,12 @@ use Rattle.trace_text.specs.declared.reply.Reply.TheVariants as replies
 use Rattle.trace_run.specs.Answers.{is_refusal}
 use Rattle.trace_run.specs.Deeds.{events_of_cell, noted_in}
 use Rattle.trace_run.specs.InPlace.{is_pin_by, is_unpin_by}
-use Rattle.trace_run.specs.Lines.{caller_of, has_sync, is_of_caller, is_sync}
-use Rattle.trace_run.specs.RunWork.{AllFit, FitsBy, lines_of_caller, lines_of_feeder}
+use Rattle.trace_run.specs.Lines.{is_of_caller}
+use Rattle.trace_run.specs.RunWork.{lines_of_caller}
 use Rattle.trace_run.specs.callers.WorkLines.{AreLinesOf, IsWorkOf, NotesLine, noted_of_work}
 use Rattle.trace_run.specs.dbufs.CellEnds.{done_by}
 use Rattle.trace_run.specs.dbufs.Objects.{Brought, Line, Loaded, NotesOwn, Nothing, OwnEvent, Refused, Work, loads_of, no_work, ops_of}
-use Rattle.trace_run.proofs.TraceLines.{none-at}
 use Rattle.trace_run.proofs.deeds.NotedCells.{cell-append, noted-else, noted-here}
-use Rattle.trace_run.proofs.in_place.EventLines.{IsOfLines}
 use Rattle.trace_run.proofs.in_place.Mapped.{oid-is}
 
 -- ---- lists
@@ -302,73 +297,3 @@ module _ (g : Config) (n : ℕ) (at : Oid) where
   pub unpins-few : (ls : List Line) → AllByRecursion (λ l. is_of_caller n l.op ≡ true → count_by (is_unpin_of n at) (events_of_cell (cell_of g.cells at) l.work.noted) ≤ cond {A = ℕ} (is_unpin_by n at l.op) 1 0) ls
       → count_by (is_unpin_of n at) (events_of_cell (cell_of g.cells at) (noted_of_work (lines_of_caller n ls))) ≤ count_by (is_unpin_by n at) (ops_of ls)
   unpins-few = lines-counted n (cell_of g.cells at) (is_unpin_of n at) (is_unpin_by n at) (λ a b. a ≤ b) (omega arith) (λ a b c d x y. omega (arith, x, y)) (unpin-line-his n at)
-
--- ---- no End stands in the front
-
-not-end : (callers : ℕ) (lines : List Op) (e : CellEvent) → IsOfLines callers lines e → (number_of e == callers) ≡ false → not (is_end e) ≡ true
-not-end callers lines (events.End n) is other = absurd (let own : (n == callers) ≡ true = eq-eqb n callers is.1 in let off : (n == callers) ≡ false = other in let clash : true ≡ false = sym own ∙ off in cc)
-not-end callers lines (events.Get n b) is other = refl
-not-end callers lines (events.Put n b size fill) is other = refl
-not-end callers lines (events.Patch n b from bytes) is other = refl
-not-end callers lines (events.Pin n b) is other = refl
-not-end callers lines (events.Unpin n b) is other = refl
-not-end callers lines (events.Load n b) is other = refl
-not-end callers lines (events.Evict n b) is other = refl
-not-end callers lines (events.Synced n b ptr) is other = refl
-
--- where the feeder did nothing, nothing was ended
-pub none-ended : (callers : ℕ) (lines : List Op) (es : List CellEvent) → AllByRecursion (IsOfLines callers lines) es → done_by callers es ≡ [] → list_all (λ e. not (is_end e)) es ≡ true
-none-ended callers lines [] all none = refl
-none-ended callers lines (e ∷ es) all none = elim (cases_true (number_of e == callers)) [
-  | inl his ↦ absurd (let clash : e ∷ done_by callers es ≡ [] = rw his at none in cc)
-  | inr other ↦
-      let before : done_by callers es ≡ [] = rw other at none in
-      let going = not-end callers lines e all.0 other in
-      rw going (none-ended callers lines es all.1 before)
-]
-
--- the feeder's End is all that it did, so it did nothing before that
-pub feeder-none : (callers : ℕ) (h front ys : List CellEvent) → h ≡ (front ++ ys) ++ events.End callers ∷ [] → done_by callers h ≡ events.End callers ∷ [] → done_by callers front ≡ []
-feeder-none callers h front ys is did =
-    let here : (callers == callers) ≡ true = eq-eqb callers callers refl in
-    let last : done_by callers (events.End callers ∷ []) ≡ events.End callers ∷ [] = rw here refl in
-    let two = filter-append (λ e. number_of e == callers) front ys in
-    let all : done_by callers h ≡ (done_by callers front ++ done_by callers ys) ++ events.End callers ∷ [] =
-    ap (done_by callers) is ∙ (filter-append (λ e. number_of e == callers) (front ++ ys) (events.End callers ∷ []) ∙ (λ z. two z ++ last z)) in
-    let long : length ((done_by callers front ++ done_by callers ys) ++ events.End callers ∷ []) ≡ 1 = ap length (sym all ∙ did) in
-    nil_from_length (done_by callers front) (omega (arith, long, length-append (done_by callers front ++ done_by callers ys) (events.End callers ∷ []), length-append (done_by callers front) (done_by callers ys)))
-
--- where no line is a sync, the feeder's lines did nothing to cells
-module _ (g : Config) where
-  feeder-op-none : (op : Op) (reply : Reply) (work : Work) → FitsBy g (caller_of op) (record { op = op; reply = reply; work = work }) → is_sync op ≡ false → option_map_or (λ (n : ℕ). false) (caller_of op) true ≡ true → work.noted ≡ []
-  feeder-op-none (ops.Cap c) reply work fits un own = ap (λ (w : Work). w.noted) fits
-  feeder-op-none ops.Feed reply work fits un own = ap (λ (w : Work). w.noted) fits
-  feeder-op-none (ops.Txg t) reply work fits un own = absurd (let clash : true ≡ false = un in cc)
-  feeder-op-none (ops.Read n t x w) reply work fits un own = absurd (let clash : false ≡ true = own in cc)
-  feeder-op-none (ops.Hold n t x) reply work fits un own = absurd (let clash : false ≡ true = own in cc)
-  feeder-op-none (ops.Drop n x) reply work fits un own = absurd (let clash : false ≡ true = own in cc)
-  feeder-op-none (ops.Get n t b w) reply work fits un own = absurd (let clash : false ≡ true = own in cc)
-  feeder-op-none (ops.Put n t b size fill) reply work fits un own = absurd (let clash : false ≡ true = own in cc)
-  feeder-op-none (ops.Patch n t b from bytes) reply work fits un own = absurd (let clash : false ≡ true = own in cc)
-  feeder-op-none (ops.Pin n t b) reply work fits un own = absurd (let clash : false ≡ true = own in cc)
-  feeder-op-none (ops.Unpin n b) reply work fits un own = absurd (let clash : false ≡ true = own in cc)
-
-  pub feeder-lines-none : (os : List Op) (rs : List Reply) (ls : List Line) → AreLinesOf os rs ls → AllFit g ls → has_sync os ≡ false → noted_of_work (lines_of_feeder ls) ≡ []
-  feeder-lines-none [] [] [] are fits un = refl
-  feeder-lines-none [] [] (l ∷ ls) are fits un = absurd are
-  feeder-lines-none [] (r ∷ rs) ls are fits un = absurd are
-  feeder-lines-none (o ∷ os) [] ls are fits un = absurd are
-  feeder-lines-none (o ∷ os) (r ∷ rs) [] are fits un = absurd are
-  feeder-lines-none (o ∷ os) (r ∷ rs) (l ∷ ls) are fits un =
-      let mine : is_sync l.op ≡ false = ap is_sync are.0 ∙ none-at (o ∷ os) 0 o un refl in
-      let rest = feeder-lines-none os rs ls are.2 fits.1 (tail-none o os un) in
-      elim (cases_true (option_map_or (λ (n : ℕ). false) (caller_of l.op) true)) [
-        | inl own ↦ let here = feeder-op-none l.op l.reply l.work fits.0 mine own in rw own (λ z. here z ++ rest z)
-        | inr other ↦ rw other rest
-      ]
-    where
-      tail-none : (o : Op) (os : List Op) → has_sync (o ∷ os) ≡ false → has_sync os ≡ false
-      tail-none o os un = elim (cases_true (is_sync o)) [
-        | inl sync ↦ absurd (let clash : true ≡ false = rw sync at un in cc)
-        | inr other ↦ (let same : has_sync os ≡ false = rw other at un in same)
-      ]

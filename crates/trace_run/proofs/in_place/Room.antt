@@ -1,5 +1,5 @@
 -- Where nothing is out of place no sync stops for want of room.
-use Rattle.std.proofs.Common.{◌≡◌, ℕ, zero, suc, List, [], ◌∷◌, ◌++◌, length, take, Option, Some, None, refl, sym, ap, ◌∙◌, subst, inl, inr, arith}
+use Rattle.std.proofs.Common.{◌≡◌, ◌≤◌, ℕ, zero, suc, List, [], ◌∷◌, ◌++◌, length, take, Option, Some, None, refl, sym, ap, ◌∙◌, subst, inl, inr, arith}
 use Rattle.std.specs.Prelude.{slice_get}
 use Rattle.std.specs.List.{AllByRecursion}
 use mathlib.Core.Logic.{dite}
@@ -7,7 +7,7 @@ use native.Mathlib.Decide.{ℕ_discrete}
 use Rattle.arc_lists.proofs.Tables.{cases_true}
 use Rattle.arc_table.specs.Ended.{Ended}
 use Rattle.dbuf_cells.specs.Turns.{OnHeap}
-use Rattle.trace_text.specs.Grammar.{IsFormed}
+use Rattle.trace_text.specs.Grammar.{AreApart}
 use Rattle.trace_text.specs.declared.op.Op.{Op}
 use Rattle.trace_text.specs.declared.op.Op.TheVariants as ops
 use Rattle.trace_text.specs.declared.reply.Reply.{Reply}
@@ -51,19 +51,19 @@ ops-are (o ∷ os) (r ∷ rs) (l ∷ ls) are = let rest = ops-are os rs ls are.2
 -- ---- a run
 
 pub never-full : {P D : Type 0} (pool : Ghosts P) (device : Devices D) (before after : P) (lent back : Option D) (trace : Trace) (need left : ℕ) (closed : Ended OnHeap) (report : Report) (image : List ℕ)
-    → HasRun pool device before after lent back trace (Full need left) closed report → IsFormed trace → IsInPlace (pool.size before) image trace → ⊥
-never-full pool device before after lent back trace need left closed report image r formed in_place =
+    → HasRun pool device before after lent back trace (Full need left) closed report → 1 ≤ trace.config.callers → AreApart trace.objects → IsInPlace (pool.size before) image trace → ⊥
+never-full pool device before after lent back trace need left closed report image r some apart in_place =
     dite (ℕ_discrete trace.config.callers 1)
     (λ one. elim (cases_true (has_further trace.ops)) [
       | inl further ↦ (
           let run = r.run.in_turn one further in
-          never-in-turn pool device trace formed.apart len _ before after r.run.place lent r.work.lines r.work.feeds run.reached run.ended.stops.behind.tick (rest run.ended.stops.behind.tick run.ended.stops.behind.at).0 r.work.stopped need left refl
+          never-in-turn pool device trace apart len _ before after r.run.place lent r.work.lines r.work.feeds run.reached run.ended.stops.behind.tick (rest run.ended.stops.behind.tick run.ended.stops.behind.at).0 r.work.stopped need left refl
           (room run.ended.stops.behind.tick run.ended.stops.behind.at) r.did.fits sized run.lines run.ended.stops.answer)
       | inr plain ↦ absurd (let clash : ◌≡◌ {A = Ending} (Full need left) Whole = (r.run.alone one plain).0 in cc)
     ])
     (λ more.
-    let run = r.run.together (let some = formed.config.counts.callers.0 in omega (arith, more, some)) in
-    never-together pool trace formed.apart len closed.cells (λ i end there. (r.cells.each i end there).opening) (λ i end there. (r.cells.each i end there).parties) r.run.told before after r.run.place r.work.lines run.reached
+    let run = r.run.together (omega (arith, more, some)) in
+    never-together pool trace apart len closed.cells (λ i end there. (r.cells.each i end there).opening) (λ i end there. (r.cells.each i end there).parties) r.run.told before after r.run.place r.work.lines run.reached
     run.ended.behind.tick (rest run.ended.behind.tick run.ended.behind.at).0 r.work.stopped need left refl (room run.ended.behind.tick run.ended.behind.at) r.did.fits sized run.groups run.ended.answer)
   where
     len : ℕ

@@ -1,5 +1,5 @@
 -- The lines of groups, what each party did by them, and what stands at the front of a cell.
-use Rattle.std.proofs.Common.{◌≡◌, ◌⊎◌, ◌+◌, ◌==◌, ℕ, suc, true, false, List, [], ◌∷◌, ◌++◌, length, Option, Some, None, refl, sym, ap, ◌∙◌, inl, inr, append-nil, eq-eqb, ne_eqb}
+use Rattle.std.proofs.Common.{◌≡◌, ◌⊎◌, ◌+◌, ◌==◌, ℕ, suc, true, false, List, [], ◌∷◌, ◌++◌, length, Option, Some, None, refl, sym, ap, ◌∙◌, inl, inr, append-nil, append_assoc, eq-eqb, ne_eqb}
 use Rattle.std.specs.List.{AllByRecursion}
 use Rattle.std.proofs.lemmas.Bool.{eqb-true}
 use Rattle.std.proofs.lemmas.List.Elements.{filter-append}
@@ -84,6 +84,10 @@ two-fronts (x ∷ xs) (y ∷ ys) r s is =
 
 pub longer : (e : CellEvent) (zs : List CellEvent) → suc (length (done_by (number_of e) zs)) ≡ length (done_by (number_of e) (e ∷ zs))
 longer e zs = let own : (number_of e == number_of e) ≡ true = eq-eqb (number_of e) (number_of e) refl in rw own refl
+
+-- what stands behind two parts stands behind both as one
+pub joined : (all first next rest : List CellEvent) → all ≡ first ++ (next ++ rest) → all ≡ (first ++ next) ++ rest
+joined all first next rest is = is ∙ sym (append_assoc first next rest)
 
 -- ---- what a sync notes is the feeder's
 

@@ -37,7 +37,7 @@ use Rattle.trace_run.proofs.in_place.RoomLines.{HaveRoomBehind, inside-unsynced,
 use Rattle.trace_run.proofs.in_place.RoomLists.{all-behind, all-done}
 use Rattle.trace_run.proofs.in_place.RoomNotes.{IsAmong, IsSized, IsSizedLine, IsWriteOf, all-among, all-each, events-all}
 use Rattle.trace_run.proofs.in_place.RoomSyncs.{IsReady, need-ready, ready-sized, synced-sized, there-cell}
-use Rattle.trace_run.proofs.in_place.RoomGroups.{AllInside, by-append, by-none, by-synced, by_party, end_lines, flat, flat-begun, inside-begun, longer, party-all, two-fronts, with-end}
+use Rattle.trace_run.proofs.in_place.RoomGroups.{AllInside, by-append, by-none, by-synced, by_party, end_lines, flat, flat-begun, inside-begun, joined, longer, party-all, two-fronts, with-end}
 
 module _ {P : Type 0} (pools : Ghosts P) (trace : Trace) (apart : AreApart trace.objects) (len : ℕ) (closed : List OnHeap)
     (opened : (i : ℕ) (end : OnHeap) → slice_get closed i ≡ Some end → end.value.opening ≡ opening_map trace i)
@@ -243,7 +243,7 @@ module _ {P : Type 0} (pools : Ghosts P) (trace : Trace) (apart : AreApart trace
           record {
             synced = c.value.history ++ news;
             rest = had.rest;
-            whole = had.whole ∙ sym (append_assoc c.value.history news had.rest);
+            whole = joined end.value.history c.value.history news had.rest had.whole;
             did = λ n less.
                 let more : done_by n (c.value.history ++ news) ≡ done_by n c.value.history ++ done_by n news = filter-append (λ e. number_of e == n) c.value.history news in
                 let both : done_by n c.value.history ++ done_by n news ≡ by_party g n i (h.front ++ h.since) ++ by_party g n i (line ∷ []) = (λ z. did n less z ++ by-synced g n i t reply work items stood.noted z) in

@@ -1,11 +1,8 @@
 -- Where nothing is out of place and no fault of the pool rose, a run does all lines, and refuses none.
-use Rattle.std.proofs.Common.{◌≡◌, ℕ, zero, suc, ◌+◌, ◌^◌, ◌<◌, ◌≤◌, ◌==◌, cond, Bool, true, false, List, [], ◌∷◌, ◌++◌, length, take, Option, Some, None, IfSome, refl, sym, ap, ◌∙◌, subst, inl, inr, arith, eq-eqb, append-nil, append_assoc, nat_lt}
+use Rattle.std.proofs.Common.{◌≡◌, ℕ, ◌+◌, ◌^◌, ◌<◌, ◌≤◌, ◌==◌, cond, Bool, true, false, List, [], ◌∷◌, ◌++◌, length, take, Option, Some, IfSome, refl, sym, ap, ◌∙◌, subst, inl, inr, arith, eq-eqb, append-nil, append_assoc}
 use Rattle.std.specs.Prelude.{count_by, slice_get}
 use Rattle.std.specs.List.{AllByRecursion, list_any}
-use Rattle.std.proofs.lemmas.Bool.{cases_lt}
-use Rattle.std.proofs.lemmas.Bool.Decides.{nat_tests}
 use Rattle.std.proofs.lemmas.Option.{slice_get_within}
-use Rattle.std.proofs.lemmas.List.Sums.{sum_by-cons}
 use mathlib.Core.Logic.{dite}
 use native.Mathlib.Decide.{ℕ_discrete}
 use Rattle.arc_lists.proofs.Tables.{cases_true}
@@ -22,6 +19,7 @@ use Rattle.dbuf_state.specs.declared.window.Window.{Window}
 use Rattle.dbuf_cells.specs.Laws.{is_put_of}
 use Rattle.dbuf_cells.specs.Places.{cell_of}
 use Rattle.dbuf_cells.specs.Turns.{OnHeap}
+use Rattle.trace_text.specs.Grammar.{AreApart}
 use Rattle.trace_text.specs.declared.op.Op.{Op}
 use Rattle.trace_text.specs.declared.op.Op.TheVariants as ops
 use Rattle.trace_text.specs.declared.reply.Refusal.{Refusal}
@@ -34,85 +32,39 @@ use Rattle.vdev_io.specs.declared.device.CacheDev.{Ghosts as Devices}
 use Rattle.vdev_io.specs.declared.pool.Pool.{Ghosts}
 use Rattle.vdev_io.specs.Faults.{Rose}
 use Rattle.trace_run.specs.declared.ran.Ending.{Ending}
-use Rattle.trace_run.specs.declared.ran.Ending.TheVariants.{Fork, Full, Sync, Whole}
+use Rattle.trace_run.specs.declared.ran.Ending.TheVariants.{Full, Whole}
 use Rattle.trace_run.specs.Answers.{AnswersAll, AnswersFeed, IsInside, dropped_reads, is_pool_fault, is_refusal, kept_reads}
 use Rattle.trace_run.specs.Deeds.{Noted, events_of_cell}
 use Rattle.trace_run.specs.InPlace.{EndsInAll, IsFound, IsInPlace, IsPutBefore, IsReadable, RefusesNothing, is_drop_of, is_hold_of, is_pin_by, is_unpin_by}
-use Rattle.trace_run.specs.Lines.{caller_of, has_further, has_sync, is_of_caller}
+use Rattle.trace_run.specs.Lines.{caller_of, has_further, is_of_caller}
 use Rattle.trace_run.specs.Outcome.{HasRun}
 use Rattle.trace_run.specs.RunWork.{FitsBy, RunWork, lines_of_caller, noted_by, noted_of_syncs}
-use Rattle.trace_run.specs.callers.Together.{StopsSo, faults_told}
+use Rattle.trace_run.specs.callers.Together.{ends_group, faults_told}
 use Rattle.trace_run.specs.callers.WorkLines.{HasFront, IsWorkOf, noted_of_work}
 use Rattle.trace_run.specs.dbufs.CellEnds.{IsCellOf, done_by, noted_ends}
 use Rattle.trace_run.specs.dbufs.ObjectAnswers.{LookedAt}
 use Rattle.trace_run.specs.dbufs.ObjectReplies.{RefusesAt, RefusesPin, RefusesWhole}
 use Rattle.trace_run.specs.dbufs.Objects.{Line, Work, no_work, ops_of}
 use Rattle.trace_run.proofs.CellLemmas.{ends-one}
-use Rattle.trace_run.proofs.TraceLines.{all-callers, none-at}
+use Rattle.trace_run.proofs.TraceLines.{all-callers}
 use Rattle.trace_run.proofs.callers.CallerActLemmas.{caller-is}
+use Rattle.trace_run.proofs.deeds.NotedCells.{cell-append}
 use Rattle.trace_run.proofs.in_place.EventLines.{IsOfLines, all-front, history-all}
+use Rattle.trace_run.proofs.in_place.FedFronts.{GoesOn, fed-going, feeder-front, front-all, next-end, none-ended, noted-all, other-readable}
 use Rattle.trace_run.proofs.in_place.HeldReads.{IsKeptBy, Pairs, drop-fine, dropped-few, kept-counted, pairs-of, pairs-take}
-use Rattle.trace_run.proofs.in_place.ObjectLines.{IsThere, done-fine, inside, is-done, refuse-at, refuse-whole, window-fine}
-use Rattle.trace_run.proofs.in_place.PinLines.{all-taken, feeder-lines-none, feeder-none, leads-front, none-ended, op-at, ops-taken, pins-done, pins-line, pins-more, unpins-done, unpins-few, unpins-line}
+use Rattle.trace_run.proofs.in_place.ObjectLines.{IsThere, done-fine, inside, is-done, refuse-at, refuse-whole, there-now, whole-at, window-fine}
+use Rattle.trace_run.proofs.in_place.PinLines.{all-taken, leads-front, op-at, ops-taken, pins-done, pins-line, pins-more, unpins-done, unpins-few, unpins-line}
 use Rattle.trace_run.proofs.in_place.PutLines.{LineAt, among-lines, any-done, line-at, put-noted}
+use Rattle.trace_run.proofs.in_place.ReadableFront.{IsReadableNote, is_unread, load-fine}
 use Rattle.trace_run.proofs.in_place.Refusals.{hold-kept, is-kept, read-fine}
-
--- ---- lists
-
-no-refusal : (rs : List Reply) → ((k : ℕ) (r : Reply) → slice_get rs k ≡ Some r → is_refusal r ≡ false) → list_any is_refusal rs ≡ false
-no-refusal [] each = refl
-no-refusal (r ∷ rs) each = let none = each 0 r refl in rw none (no-refusal rs (λ k x at. each (suc k) x at))
-
-some-reply : (a b : Reply) → ◌≡◌ {A = Option Reply} (Some a) (Some b) → a ≡ b
-some-reply a b is = cc
-
-counted : (x : Reply) (xs : List Reply) → count_by is_pool_fault (x ∷ xs) ≡ cond {A = ℕ} (is_pool_fault x) 1 0 + count_by is_pool_fault xs
-counted x xs = sum_by-cons (λ (y : Reply). cond {A = ℕ} (is_pool_fault y) 1 0) x xs
-
-no-fault : (rs : List Reply) → count_by is_pool_fault rs ≡ 0 → (k : ℕ) (r : Reply) → slice_get rs k ≡ Some r → is_pool_fault r ≡ false
-no-fault [] none k r at = absurd (let clash : ◌≡◌ {A = Option Reply} None (Some r) = at in cc)
-no-fault (x ∷ xs) none zero r at =
-    let more = counted x xs in
-    let here : is_pool_fault x ≡ false = elim (cases_true (is_pool_fault x)) [
-      | inl passes ↦ absurd (let one : cond {A = ℕ} (is_pool_fault x) 1 0 ≡ 1 = ap (λ (b : Bool). cond {A = ℕ} b 1 0) passes in omega (arith, none, more, one))
-      | inr fails ↦ fails
-    ] in
-    ap is_pool_fault (sym (some-reply x r at)) ∙ here
-no-fault (x ∷ xs) none (suc k) r at =
-    let more = counted x xs in
-    no-fault xs (omega (arith, none, more)) k r at
-
-all-at : (P : Line → Type 0) (xs : List Line) → AllByRecursion P xs → (k : ℕ) (x : Line) → slice_get xs k ≡ Some x → P x
-all-at P [] all k x at = absurd (let clash : ◌≡◌ {A = Option Line} None (Some x) = at in cc)
-all-at P (y ∷ ys) all zero x at = let same : y ≡ x = cc in subst P same all.0
-all-at P (y ∷ ys) all (suc k) x at = all-at P ys all.1 k x at
-
-there-op : (os : List Op) (k : ℕ) → k < length os → (op : Op) × (slice_get os k ≡ Some op)
-there-op [] k less = absurd (omega (arith, less))
-there-op (o ∷ os) zero less = (o, refl)
-there-op (o ∷ os) (suc k) less = there-op os k (omega (arith, less))
-
-less-test : (m n : ℕ) → m < n → nat_lt m n ≡ true
-less-test m n less = grind (arith, nat_tests)
-
--- ---- faults
-
-none-told : (before after told : ℕ) → after ≡ before + told → (Rose before after → ⊥) → before < 2 ^ 63 → told ≡ 0
-none-told before after told is still low = elim (cases_lt 0 told) [
-  | inl some ↦ absurd (still (omega (arith, is, some)))
-  | inr none ↦ omega (arith, none)
-]
-
-whole-ending : {P : Type 0} (pool : Ghosts P) (before after : P) (trace : Trace) (rs : List Reply) (ending : Ending) → faults_told ending rs ≡ 0 → has_sync trace.ops ≡ false → StopsSo pool before after trace rs ending → ending ≡ Whole
-whole-ending pool before after trace rs Whole none un stops = refl
-whole-ending pool before after trace rs Fork none un stops = absurd (omega (arith, none))
-whole-ending pool before after trace rs Sync none un stops = absurd (omega (arith, none))
-whole-ending pool before after trace rs (Full need left) none un stops =
-    absurd (let clash : true ≡ false = none-at trace.ops (length rs) (ops.Txg stops.tick) un stops.at in cc)
+use Rattle.trace_run.proofs.in_place.Room.{never-full}
+use Rattle.trace_run.proofs.in_place.RunLists.{all-at, less-test, no-fault, no-refusal, none-told, some-reply, there-op, whole-ending}
+use Rattle.trace_run.proofs.in_place.SyncedAlone.{get-read, patch-read, pin-read}
+use Rattle.trace_run.proofs.in_place.SyncedTold.{fed_notes, several-told}
 
 -- ---- all lines were done
 
-module _ {P D : Type 0} (pool : Ghosts P) (device : Devices D) (before after : P) (lent back : Option D) (trace : Trace) (closed : Ended OnHeap) (report : Report) (image : List ℕ)
+module _ {P D : Type 0} (pool : Ghosts P) (told_len : (p : P) (bytes : List ℕ) → pool.told p ≡ Some bytes → length bytes ≡ pool.size p) (device : Devices D) (before after : P) (lent back : Option D) (trace : Trace) (closed : Ended OnHeap) (report : Report) (image : List ℕ)
     (r : HasRun pool device before after lent back trace Whole closed report) (tells : pool.told before ≡ Some image) (in_place : IsInPlace (pool.size before) image trace)
     (some : 1 ≤ trace.config.callers) (below : (k : ℕ) (op : Op) → slice_get trace.ops k ≡ Some op → (n : ℕ) → caller_of op ≡ Some n → n < trace.config.callers)
     (fine : (k : ℕ) (reply : Reply) → slice_get report.replies k ≡ Some reply → is_pool_fault reply ≡ false) where
@@ -178,7 +130,33 @@ module _ {P D : Type 0} (pool : Ghosts P) (device : Devices D) (before after : P
     all-events : AllByRecursion (IsOfLines trace.config.callers trace.ops) looked.front
     all-events = all-front (IsOfLines trace.config.callers trace.ops) looked.front (events_of_cell (cell_of trace.config.cells at) l.work.noted ++ looked.rest)
         (subst (AllByRecursion (IsOfLines trace.config.callers trace.ops)) looked.whole
-        (history-all trace trace.ops report.replies r.work refl r.did.lines r.did.fits still (λ j op there. none-at trace.ops j op in_place.unsynced there) (cell_of trace.config.cells at) looked.cell is-cell))
+        (history-all trace trace.ops report.replies r.work refl r.did.lines r.did.fits still (cell_of trace.config.cells at) looked.cell is-cell))
+
+    -- that front is legal
+    abbrev start : PlainCell
+    start = opening_cell looked.cell.value.limit looked.cell.value.opening
+
+    first : (bases : List (List ℕ)) × (mid : PlainCell) × Leads start looked.front bases mid
+    first = leads-front start is-cell.end looked.front (events_of_cell (cell_of trace.config.cells at) l.work.noted ++ looked.rest) is-cell.bases
+        (subst (λ (es : List CellEvent). Leads start es is-cell.bases is-cell.end) looked.whole is-cell.legal.legal)
+
+    -- what the feeder did there begins what it did to the cell before it ended it
+    fed-front : events_of_cell (cell_of trace.config.cells at) (fed_notes lines)
+        ≡ done_by trace.config.callers looked.front ++ done_by trace.config.callers (events_of_cell (cell_of trace.config.cells at) l.work.noted ++ looked.ended.0)
+    fed-front =
+        let callers : ℕ = trace.config.callers in
+        let i : ℕ = cell_of trace.config.cells at in
+        let notes : List CellEvent = events_of_cell i l.work.noted in
+        let here : (callers == callers) ≡ true = eq-eqb callers callers refl in
+        let syncs : noted_of_syncs r.work ≡ fed_notes lines = (λ z. fed_notes lines ++ (still z).noted) ∙ append-nil (fed_notes lines) in
+        let by : noted_by trace.config r.work callers ≡ fed_notes lines ++ noted_ends callers 0 trace.config.cells = rw here (ap (λ (ns : List Noted). ns ++ noted_ends callers 0 trace.config.cells) syncs) in
+        let some_cells : i < trace.config.cells = subst (λ (x : ℕ). i < x) r.cells.count (slice_get_within closed.cells i looked.cell looked.there) in
+        let did : done_by callers looked.cell.value.history ≡ events_of_cell i (fed_notes lines) ++ End callers ∷ [] =
+        is-cell.did callers (omega arith) ∙ (ap (events_of_cell i) by ∙ (cell-append i (fed_notes lines) (noted_ends callers 0 trace.config.cells)
+        ∙ ap (λ (es : List CellEvent). events_of_cell i (fed_notes lines) ++ es) (ends-one callers i 0 trace.config.cells (omega arith) (omega (arith, some_cells))))) in
+        feeder-front callers looked.cell.value.history looked.front (notes ++ looked.ended.0) (events_of_cell i (fed_notes lines))
+        (looked.whole ∙ (ap (λ (es : List CellEvent). looked.front ++ (notes ++ es)) looked.ended.1
+        ∙ (ap (λ (es : List CellEvent). looked.front ++ es) (sym (append_assoc notes looked.ended.0 (End callers ∷ []))) ∙ sym (append_assoc looked.front (notes ++ looked.ended.0) (End callers ∷ []))))) did
 
     -- an earlier whole write was done
     put-found : IsPutBefore trace.ops k n at → list_any (is_put_of at) looked.front ≡ true
@@ -211,45 +189,87 @@ module _ {P D : Type 0} (pool : Ghosts P) (device : Devices D) (before after : P
     front-told : HasFront r.run.place (Some image) (r.run.told k)
     front-told = subst (λ (o : Option (List ℕ)). HasFront r.run.place o (r.run.told k)) tells (r.run.told_front k)
 
-    refused-at : (last : ℕ) → IsFound len image trace k n at → EndsInAll trace at last → (refusal : Refusal)
-        → RefusesAt len (r.run.told k) looked.cell.value.limit looked.cell.value.opening looked.front l.work.brought at last refusal → is_pool_fault (replies.Refused refusal) ≡ true
-    refused-at last is ends refusal why = refuse-at len image trace at looked.front looked.cell.value.limit looked.cell.value.opening is-cell.opening all-events (found is)
-        r.run.place (r.run.told k) r.run.first front-told l.work.brought last
-        (inside len image trace at looked.front looked.cell.value.limit looked.cell.value.opening is-cell.opening all-events (found is) last ends) refusal why
+    -- of several callers: what syncs noted there can be read
+    notes-readable : 2 ≤ trace.config.callers → slice_get lines k ≡ Some l → ends_group l.op ≡ false → (now : List ℕ) × (r.run.told k ≡ Some now) × AllByRecursion (IsReadableNote len now) looked.front
+    notes-readable several there grouped =
+        let callers : ℕ = trace.config.callers in
+        let i : ℕ = cell_of trace.config.cells at in
+        let run = r.run.together several in
+        let t = several-told len r.run.told pool told_len trace closed.cells before image r.run.place run.reached lines tells refl r.run.first run.groups r.did.fits k l there grouped in
+        let Reads : CellEvent → Type 0 = IsReadableNote len t.image in
+        let notes : AllByRecursion Reads (events_of_cell i (fed_notes (take k lines))) = noted-all Reads i (fed_notes (take k lines)) t.notes in
+        let fed : AllByRecursion Reads (done_by callers looked.front) = elim (next-end trace.config lines k l r.did.fits there grouped) [
+          | inl next ↦
+              let u = looked.unsynced next.0 next.1 next.2 next.3 next.4 in
+              all-front Reads (done_by callers looked.front) u.0 (subst (AllByRecursion Reads) (sym (ap (events_of_cell i) next.5) ∙ u.1) notes)
+          | inr none ↦
+              all-front Reads (done_by callers looked.front) (done_by callers (events_of_cell i l.work.noted ++ looked.ended.0)) (subst (AllByRecursion Reads) (sym (ap (events_of_cell i) none) ∙ fed-front) notes)
+        ] in
+        (t.image, t.is, front-all Reads callers trace.ops (other-readable len t.image callers trace.ops) looked.front all-events fed)
 
-    refused-whole : IsFound len image trace k n at → (refusal : Refusal)
+    several-read : 2 ≤ trace.config.callers → slice_get lines k ≡ Some l → ends_group l.op ≡ false → IsFound len image trace k n at → (last : ℕ) (refusal : Refusal)
+        → RefusesAt len (r.run.told k) looked.cell.value.limit looked.cell.value.opening looked.front l.work.brought at last refusal → is_unread refusal ≡ true → ⊥
+    several-read several there grouped is last refusal why un =
+        let f = notes-readable several there grouped in
+        let front = subst (HasFront r.run.place (Some image)) f.1 front-told in
+        load-fine len f.0 at looked.cell.value.limit looked.cell.value.opening looked.front f.2
+        (there-now len image trace at looked.front looked.cell.value.limit looked.cell.value.opening is-cell.opening r.run.place f.0 r.run.first front (found is)) l.work.brought last refusal
+        (subst (λ (o : Option (List ℕ)). RefusesAt len o looked.cell.value.limit looked.cell.value.opening looked.front l.work.brought at last refusal) f.1 why) un
+
+    refused-at : (last : ℕ) → IsFound len image trace k n at → EndsInAll trace at last → (refusal : Refusal) → (is_unread refusal ≡ true → ⊥)
+        → RefusesAt len (r.run.told k) looked.cell.value.limit looked.cell.value.opening looked.front l.work.brought at last refusal → is_pool_fault (replies.Refused refusal) ≡ true
+    refused-at last is ends refusal read why = refuse-at len image trace at looked.front looked.cell.value.limit looked.cell.value.opening is-cell.opening (r.run.told k) l.work.brought (found is) last
+        (inside len image trace at looked.front looked.cell.value.limit looked.cell.value.opening is-cell.opening first.0 first.1 first.2 all-events last ends) refusal read why
+
+    refused-whole : IsFound len image trace k n at → (refusal : Refusal) → (is_unread refusal ≡ true → ⊥)
         → RefusesWhole len (r.run.told k) looked.cell.value.limit looked.cell.value.opening looked.front l.work.brought at refusal → is_pool_fault (replies.Refused refusal) ≡ true
-    refused-whole is refusal why = refuse-whole len image trace at looked.front looked.cell.value.limit looked.cell.value.opening is-cell.opening all-events (found is)
-        r.run.place (r.run.told k) r.run.first front-told l.work.brought refusal why
+    refused-whole is refusal read why = refuse-whole len image trace at looked.front looked.cell.value.limit looked.cell.value.opening is-cell.opening (r.run.told k) l.work.brought (found is) refusal read why
+
+  -- one caller's lines read in turn, several callers' in groups
+  by-callers : {A : Type 0} → (trace.config.callers ≡ 1 → A) → (2 ≤ trace.config.callers → A) → A
+  by-callers {A} alone several = dite (ℕ_discrete trace.config.callers 1) alone (λ more. several (omega (arith, more, some)))
+
+  refused-there : (op : Op) (reply : Reply) (refusal : Refusal) (work : Work) (k : ℕ) → reply ≡ replies.Refused refusal → slice_get lines k ≡ Some (record { op = op; reply = reply; work = work })
+      → slice_get lines k ≡ Some (record { op = op; reply = replies.Refused refusal; work = work })
+  refused-there op reply refusal work k is there = there ∙ (λ z. Some (record { op = op; reply = is z; work = work }))
 
   get-line : (k n t : ℕ) (at : Oid) (w : Window) (reply : Reply) (work : Work) → slice_get trace.ops k ≡ Some (ops.Get n t at w) → slice_get report.replies k ≡ Some reply
       → slice_get lines k ≡ Some (record { op = ops.Get n t at w; reply = reply; work = work }) → is_refusal reply ≡ false
   get-line k n t at w reply work here told there =
       let own = in_place.lines k (ops.Get n t at w) here in
       let his : (n == n) ≡ true = eq-eqb n n refl in
-      let looked = r.run.objects.each k n (record { op = ops.Get n t at w; reply = reply; work = work }) there his in
+      let l : Line = record { op = ops.Get n t at w; reply = reply; work = work } in
+      let looked = r.run.objects.each k n l there his in
       window-fine len (r.run.told k) looked.cell.value.limit looked.cell.value.opening looked.front work.brought at w reply
-      (refused-at k n at (record { op = ops.Get n t at w; reply = reply; work = work }) looked (w.at + w.len) own.0 own.1) looked.answer (fine k reply told)
+      (λ refusal is why. refused-at k n at l looked (w.at + w.len) own.0 own.1 refusal
+      (λ un. by-callers (λ one. get-read pool told_len device before after lent back trace closed report image r tells one k n t at w refusal work (refused-there (ops.Get n t at w) reply refusal work k is there) own.0 un)
+      (λ several. several-read k n at l looked several there refl own.0 (w.at + w.len) refusal why un)) why) looked.answer (fine k reply told)
 
   patch-line : (k n t : ℕ) (at : Oid) (from : ℕ) (bytes : List ℕ) (reply : Reply) (work : Work) → slice_get trace.ops k ≡ Some (ops.Patch n t at from bytes) → slice_get report.replies k ≡ Some reply
       → slice_get lines k ≡ Some (record { op = ops.Patch n t at from bytes; reply = reply; work = work }) → is_refusal reply ≡ false
   patch-line k n t at from bytes reply work here told there =
       let own = in_place.lines k (ops.Patch n t at from bytes) here in
       let his : (n == n) ≡ true = eq-eqb n n refl in
-      let looked = r.run.objects.each k n (record { op = ops.Patch n t at from bytes; reply = reply; work = work }) there his in
+      let l : Line = record { op = ops.Patch n t at from bytes; reply = reply; work = work } in
+      let looked = r.run.objects.each k n l there his in
       done-fine len (r.run.told k) looked.cell.value.limit looked.cell.value.opening looked.front work.brought
       (RefusesAt len (r.run.told k) looked.cell.value.limit looked.cell.value.opening looked.front work.brought at (from + length bytes)) reply
-      (refused-at k n at (record { op = ops.Patch n t at from bytes; reply = reply; work = work }) looked (from + length bytes) own.0 own.1) looked.answer (fine k reply told)
+      (λ refusal is why. refused-at k n at l looked (from + length bytes) own.0 own.1 refusal
+      (λ un. by-callers (λ one. patch-read pool told_len device before after lent back trace closed report image r tells one k n t at from bytes refusal work (refused-there (ops.Patch n t at from bytes) reply refusal work k is there) own.0 un)
+      (λ several. several-read k n at l looked several there refl own.0 (from + length bytes) refusal why un)) why) looked.answer (fine k reply told)
 
   pin-line : (k n t : ℕ) (at : Oid) (reply : Reply) (work : Work) → slice_get trace.ops k ≡ Some (ops.Pin n t at) → slice_get report.replies k ≡ Some reply
       → slice_get lines k ≡ Some (record { op = ops.Pin n t at; reply = reply; work = work }) → is_refusal reply ≡ false
   pin-line k n t at reply work here told there =
       let own = in_place.lines k (ops.Pin n t at) here in
       let his : (n == n) ≡ true = eq-eqb n n refl in
-      let looked = r.run.objects.each k n (record { op = ops.Pin n t at; reply = reply; work = work }) there his in
+      let l : Line = record { op = ops.Pin n t at; reply = reply; work = work } in
+      let looked = r.run.objects.each k n l there his in
       done-fine len (r.run.told k) looked.cell.value.limit looked.cell.value.opening looked.front work.brought
       (RefusesWhole len (r.run.told k) looked.cell.value.limit looked.cell.value.opening looked.front work.brought at) reply
-      (refused-whole k n at (record { op = ops.Pin n t at; reply = reply; work = work }) looked own) looked.answer (fine k reply told)
+      (λ refusal is why. refused-whole k n at l looked own refusal
+      (λ un. by-callers (λ one. pin-read pool told_len device before after lent back trace closed report image r tells one k n t at refusal work (refused-there (ops.Pin n t at) reply refusal work k is there) own un)
+      (λ several. several-read k n at l looked several there refl own 0 refusal (whole-at len (r.run.told k) looked.cell.value.limit looked.cell.value.opening looked.front work.brought at refusal why) un)) why) looked.answer (fine k reply told)
 
   -- ---- a line that takes a pin back
 
@@ -264,31 +284,13 @@ module _ {P D : Type 0} (pool : Ghosts P) (device : Devices D) (before after : P
       (λ m t b is. pin-line j m t b l.reply l.work (line.0 ∙ ap (λ (o : Op). Some o) is) line.1 (there ∙ (λ i. Some (record { op = is i; reply = l.reply; work = l.work }))))
 
   module _ (k n : ℕ) (at : Oid) (l : Line) (looked : Looks k n at l) where
-    -- the feeder did nothing in the front
-    front-none : done_by trace.config.callers looked.front ≡ []
-    front-none =
-        let callers : ℕ = trace.config.callers in
-        let i : ℕ = cell_of trace.config.cells at in
-        let notes : List CellEvent = events_of_cell i l.work.noted in
-        let cell = is-cell k n at l looked in
-        let here : (callers == callers) ≡ true = eq-eqb callers callers refl in
-        let lines_none = feeder-lines-none trace.config trace.ops report.replies lines r.did.lines r.did.fits in_place.unsynced in
-        let syncs : noted_of_syncs r.work ≡ [] = λ z. lines_none z ++ (still z).noted in
-        let by : noted_by trace.config r.work callers ≡ noted_ends callers 0 trace.config.cells = rw here (ap (λ (ns : List Noted). ns ++ noted_ends callers 0 trace.config.cells) syncs) in
-        let some_cells : i < trace.config.cells = subst (λ (x : ℕ). i < x) r.cells.count (slice_get_within closed.cells i looked.cell looked.there) in
-        let did = cell.did callers (omega arith) ∙ (ap (events_of_cell i) by ∙ ends-one callers i 0 trace.config.cells (omega arith) (omega (arith, some_cells))) in
-        feeder-none callers looked.cell.value.history looked.front (notes ++ looked.ended.0)
-        (looked.whole ∙ (ap (λ (es : List CellEvent). looked.front ++ (notes ++ es)) looked.ended.1
-        ∙ (ap (λ (es : List CellEvent). looked.front ++ es) (sym (append_assoc notes looked.ended.0 (End callers ∷ []))) ∙ sym (append_assoc looked.front (notes ++ looked.ended.0) (End callers ∷ []))))) did
-
     front-pins : ArePinsCounted n at looked.front (outline_after looked.cell.value.limit looked.cell.value.opening looked.front)
     front-pins =
-        let cell = is-cell k n at l looked in
-        let start : PlainCell = opening_cell looked.cell.value.limit looked.cell.value.opening in
-        let first = leads-front start cell.end looked.front (events_of_cell (cell_of trace.config.cells at) l.work.noted ++ looked.rest) cell.bases
-        (subst (λ (es : List CellEvent). Leads start es cell.bases cell.end) looked.whole cell.legal.legal) in
-        pins-are-counted looked.cell.value.limit looked.cell.value.opening looked.front first.0 first.1 n at first.2
-        (none-ended trace.config.callers trace.ops looked.front (all-events k n at l looked) front-none)
+        let callers : ℕ = trace.config.callers in
+        let i : ℕ = cell_of trace.config.cells at in
+        let f = first k n at l looked in
+        let going = all-front GoesOn (done_by callers looked.front) (done_by callers (events_of_cell i l.work.noted ++ looked.ended.0)) (subst (AllByRecursion GoesOn) (fed-front k n at l looked) (fed-going trace.config i lines r.did.fits)) in
+        pins-are-counted looked.cell.value.limit looked.cell.value.opening looked.front f.0 f.1 n at f.2 (none-ended callers trace.ops looked.front (all-events k n at l looked) going)
 
     has-pin : count_by (is_unpin_by n at) (take k trace.ops) < count_by (is_pin_by n at) (take k trace.ops) → has_pin_at n at (outline_after looked.cell.value.limit looked.cell.value.opening looked.front) ≡ true
     has-pin own =
@@ -325,7 +327,7 @@ module _ {P D : Type 0} (pool : Ghosts P) (device : Devices D) (before after : P
       let looked = r.run.objects.each k n l there his in
       done-fine len (r.run.told k) looked.cell.value.limit looked.cell.value.opening looked.front work.brought
       (RefusesPin len (r.run.told k) looked.cell.value.limit looked.cell.value.opening looked.front work.brought n at) reply
-      (unpin-fine k n at l looked (has-pin k n at l looked own)) looked.answer (fine k reply told)
+      (λ refusal is. unpin-fine k n at l looked (has-pin k n at l looked own) refusal) looked.answer (fine k reply told)
 
   put-line : (k n t : ℕ) (at : Oid) (size fill : ℕ) (reply : Reply) (work : Work) → slice_get lines k ≡ Some (record { op = ops.Put n t at size fill; reply = reply; work = work }) → is_refusal reply ≡ false
   put-line k n t at size fill reply work there =
@@ -368,16 +370,18 @@ module _ {P D : Type 0} (pool : Ghosts P) (device : Devices D) (before after : P
 -- ---- the law
 
 -- the callers of a trace are so many
-pub run-fine : {P D : Type 0} (pool : Ghosts P) (device : Devices D) (before after : P) (lent back : Option D) (trace : Trace) (ending : Ending) (closed : Ended OnHeap) (report : Report) (image : List ℕ)
-    → HasRun pool device before after lent back trace ending closed report → 1 ≤ trace.config.callers → ((k : ℕ) (op : Op) → slice_get trace.ops k ≡ Some op → (n : ℕ) → caller_of op ≡ Some n → n < trace.config.callers)
-    → pool.told before ≡ Some image → IsInPlace (pool.size before) image trace → pool.faults before < 2 ^ 63 → (Rose (pool.faults before) (pool.faults after) → ⊥) → (report.status ≡ 0) × (length report.replies ≡ length trace.ops)
-run-fine pool device before after lent back trace ending closed report image r some below tells in_place low still =
+pub run-fine : {P D : Type 0} (pool : Ghosts P) → ((p : P) (bytes : List ℕ) → pool.told p ≡ Some bytes → length bytes ≡ pool.size p) → (device : Devices D) (before after : P) (lent back : Option D) (trace : Trace) (ending : Ending) (closed : Ended OnHeap) (report : Report) (image : List ℕ)
+    → HasRun pool device before after lent back trace ending closed report → 1 ≤ trace.config.callers → ((k : ℕ) (op : Op) → slice_get trace.ops k ≡ Some op → (n : ℕ) → caller_of op ≡ Some n → n < trace.config.callers) → AreApart trace.objects
+    → pool.told before ≡ Some image → IsInPlace (pool.size before) image trace → pool.faults before < 2 ^ 63 → (Rose (pool.faults before) (pool.faults after) → ⊥)
+    → (report.status ≡ 0) × (length report.replies ≡ length trace.ops)
+run-fine pool told_len device before after lent back trace ending closed report image r some below apart tells in_place low still =
     let told = none-told (pool.faults before) (pool.faults after) (faults_told ending report.replies) (r.run.faults low) still low in
-    let whole = whole-ending pool before after trace report.replies ending told in_place.unsynced r.run.stopped in
+    let roomy : (need left : ℕ) → ending ≡ Full need left → ⊥ = λ need left is. never-full pool device before after lent back trace need left closed report image (subst (λ (e : Ending). HasRun pool device before after lent back trace e closed report) is r) some apart in_place in
+    let whole = whole-ending report.replies ending told roomy in
     let run = subst (λ (e : Ending). HasRun pool device before after lent back trace e closed report) whole r in
     let none : faults_told Whole report.replies ≡ 0 = ap (λ (e : Ending). faults_told e report.replies) (sym whole) ∙ told in
-    whole-run pool device before after lent back trace closed report image run tells in_place some below (no-fault report.replies none)
+    whole-run pool told_len device before after lent back trace closed report image run tells in_place some below (no-fault report.replies none)
 
-pub refuses-nothing : {P D : Type 0} (pool : Ghosts P) (device : Devices D) → RefusesNothing pool device
-refuses-nothing pool device before after lent back trace ending closed report image r formed tells in_place low still =
-    run-fine pool device before after lent back trace ending closed report image r formed.config.counts.callers.0 (all-callers trace formed) tells in_place low still
+pub refuses-nothing : {P D : Type 0} (pool : Ghosts P) → ((p : P) (bytes : List ℕ) → pool.told p ≡ Some bytes → length bytes ≡ pool.size p) → (device : Devices D) → RefusesNothing pool device
+refuses-nothing pool told_len device before after lent back trace ending closed report image r formed tells in_place low still =
+    run-fine pool told_len device before after lent back trace ending closed report image r formed.config.counts.callers.0 (all-callers trace formed) formed.apart tells in_place low still

@@ -1,5 +1,5 @@
 -- The status of a run of a trace that is in place, where no count of faults rose.
-use Rattle.std.proofs.Common.{◌≡◌, ℕ, ◌+◌, ◌≤◌, Bool, true, false, List, [], ◌++◌, length, Option, Some, None, refl, sym, ap, ◌∙◌, subst, inl, inr, arith, append-nil, length-append}
+use Rattle.std.proofs.Common.{◌≡◌, ℕ, ◌+◌, ◌≤◌, Bool, true, false, List, [], ◌∷◌, ◌++◌, length, Option, Some, None, refl, sym, ap, ◌∙◌, subst, inl, inr, arith, append-nil, length-append}
 use Rattle.std.specs.Prelude.{is_some}
 use Rattle.std.proofs.lemmas.Bool.{cases_lt}
 use Rattle.arc_table.specs.Ended.{Ended}
@@ -19,7 +19,7 @@ use Rattle.trace_run.specs.declared.status.Status.{Status}
 use Rattle.trace_run.specs.declared.status.Status.TheVariants as statuses
 use Rattle.trace_run.specs.Bounded.{device_len, with_bound}
 use Rattle.trace_run.specs.Complete.{EndsInOrder, IsOkOrWants, NoneRose}
-use Rattle.trace_run.specs.InPlace.{HasItsOwn, IsInPlace}
+use Rattle.trace_run.specs.InPlace.{HasItsOwn, HaveRoom, IsInPlace, room_for}
 use Rattle.trace_run.specs.Outcome.{AnswersSink, DoesRun, IfReported, IsReport}
 use Rattle.trace_run.specs.States.{Handed}
 use Rattle.trace_run.proofs.TraceLines.{all-callers}
@@ -59,10 +59,24 @@ module _ (len : ℕ) (image : List ℕ) (trace : Trace) (size : ℕ) where
   bounded-line k (ops.Txg t) own = tt
   bounded-line k (ops.Cap c) own = tt
 
-  bounded-place : IsInPlace len image trace → IsInPlace len image (with_bound trace size)
-  bounded-place p = record { lines = λ k op at. bounded-line k op (p.lines k op at); unsynced = p.unsynced }
+  bounded-room : (place : ℕ) (since left : List Op) → HaveRoom trace len place since left → HaveRoom (with_bound trace size) len place since left
+  bounded-room place since [] room = tt
+  bounded-room place since (ops.Txg t ∷ left) room = (room.0, bounded-room (place + room_for trace since) [] left room.1)
+  bounded-room place since (ops.Read n t x window ∷ left) room = bounded-room place since left room
+  bounded-room place since (ops.Hold n t x ∷ left) room = bounded-room place since left room
+  bounded-room place since (ops.Drop n x ∷ left) room = bounded-room place since left room
+  bounded-room place since (ops.Get n t at window ∷ left) room = bounded-room place since left room
+  bounded-room place since (ops.Put n t at most fill ∷ left) room = bounded-room place (since ++ ops.Put n t at most fill ∷ []) left room
+  bounded-room place since (ops.Patch n t at from bytes ∷ left) room = bounded-room place (since ++ ops.Patch n t at from bytes ∷ []) left room
+  bounded-room place since (ops.Pin n t at ∷ left) room = bounded-room place since left room
+  bounded-room place since (ops.Unpin n at ∷ left) room = bounded-room place since left room
+  bounded-room place since (ops.Feed ∷ left) room = bounded-room place since left room
+  bounded-room place since (ops.Cap c ∷ left) room = bounded-room place since left room
 
-module _ {P D : Type 0} (pool : Ghosts P) (device : Devices D) (events : Bool) (before after : Handed P D) (text : List ℕ) (trace : Trace) (image : List ℕ)
+  bounded-place : IsInPlace len image trace → IsInPlace len image (with_bound trace size)
+  bounded-place p = record { lines = λ k op at. bounded-line k op (p.lines k op at); room = λ place first. bounded-room place [] trace.ops (p.room place first) }
+
+module _ {P D : Type 0} (pool : Ghosts P) (told_len : (p : P) (bytes : List ℕ) → pool.told p ≡ Some bytes → length bytes ≡ pool.size p) (device : Devices D) (events : Bool) (before after : Handed P D) (text : List ℕ) (trace : Trace) (image : List ℕ)
     (tells : before.source.told ≡ Some text) (is : IsTraceText text trace) (told : pool.told before.pool ≡ Some image) (in_place : IsInPlace (pool.size before.pool) image trace) (none : NoneRose pool before after) where
   -- a report has the status 0
   reported-zero : (status : Status) (closed : Ended OnHeap) (report : Report) → IsReport pool device before after status closed report → report.status ≡ 0
@@ -72,7 +86,7 @@ module _ {P D : Type 0} (pool : Ghosts P) (device : Devices D) (events : Bool) (
       let same : r.trace ≡ trace = trace-one text r.trace trace (subst (λ (l : List ℕ). IsTraceText l r.trace) all r.read.is_trace) is in
       let formed = IsFormed-trace r.read.text r.trace r.read.is_trace in
       let place = subst (λ (t : Trace). IsInPlace (pool.size before.pool) image t) (sym same) in_place in
-      (run-fine pool device before.pool after.pool _ _ (with_bound r.trace size) r.ending closed report image r.run formed.config.counts.callers.0 (all-callers r.trace formed) told
+      (run-fine pool told_len device before.pool after.pool _ _ (with_bound r.trace size) r.ending closed report image r.run formed.config.counts.callers.0 (all-callers r.trace formed) formed.apart told
       (bounded-place (pool.size before.pool) image r.trace size place) none.low none.pool).0
 
   -- so no other status is told of one
@@ -115,5 +129,5 @@ module _ {P D : Type 0} (pool : Ghosts P) (device : Devices D) (events : Bool) (
       let all : d.source.text ≡ text = given-all text d.source.text before.source.told after.source.told longest_text tells is.short d.source.given in
       trace-faultless text trace line kind is (subst (λ (l : List ℕ). IsFirstFault l line kind) all d.source.fault)
 
-pub ends-in-order : {P D : Type 0} (pool : Ghosts P) (device : Devices D) → EndsInOrder pool device
-ends-in-order pool device events before after status report closed text trace image d tells is told in_place none = ends-so pool device events before after text trace image tells is told in_place none status report closed d
+pub ends-in-order : {P D : Type 0} (pool : Ghosts P) → ((p : P) (bytes : List ℕ) → pool.told p ≡ Some bytes → length bytes ≡ pool.size p) → (device : Devices D) → EndsInOrder pool device
+ends-in-order pool told_len device events before after status report closed text trace image d tells is told in_place none = ends-so pool told_len device events before after text trace image tells is told in_place none status report closed d

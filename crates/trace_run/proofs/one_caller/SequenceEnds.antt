@@ -1,8 +1,8 @@
 -- A line that ends a group, in one caller's sequence: a capacity, a sync, and a sync that stopped.
-use Rattle.std.proofs.Common.{◌≡◌, ◌⊎◌, ℕ, suc, ◌+◌, ◌<◌, List, [], ◌∷◌, ◌++◌, length, map, Option, Some, Ok, refl, sym, ap, ◌∙◌, subst, inl, inr, arith, append-nil}
+use Rattle.std.proofs.Common.{◌≡◌, ◌⊎◌, ℕ, suc, ◌+◌, ◌<◌, List, [], ◌∷◌, ◌++◌, map, Option, Some, Ok, refl, sym, ap, ◌∙◌, subst, inl, inr, arith, append-nil}
 use Rattle.std.specs.Prelude.{slice_get, slice_index_or}
 use Rattle.std.specs.List.{AllByRecursion}
-use Rattle.std.proofs.lemmas.Option.{slice_get_cases, slice_get_within}
+use Rattle.std.proofs.lemmas.Option.{slice_get_within}
 use Rattle.arc_core.specs.declared.config.Config.{Config}
 use Rattle.arc_core.specs.declared.event.Event.{Event}
 use Rattle.arc_table.specs.Cache.{Cache}
@@ -43,6 +43,7 @@ use Rattle.trace_run.proofs.callers.EndLineLemmas.{Halted, JustThese, StoppedAs,
 use Rattle.trace_run.proofs.callers.MeetLemmas.{parted-level}
 use Rattle.trace_run.proofs.callers.SyncRun.{lines-both, stops-sync-as, sync-as}
 use Rattle.trace_run.proofs.deeds.ClosedDeeds.{entries-read}
+use Rattle.trace_run.proofs.callers.GroupLists.{slice-there}
 use Rattle.trace_run.proofs.syncs.SyncTold.{noted-there}
 use Rattle.trace_run.proofs.syncs.SyncTurned.{noted-inserts}
 
@@ -52,12 +53,6 @@ use Rattle.trace_run.proofs.syncs.SyncTurned.{noted-inserts}
 all-entries : (g : Config) (entries : ℕ → List Seen) (xs : List PartyPlace) → ((i : ℕ) → IsCell g i → AllByRecursion (λ x. front_of i x.own.seen ≡ entries i) xs) → AllByRecursion (SeesEntries g entries) xs
 all-entries g entries [] each = tt
 all-entries g entries (x ∷ xs) each = ((λ i in_range. (each i in_range).0), all-entries g entries xs (λ i in_range. (each i in_range).1))
-
-there : (cells : List OnHeap) (i : ℕ) → i < length cells → (c : OnHeap) × (slice_get cells i ≡ Some c)
-there cells i below = elim (slice_get_cases cells i).1 [
-  | inl is ↦ (is.0, is.2)
-  | inr out ↦ absurd (omega (arith, below, out.0))
-]
 
 module _ {P D : Type 0} (trace : Trace) (cache : Cache) (config : cache.config ≡ trace.config) (old new : Crew OnHeap) (kept : new.kept.items ≡ old.kept.items) (at : BetweenLines P D) (stands : StandAt cache.config at old) where
   abbrev g : Config
@@ -125,7 +120,7 @@ module _ {P D : Type 0} (trace : Trace) (cache : Cache) (config : cache.config �
     noted-is i = ap (λ (n : ℕ). synced_in n i xs) these.number ∙ (sym (noted-there g g.callers i xs) ∙ ap (events_of_cell i) (sym these.noted))
 
     cell-there : (i : ℕ) → IsCell g i → (c : OnHeap) × (slice_get these.cells i ≡ Some c)
-    cell-there i in_range = there these.cells i (let n = j.count in omega (arith, in_range, n))
+    cell-there i in_range = slice-there these.cells i (let n = j.count in omega (arith, in_range, n))
 
     feeder-sees : (i : ℕ) → IsCell g i → front_of i new.feeder.own.seen ≡ lines_of (at.cells i ++ events_of_cell i work.noted)
     feeder-sees i in_range =

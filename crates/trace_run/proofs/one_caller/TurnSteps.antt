@@ -44,7 +44,8 @@ use Rattle.trace_run.specs.dbufs.Objects.{Line, no_work, ops_of, replies_of}
 use Rattle.trace_run.specs.Openings.{AllKnow, openings_of}
 use Rattle.trace_run.specs.RunWork.{AllFit, FitsBy, RunWork, lines_of_caller}
 use Rattle.trace_run.specs.callers.Group.{AllWorked, LeavesPool, WorkedAt}
-use Rattle.trace_run.specs.callers.Groups.{AreEndLines, DidEndLine, HaveCome, HaveCounted, HaveReached, goes_on}
+use Rattle.trace_run.specs.callers.Looking.{HaveLooked}
+use Rattle.trace_run.specs.callers.Groups.{AreEndLines, DidEndLine, HaveCome, HaveCounted, HaveReached, goes_on, stopped_line}
 use Rattle.trace_run.specs.callers.InOrder.{AreInGroup}
 use Rattle.trace_run.specs.callers.Together.{BetweenGroups, IsCutLast, between_groups, over_callers}
 use Rattle.trace_run.specs.callers.WorkLines.{AreLinesOf, IsWorkOf, calls_of_lines}
@@ -59,7 +60,7 @@ use Rattle.trace_run.proofs.callers.GroupRunLemmas.{all-callers, may-resize}
 use Rattle.trace_run.proofs.callers.FrontLemmas.{front-before, pool-front}
 use Rattle.trace_run.proofs.callers.LineLists.{all-inside, calls-few, ends-nobody, lines-failed, lines-long, nobody-callers}
 use Rattle.trace_run.proofs.callers.GroupsLemmas.{parted-at, parted-length}
-use Rattle.trace_run.proofs.callers.LookedLemmas.{answered-looked, lines-looked, stopped-looked}
+use Rattle.trace_run.proofs.callers.LookedLemmas.{answered-looked, lines-looked, stop-behind}
 use Rattle.trace_run.proofs.callers.MeetLemmas.{parted-waits}
 use Rattle.trace_run.proofs.callers.MoreLemmas.{have-come-by, with_lines}
 use Rattle.trace_run.proofs.callers.StepLemmas.{asked, counted-more, failed, range-at, told-of}
@@ -477,8 +478,8 @@ module _ {P D : Type 0} (cache : Cache) (restored : List Restored) (pools : Ghos
           used = λ several. absurd (omega (arith, one, several));
           fed = moved-so-far dbuf_meanings devices cache restored w.feeds begun a old.feeder last.feeder reached.fed
               (λ shard below. made-sees cache turn.work turn.more old last reached.come.feeder.number turn.so.made shard (events_of_feeder cache.config.callers op) (turn.so.feeds shard below) (asked-gives cache.config.callers op));
-          looked = answered-looked pools cache restored (pools.size start.pool) (pools.told start.pool) start.next trace.blocks os rs w old last reached.come reached.told reached.looked turn.work turn.more turn.so.made
-              (parted-length cache turn.so.made.lines old.parties.items last.parties.items turn.so.made.parted ∙ reached.come.parties) l nobody;
+          looked = answered-looked pools cache restored (pools.size start.pool) (pools.told start.pool) start.next trace.blocks os rs w old last reached.come reached.told reached.looked l nobody turn.more turn.so.made
+              (parted-length cache turn.so.made.lines old.parties.items last.parties.items turn.so.made.parted ∙ reached.come.parties) between.goes_on;
         };
         goes_on = refl;
         may_sync = record {
@@ -513,8 +514,9 @@ module _ {P D : Type 0} (cache : Cache) (restored : List Restored) (pools : Ghos
           used = λ several. absurd (omega (arith, one, several));
           fed = moved-so-far dbuf_meanings devices cache restored w.feeds begun a old.feeder last.feeder reached.fed
               (λ shard below. made-sees cache h.work h.more old last reached.come.feeder.number h.so.made shard [] (h.so.none shard below) tt);
-          looked = stopped-looked pools cache restored (pools.size start.pool) (pools.told start.pool) start.next trace.blocks os rs w old last reached.come reached.told reached.looked h.work h.more h.so.made
-              (parted-length cache h.so.made.lines old.parties.items last.parties.items h.so.made.parted ∙ reached.come.parties);
+          looked = subst (λ (ls : List Line). HaveLooked cache.config (pools.size start.pool) reached.told ls last.parties.items) (sym (stop-behind ending (with_stop w h.work) (h.begun [])))
+              (answered-looked pools cache restored (pools.size start.pool) (pools.told start.pool) start.next trace.blocks os rs w old last reached.come reached.told reached.looked (stopped_line (with_stop w h.work)) refl h.more h.so.made
+              (parted-length cache h.so.made.lines old.parties.items last.parties.items h.so.made.parted ∙ reached.come.parties) between.goes_on);
         };
         ended = h.ended;
         last = λ t stopped shard below owner makers. subst (λ (tick : ℕ). IsCutLast cache.config restored trace.blocks shard owner tick (with_stop w h.work) (seen_of cache.config shard last.feeder)) (sym (h.ticks t stopped))

@@ -27,7 +27,7 @@ take-take (suc m) (suc n) [] below = refl
 take-take (suc m) (suc n) (x ∷ xs) below = ap (λ (l : List ℕ). x ∷ l) (take-take m n xs (omega (arith, below)))
 
 -- the same up to a place is the same up to each before it
-front-below : (m n : ℕ) (xs ys : List ℕ) → m ≤ n → take n xs ≡ take n ys → take m xs ≡ take m ys
+pub front-below : (m n : ℕ) (xs ys : List ℕ) → m ≤ n → take n xs ≡ take n ys → take m xs ≡ take m ys
 front-below m n xs ys below same = sym (take-take m n xs below) ∙ (ap (take m) same ∙ take-take m n ys below)
 
 put-front : (at m : ℕ) (bytes image : List ℕ) → m ≤ at → at + length bytes ≤ length image → take m (put at bytes image) ≡ take m image
@@ -42,11 +42,11 @@ put-front at m bytes image low inside =
 
 -- ---- blocks that are written from a place on
 
-record IsWrittenFrom (m : ℕ) (image now : List ℕ) : Type 0 where
+pub record IsWrittenFrom (m : ℕ) (image now : List ℕ) : Type 0 where
   pub long : length now ≡ length image
   pub front : take m now ≡ take m image
 
-written-from : (group place m : ℕ) (cells : List OnHeap) (dues : List Due) (image : List ℕ) → m ≤ place → place + need_of cells dues ≤ length image → IsWrittenFrom m image (written_over (items_from group place cells dues) image)
+pub written-from : (group place m : ℕ) (cells : List OnHeap) (dues : List Due) (image : List ℕ) → m ≤ place → place + need_of cells dues ≤ length image → IsWrittenFrom m image (written_over (items_from group place cells dues) image)
 written-from group place m cells [] image low inside = record { long = refl; front = refl }
 written-from group place m cells (due ∷ dues) image low inside =
     let bytes : List ℕ = bytes_of_due cells due in

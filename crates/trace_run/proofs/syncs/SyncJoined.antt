@@ -10,6 +10,7 @@ use Rattle.arc_core.specs.declared.config.Config.{Config}
 use Rattle.arc_core.specs.Operations.{Act, moments, own_moments}
 use Rattle.turn_table.specs.Places.{SomeHas}
 use Rattle.arc_table.specs.declared.view.Ledger.{Ledger}
+use Rattle.arc_table.specs.declared.view.Line.{Line}
 use Rattle.arc_table.specs.Cache.{Cache, IsPartyOf}
 use Rattle.arc_table.specs.Fronts.{list_at, front_of, StartsWith}
 use Rattle.arc_table.specs.Geometry.{IsCell, parties_of}
@@ -185,6 +186,10 @@ module _ (cache : Cache) (p : PartyPlace) (others : List PartyPlace) (stands : S
     all-since shard [] learned = tt
     all-since shard (o ∷ os) learned = (starts-events (front_of (turn_of g shard) q.own.seen) (front_of (turn_of g shard) o.own.seen) (learned.0.starts shard), all-since shard os learned.1)
 
+    all-cells : (i : ℕ) (lines : List Line) → IsCell g i → front_of i q.own.seen ≡ lines → (os : List PartyPlace) → AllByRecursion (λ o. HasLearned g o q) os → AllByRecursion (λ o. StartsWith lines (front_of i o.own.seen)) os
+    all-cells i lines in_range is [] learned = tt
+    all-cells i lines in_range is (o ∷ os) learned = (subst (λ (l : List Line). StartsWith l (front_of i o.own.seen)) is (learned.0.cells i in_range), all-cells i lines in_range is os learned.1)
+
     -- to have joined is nothing that is told
     met-told : (did : List Act) (had : List Noted) → HasToldOthers g did had p → HasToldOthers g did had q
     met-told did had before = others-still g did had p q (grown-same g p q met.number met.about met.mine met.self.starts met.self.cells stands.seen stands.cells) before
@@ -245,6 +250,11 @@ module _ (cache : Cache) (p : PartyPlace) (others : List PartyPlace) (stands : S
             let in_range : IsCell g i = let e = s.all in omega (arith, within, e) in
             sym (cell-front g stands.valid tick cells xs q r stood.of.config low stood.seen has-all stood.cells s inside i c within ∙ ap (λ (x : OnHeap). lines_of x.value.history) (index-at i cells c at))
             ∙ met.level_cells entries own rest i in_range;
+        known = λ i c at.
+            let within = slice_get_within cells i c at in
+            let in_range : IsCell g i = let e = s.all in omega (arith, within, e) in
+            all-cells i (lines_of c.value.history) in_range
+            (cell-front g stands.valid tick cells xs q r stood.of.config low stood.seen has-all stood.cells s inside i c within ∙ ap (λ (x : OnHeap). lines_of x.value.history) (index-at i cells c at)) others met.all;
         count = s.all;
         sound = λ i c at. (found-at 0 i cells c t.found at).sound;
         began = λ i c at.
@@ -309,6 +319,7 @@ module _ (cache : Cache) (p : PartyPlace) (others : List PartyPlace) (stands : S
           cells = w.cells;
           dues = w.dues;
           dirty = w.dirty;
+          sized = w.sized;
           fits = w.fits;
           turns = syncs-joined w.cells _ w.turns (done-inside w.cells w.dues w.turns.all w.dirty) news z parts;
           told = w.told;

@@ -176,6 +176,7 @@ sync-of pools cache group tick next from to p olds q news (Ok done) fine w = rec
     cells = w.cells;
     dues = w.dues;
     dirty = w.dirty;
+    sized = w.sized;
     fits = w.fits;
     turns = so;
     told = w.told;

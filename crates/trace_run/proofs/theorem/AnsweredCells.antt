@@ -1,9 +1,9 @@
 -- A caller's line on an object is answered by the closed cell of its block: the cell goes on from what the line found.
-use Rattle.std.proofs.Common.{◌≡◌, ℕ, zero, suc, ◌<◌, true, List, [], ◌∷◌, ◌++◌, length, map, take, drop, Option, Some, None, append_assoc, refl, sym, ap, ◌∙◌, subst, inl, inr, arith, ◌+◌, ◌≤◌, length-append}
+use Rattle.std.proofs.Common.{◌≡◌, ℕ, zero, suc, ◌<◌, true, List, [], ◌∷◌, ◌++◌, length, map, take, drop, Option, Some, None, append_assoc, refl, sym, ap, ◌∙◌, subst, inl, inr, arith, ◌+◌, ◌≤◌, ◌==◌, length-append, eq-eqb}
 use Rattle.std.specs.Prelude.{◌⊎◌, IfSome, slice_get, slice_index_or}
-use Rattle.std.specs.List.{AllByRecursion}
 use Rattle.std.proofs.lemmas.List.{length-map, map-append, take-append-drop}
 use Rattle.std.proofs.lemmas.Nat.{mod_below}
+use Rattle.std.proofs.lemmas.Option.{slice_get_within}
 use mathlib.Core.Logic.{dite}
 use mathlib.Core.Option.{some, some-injective, some-ne-none}
 use native.Mathlib.Decide.{ℕ_discrete}
@@ -37,7 +37,7 @@ use Rattle.trace_run.specs.dbufs.ObjectAnswers.{AreAnsweredByCells, IsAnsweredBy
 use Rattle.trace_run.specs.dbufs.ObjectLines.{OnObject, cell_lines, on_object}
 use Rattle.trace_run.specs.dbufs.ObjectReplies.{ActsFor, AnswersObject, BringsAt}
 use Rattle.trace_run.specs.dbufs.Objects.{Line, OwnEvent, Work, no_work, own_event}
-use Rattle.trace_run.specs.RunWork.{AllFit, FitsBy, lines_of_caller}
+use Rattle.trace_run.specs.RunWork.{AllFit, FitsBy, lines_of_caller, lines_of_feeder}
 use Rattle.trace_run.specs.callers.Looking.{HaveLooked, LooksCut}
 use Rattle.trace_run.specs.callers.Together.{ends_group}
 use Rattle.trace_run.specs.callers.WorkLines.{IsWorkOf, NotesLine, noted_of_work}
@@ -47,7 +47,8 @@ use Rattle.trace_run.proofs.callers.CallerActLemmas.{caller-is}
 use Rattle.trace_run.proofs.callers.FoundLemmas.{by-object}
 use Rattle.trace_run.proofs.callers.MeetLemmas.{starts-then}
 use Rattle.trace_run.proofs.deeds.CellsDone.{noted-else}
-use Rattle.trace_run.proofs.theorem.LookCuts.{LookedAs, look-since, look-until}
+use Rattle.trace_run.proofs.theorem.LookCuts.{LookedAs, done-append, done-starts, look-since, look-until}
+use Rattle.trace_run.proofs.theorem.SyncCuts.{TookThere, all-slice, has-synced, none-synced, wrote_there}
 
 -- what a party had seen of the cells, and knew of their beginnings, before the cache was closed with what it knows then
 pub record EndsFrom (g : Config) (openings : List (List ℕ)) (seen : List (List Seen)) (w : Known OnHeap) : Type 0 where
@@ -88,11 +89,6 @@ taken-front (x ∷ h) (y ∷ front) rest is =
     let first : line.Entry (event_numbers x) ≡ y = cc in
     let later : map line.Entry (map event_numbers h) ≡ front ++ rest = cc in
     (λ z. sym first z ∷ taken-front h front rest later z)
-
-all-slice : (P : Line → Type 0) (xs : List Line) → AllByRecursion P xs → (k : ℕ) (x : Line) → slice_get xs k ≡ Some x → P x
-all-slice P [] all k x at = cc
-all-slice P (y ∷ ys) all zero x at = let same : y ≡ x = cc in subst P same all.0
-all-slice P (y ∷ ys) all (suc k) x at = all-slice P ys all.1 k x at
 
 -- what a line notes is of the cell of its block
 module _ (g : Config) (m i : ℕ) where
@@ -150,12 +146,13 @@ module _ (cache : Cache) (valid : IsConfig cache.config) (ps : List PartyPlace) 
 
   module _ (len : ℕ) (told : (k : ℕ) → Option (List ℕ)) (ls : List Line) (crew : List PartyPlace) (h : HaveLooked g len told ls crew) (fits : AllFit g ls)
       (did : (i : ℕ) (c : OnHeap) → get_elem? e.cells i ≡ some c → (m : ℕ) → m < g.callers → done_by m c.value.history ≡ events_of_cell i (noted_of_work (lines_of_caller m ls)))
+      (fed : (i : ℕ) (c : OnHeap) → get_elem? e.cells i ≡ some c → done_by g.callers c.value.history ≡ events_of_cell i (noted_of_work (lines_of_feeder ls)) ++ End g.callers ∷ [])
       (from : (n : ℕ) → n < g.callers → (p : PartyPlace) × (get_elem? crew n ≡ some p) × (w : Known OnHeap) × (get_elem? ends.views n ≡ some w) × EndsFrom g p.own.about.openings p.own.seen w)
       (behind : (i : ℕ) (c : OnHeap) → get_elem? e.cells i ≡ some c → (before : List Seen) × (map line.Entry (map event_numbers c.value.history) ≡ before ++ end_entry g.callers i)
       × ((n : ℕ) (below : n < g.callers) → StartsWith before (front_of i (from n below).0.own.seen))) where
     -- how a line of n's looked
     abbrev Cut : (k n : ℕ) → n < g.callers → Oid → Line → Type 0
-    Cut k n below at l = LooksCut g len told (from n below).0.own.about.openings (from n below).0.own.seen ls h.level (h.found n) k n at l
+    Cut k n below at l = LooksCut g len told (from n below).0.own.about.openings (from n below).0.own.seen ls h.level h.taken (h.found n) k n at l
 
     cut-of : (k n : ℕ) (below : n < g.callers) (l : Line) → slice_get ls k ≡ Some l → is_of_caller n l.op ≡ true → IfSome (on_object l.op) (λ on. Cut k n below on.at l)
     cut-of k n below l at his = h.looks k n l (from n below).0 at his (from n below).1
@@ -211,9 +208,36 @@ module _ (cache : Cache) (valid : IsConfig cache.config) (ps : List PartyPlace) 
             let s = subst (λ (j : ℕ). StartsWith (cell_lines cut.from.cell) (h.level x j)) same (cut.since x v less at_x stops) in
             entries-front cut.from.cell.value.history (levels x) s.0 (s.1 ∙ ap (λ (y : List Seen). y ++ s.0) (level-is n below x v at_x stops))
 
+        cut-taken : k < x → StartsWith (h.taken x i) (cell_lines cut.from.cell ++ lines_of_cell i l.work.noted)
+        cut-taken more = subst (λ (j : ℕ). StartsWith (h.taken x j) (cell_lines cut.from.cell ++ lines_of_cell j l.work.noted)) same (cut.until x v more at_x stops)
+
+        -- what a sync took and wrote there, before the line and behind it
+        synced-before : x < k → TookThere g i ls fits x v (λ es. StartsWith cut.from.cell.value.history (es ++ events_of_cell i v.work.noted))
+        synced-before less =
+            let w = h.wrote x v at_x stops i range in
+            elim w.fed [
+              | inl none ↦ inl (ap (λ (work : Work). events_of_cell i work.noted) none)
+              | inr took ↦
+                  let notes : List CellEvent = events_of_cell i v.work.noted in
+                  let s = subst (λ (j : ℕ). StartsWith (cell_lines cut.from.cell) (h.level x j)) same (cut.since x v less at_x stops) in
+                  let is : h.level x i ≡ map line.Entry (map event_numbers (took.0 ++ notes)) = w.is ∙ (ap (λ (y : List Seen). y ++ lines_of_cell i v.work.noted) took.1 ∙ sym (entries-two took.0 notes)) in
+                  inr (took.0, took.2, entries-front cut.from.cell.value.history (took.0 ++ notes) s.0 (s.1 ∙ ap (λ (y : List Seen). y ++ s.0) is))
+            ]
+
+        synced-behind : k < x → TookThere g i ls fits x v (λ es. StartsWith es cut.from.cell.value.history)
+        synced-behind more =
+            let w = h.wrote x v at_x stops i range in
+            elim w.fed [
+              | inl none ↦ inl (ap (λ (work : Work). events_of_cell i work.noted) none)
+              | inr took ↦
+                  let u = cut-taken more in
+                  let notes : List Seen = lines_of_cell i l.work.noted in
+                  inr (took.0, took.2, entries-front took.0 cut.from.cell.value.history (notes ++ u.0) (sym took.1 ∙ (u.1 ∙ append_assoc (cell_lines cut.from.cell) notes u.0)))
+            ]
+
         cut-until : k < x → StartsWith (levels x) (cut.from.cell.value.history ++ events_of_cell i l.work.noted)
         cut-until more =
-            let u = subst (λ (j : ℕ). StartsWith (h.level x j) (cell_lines cut.from.cell ++ lines_of_cell j l.work.noted)) same (cut.until x v more at_x stops) in
+            let u = starts-then (h.level x i) (h.taken x i) (cell_lines cut.from.cell ++ lines_of_cell i l.work.noted) (lines_of_cell i v.work.noted, (h.wrote x v at_x stops i range).is) (cut-taken more) in
             entries-front (levels x) (cut.from.cell.value.history ++ events_of_cell i l.work.noted) u.0
             (sym (level-is n below x v at_x stops) ∙ (u.1 ∙ ap (λ (y : List Seen). y ++ u.0) (sym (entries-two cut.from.cell.value.history (events_of_cell i l.work.noted)))))
 
@@ -238,10 +262,31 @@ module _ (cache : Cache) (valid : IsConfig cache.config) (ps : List PartyPlace) 
         all-until : k < x → StartsWith (events_of_cell i (noted_of_work (lines_of_caller m (take x ls)))) (done_by m cut.from.cell.value.history)
         all-until lt = look-until i ls levels history m (did i cell (there-closed i range).1 m less) (looked-as m less) x v at_x stops (level-starts x) cut.from.cell.value.history (events_of_cell i l.work.noted) (cut-until n below k l at same cut x v at_x stops lt)
 
+      -- ---- what syncs wrote there
+
+      -- in all
+      wrote-all : (before : List CellEvent) → history ≡ before ++ End g.callers ∷ [] → done_by g.callers before ≡ wrote_there g i ls
+      wrote-all before is =
+          let last : done_by g.callers (End g.callers ∷ []) ≡ End g.callers ∷ [] = (let its : (g.callers == g.callers) ≡ true = eq-eqb g.callers g.callers refl in rw its refl) in
+          (last-same (done_by g.callers before) (wrote_there g i ls) (End g.callers) (End g.callers)
+          (ap (λ (es : List CellEvent). done_by g.callers before ++ es) (sym last) ∙ (sym (done-append g.callers before (End g.callers ∷ [])) ∙ (ap (done_by g.callers) (sym is) ∙ fed i cell (there-closed i range).1)))).0
+
+      module _ (n : ℕ) (below : n < g.callers) (k : ℕ) (l : Line) (at : Oid) (same : cell_of g.cells at ≡ i) (cut : Cut k n below at l) where
+        abbrev seen_then : List CellEvent
+        seen_then = cut.from.cell.value.history
+
+        all-synced : k < length ls → StartsWith (done_by g.callers seen_then) (wrote_there g i (take k ls))
+        all-synced inside = has-synced g i ls fits seen_then k (λ x v less at_x stops. synced-before n below k l at same cut x v at_x stops less) k (omega arith) (omega (arith, inside))
+
+        all-unsynced : (before : List CellEvent) → history ≡ before ++ End g.callers ∷ [] → StartsWith before seen_then → (x : ℕ) → k < x → x < length ls → StartsWith (wrote_there g i (take x ls)) (done_by g.callers seen_then)
+        all-unsynced before is starts x lt inside =
+            none-synced g i ls fits seen_then k (λ y v more at_y stops. synced-behind n below k l at same cut y v at_y stops more)
+            (subst (λ (es : List CellEvent). StartsWith es (done_by g.callers seen_then)) (wrote-all before is) (done-starts g.callers before seen_then starts)) x lt (omega (arith, inside))
+
     -- ---- a line
 
-    looked : (k n : ℕ) (below : n < g.callers) (l : Line) (at : Oid) → found k ≡ length (h.found n k) → Cut k n below at l → LookedAt g len told e.cells n ls found k at l
-    looked k n below l at far cut =
+    looked : (k n : ℕ) (below : n < g.callers) (l : Line) (at : Oid) → k < length ls → found k ≡ length (h.found n k) → Cut k n below at l → LookedAt g len told e.cells n ls found k at l
+    looked k n below l at inside far cut =
         let a = cut.from in
         let f = from n below in
         let i : ℕ = cell_of g.cells at in
@@ -266,15 +311,17 @@ module _ (cache : Cache) (valid : IsConfig cache.config) (ps : List PartyPlace) 
           mine = a.mine;
           since = λ m x v less lt at_x stops. all-since i range n below k l at refl cut m x v less at_x stops lt;
           until = λ m x v less lt at_x stops. all-until i range n below k l at refl cut m x v less at_x stops lt;
+          synced = all-synced i range n below k l at refl cut inside;
+          unsynced = λ x v lt at_x stops. all-unsynced i range n below k l at refl cut before.0 before.1 (notes ++ r.0, r.1 ∙ append_assoc a.cell.value.history notes r.0) x lt (slice_get_within ls x v at_x);
           brought = subst (λ (x : ℕ × List Mapping). BringsAt len at (outline_after x.0 x.1 a.cell.value.history) l.work.brought) (λ z. (began.0 z, began.1 z)) a.brought;
           acts = subst (λ (x : ℕ × List Mapping). ActsFor g n (own_event l.op) (outline_after x.0 x.1 a.cell.value.history) l.work l.reply) (λ z. (began.0 z, began.1 z)) a.acts;
           answer = subst (λ (x : ℕ × List Mapping). AnswersObject len (told k) x.0 x.1 a.cell.value.history l.work.brought l.op l.reply) (λ z. (began.0 z, began.1 z)) a.answer;
           range = a.range;
         }
 
-    by-cell : (k n : ℕ) (below : n < g.callers) (l : Line) (o : Option OnObject) → found k ≡ length (h.found n k) → IfSome o (λ on. Cut k n below on.at l) → IsAnsweredBy g len told e.cells n ls found k o l
-    by-cell k n below l None far cut = tt
-    by-cell k n below l (Some on) far cut = looked k n below l on.at far cut
+    by-cell : (k n : ℕ) (below : n < g.callers) (l : Line) (o : Option OnObject) → k < length ls → found k ≡ length (h.found n k) → IfSome o (λ on. Cut k n below on.at l) → IsAnsweredBy g len told e.cells n ls found k o l
+    by-cell k n below l None inside far cut = tt
+    by-cell k n below l (Some on) inside far cut = looked k n below l on.at inside far cut
 
     -- of one caller's lines on blocks of a cell a later one found all that an earlier one had found, and what that one did
     found-more : (j k n : ℕ) (below : n < g.callers) (x l : Line) (on_x on : OnObject) → j < k → slice_get ls j ≡ Some x → slice_get ls k ≡ Some l → is_of_caller n x.op ≡ true → is_of_caller n l.op ≡ true
@@ -295,6 +342,6 @@ module _ (cache : Cache) (valid : IsConfig cache.config) (ps : List PartyPlace) 
     pub all-by-cells : ((n : ℕ) (l : Line) (k : ℕ) → slice_get ls k ≡ Some l → is_of_caller n l.op ≡ true → n < g.callers) → AreAnsweredByCells g len told e.cells ls
     all-by-cells below = record {
       found = found;
-      each = λ k n l at his. by-cell k n (below n l k at his) l (on_object l.op) (found-is k n l at his) (cut-of k n (below n l k at his) l at his);
+      each = λ k n l at his. by-cell k n (below n l k at his) l (on_object l.op) (slice_get_within ls k l at) (found-is k n l at his) (cut-of k n (below n l k at his) l at his);
       grow = λ j k n x l on_x on less at_x at_l his_x his_l is_x is_l same. found-more j k n (below n x j at_x his_x) x l on_x on less at_x at_l his_x his_l is_x is_l same;
     }

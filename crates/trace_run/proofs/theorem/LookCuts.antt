@@ -19,17 +19,13 @@ use Rattle.trace_run.specs.RunWork.{lines_of_caller}
 use Rattle.trace_run.specs.callers.Together.{ends_group}
 use Rattle.trace_run.specs.callers.WorkLines.{noted_of_work}
 use Rattle.trace_run.proofs.AnswerLemmas.{take_one}
+use Rattle.trace_run.proofs.callers.GroupLists.{slice-there}
 use Rattle.trace_run.proofs.callers.LineLists.{noted-append}
 use Rattle.trace_run.proofs.deeds.CellsDone.{cell-append}
 
 -- ---- lists
 
 module _ {X : Type 0} where
-  slice-there : (xs : List X) (k : ℕ) → k < length xs → (x : X) × (slice_get xs k ≡ Some x)
-  slice-there [] k lt = absurd (omega arith)
-  slice-there (x ∷ xs) zero lt = (x, refl)
-  slice-there (x ∷ xs) (suc k) lt = slice-there xs k (omega arith)
-
   -- a front of a front is one
   starts-two : (a b c : List X) → StartsWith a b → StartsWith b c → StartsWith a c
   starts-two a b c first second = (second.0 ++ first.0, first.1 ∙ (ap (λ (l : List X). l ++ first.0) second.1 ∙ append_assoc c second.0 first.0))
@@ -51,14 +47,14 @@ all-left : (P : CellEvent → Type 0) (xs ys : List CellEvent) → AllByRecursio
 all-left P [] ys all = tt
 all-left P (x ∷ xs) ys all = (all.0, all-left P xs ys all.1)
 
-done-all : (m : ℕ) (es : List CellEvent) → AllByRecursion (λ (e : CellEvent). (number_of e == m) ≡ true) es → done_by m es ≡ es
+pub done-all : (m : ℕ) (es : List CellEvent) → AllByRecursion (λ (e : CellEvent). (number_of e == m) ≡ true) es → done_by m es ≡ es
 done-all m [] all = refl
 done-all m (e ∷ es) all = let his = all.0 in rw his (ap (λ (l : List CellEvent). e ∷ l) (done-all m es all.1))
 
-done-append : (m : ℕ) (a b : List CellEvent) → done_by m (a ++ b) ≡ done_by m a ++ done_by m b
+pub done-append : (m : ℕ) (a b : List CellEvent) → done_by m (a ++ b) ≡ done_by m a ++ done_by m b
 done-append m a b = filter-append (λ (e : CellEvent). number_of e == m) a b
 
-done-starts : (m : ℕ) (a b : List CellEvent) → StartsWith a b → StartsWith (done_by m a) (done_by m b)
+pub done-starts : (m : ℕ) (a b : List CellEvent) → StartsWith a b → StartsWith (done_by m a) (done_by m b)
 done-starts m a b s = (done_by m s.0, ap (done_by m) s.1 ∙ done-append m b s.0)
 
 -- a line that ends a group is no caller's

@@ -1,9 +1,10 @@
 -- What the closed cache of several callers' run explains: their lines with their work, the feeder's syncs and feeds, and the cells' ends.
-use Rattle.std.proofs.Common.{◌≡◌, ℕ, zero, suc, ◌+◌, ◌<◌, ◌==◌, Bool, true, false, List, [], ◌∷◌, ◌++◌, length, get_or, map, take, Option, Some, append-nil, append_assoc, refl, sym, ap, ◌∙◌, subst, inl, inr, arith, eq-eqb, ne_eqb}
+use Rattle.std.proofs.Common.{◌≡◌, ◌⊎◌, ℕ, zero, suc, ◌+◌, ◌<◌, ◌==◌, Bool, true, false, List, [], ◌∷◌, ◌++◌, length, get_or, map, take, Option, Some, append-nil, append_assoc, refl, sym, ap, ◌∙◌, subst, inl, inr, arith, eq-eqb, ne_eqb}
 use Rattle.std.specs.Prelude.{filter, slice_get, sum_by}
 use Rattle.std.specs.List.{AllByRecursion}
 use Rattle.std.proofs.lemmas.Bool.{eqb-true}
 use Rattle.std.proofs.lemmas.List.{length-map}
+use Rattle.std.proofs.lemmas.List.Elements.{filter-append}
 use Rattle.std.proofs.lemmas.Option.{slice_get_within}
 use mathlib.Core.Option.{some, some-injective, some-ne-none}
 use lib.ListN.{get_elem?}
@@ -30,6 +31,7 @@ use Rattle.arc_table.specs.Telling.{opening_of}
 use Rattle.arc_table.proofs.TableLaws.{get_last}
 use Rattle.dbuf_cells.specs.Turns.{OnHeap, PartyPlace, dbuf_meanings}
 use Rattle.dbuf_state.specs.Numbers.{event_numbers}
+use Rattle.dbuf_state.specs.declared.event.CellEvent.TheVariants.{End}
 use Rattle.trace_text.specs.declared.op.Op.{Op}
 use Rattle.trace_text.specs.declared.reply.Reply.{Reply}
 use Rattle.trace_text.specs.declared.trace.Trace.{Trace}
@@ -37,7 +39,7 @@ use Rattle.trace_run.specs.declared.groups.Crew.{Crew}
 use Rattle.trace_run.specs.declared.kept_blocks.KeptBlock.{KeptBlock}
 use Rattle.trace_run.specs.Acts.{acts_of_drops}
 use Rattle.trace_run.specs.Answers.{AnswersAll}
-use Rattle.trace_run.specs.dbufs.CellEnds.{AreCellsOf, AreEndedSo, EndedCrew, end_entry, noted_ends}
+use Rattle.trace_run.specs.dbufs.CellEnds.{AreCellsOf, AreEndedSo, EndedCrew, done_by, end_entry, noted_ends}
 use Rattle.trace_run.specs.Deeds.{HasToldAll, HasToldOthers, KeepsCells, Noted, acts_of_events, events_of_cell, events_there}
 use Rattle.trace_run.specs.Explaining.{BeginsWithEvents, EndsWith, Explain, drops_at_end}
 use Rattle.trace_run.specs.FeedEvents.{events_of_line, events_of_lines, feeds_behind}
@@ -48,35 +50,42 @@ use Rattle.trace_run.specs.Lines.{caller_of, is_of_caller, replies_where}
 use Rattle.trace_run.specs.dbufs.ObjectAnswers.{AreAnsweredByCells}
 use Rattle.trace_run.specs.Meeting.{AllKeepCells, HasSettled, HaveGivenBack, HaveParted, IsLevel, SeesEntries, Waits, drops_from}
 use Rattle.trace_run.specs.callers.Looking.{HaveLooked}
-use Rattle.trace_run.specs.dbufs.Objects.{Line}
+use Rattle.trace_run.specs.dbufs.Objects.{Line, Work, no_work}
 use Rattle.trace_run.specs.one_caller.Alone.{ends_in, histories_of}
 use Rattle.trace_run.specs.one_caller.OneCaller.{events_of_drops, kept_after, kept_after_all}
 use Rattle.trace_run.specs.Openings.{Knows, openings_of}
 use Rattle.trace_run.specs.Restores.{events_by_feeder, restores_in}
-use Rattle.trace_run.specs.RunWork.{IsRunWork, RunWork, acts_by, acts_of_caller_lines, acts_of_syncs, kept_after_lines, lines_of_caller, noted_by, noted_of_syncs}
+use Rattle.trace_run.specs.RunWork.{AllFit, FitsBy, IsRunWork, RunWork, acts_by, acts_of_caller_lines, acts_of_syncs, kept_after_lines, lines_of_caller, lines_of_feeder, noted_by, noted_of_syncs}
 use Rattle.trace_run.specs.callers.GroupRun.{HaveClosed, HaveStopped}
-use Rattle.trace_run.specs.callers.Groups.{HaveCome, AreMakers}
+use Rattle.trace_run.specs.callers.Groups.{HaveCome, AreMakers, stopped_line}
 use Rattle.trace_run.specs.Syncing.{inserts_noted}
 use Rattle.trace_run.specs.callers.Together.{AreCut, IsCut, IsCutLast, events_at_end, over_callers, reads_of_caller}
 use Rattle.trace_run.specs.callers.WorkLines.{AnswersLines, AreLinesOf, calls_of_lines, noted_of_work}
-use Rattle.trace_run.proofs.CellLemmas.{all-empty, get-of}
+use Rattle.trace_run.proofs.CellLemmas.{all-empty, ends-one, get-of}
 use Rattle.trace_run.proofs.callers.AfterEnds.{crew-long, last-same, same-long}
 use Rattle.trace_run.proofs.callers.CallerActLemmas.{caller-is}
 use Rattle.trace_run.proofs.callers.EndedLemmas.{all-at}
 use Rattle.trace_run.proofs.callers.GroupCounts.{IsLineAct, acts-counted, reads_of_act}
 use Rattle.trace_run.proofs.callers.GroupRunLemmas.{come-wait, gave-at, gone-long, gone-stopped, lines-acts, lines-noted}
+use Rattle.trace_run.proofs.callers.LineLists.{noted-append}
 use Rattle.trace_run.proofs.callers.MeetLemmas.{all-before, starts-then}
-use Rattle.trace_run.proofs.one_caller.TellLemmas.{all-map}
+use Rattle.trace_run.proofs.deeds.CellsDone.{cell-append}
+use Rattle.trace_run.proofs.one_caller.TellLemmas.{all-append, all-map}
 use Rattle.trace_run.proofs.theorem.CellRun.{crew-cells, crew-kept, crew-seen}
 use Rattle.trace_run.proofs.theorem.CrewEnds.{crew-ended, crew-level}
 use Rattle.trace_run.proofs.theorem.LineActs.{Own, caller-own, own-fits}
 use Rattle.trace_run.proofs.theorem.AnsweredCells.{EndsFrom, all-by-cells, goes-on, slice-of}
+use Rattle.trace_run.proofs.theorem.AnsweredFronts.{front-answered}
 use Rattle.trace_run.proofs.theorem.EndLemmas.{shown-at}
 use Rattle.trace_run.proofs.theorem.LineAnswers.{IsOfOne, lines-answered, own-lines-of}
 use Rattle.trace_run.proofs.theorem.WorkEnds.{HasEndedWork, IsCallersAct, acts-same, own-told, reads-counted, work-explains, work-level}
 use Rattle.trace_run.proofs.deeds.MakesLemmas.{later-then}
 use Rattle.trace_run.specs.MadeLines.{IsMaker, OwnPasses}
 use Rattle.trace_run.proofs.callers.MakerLemmas.{maker-before, passes-before}
+
+-- these are the lines that were answered; where a sync stopped, it stands behind them
+abbrev pub HasStop : RunWork → List Line → Type 0
+HasStop work ls = ((ls ≡ work.lines) × (work.stopped ≡ no_work)) ⊎ (ls ≡ work.lines ++ stopped_line work ∷ [])
 
 -- ---- lines that are not answered add nothing
 
@@ -490,29 +499,60 @@ module _ (cache : Cache) (valid : IsConfig cache.config) (restored : List Restor
       (starts-then before (front_of i q.0.own.seen) (front_of i p.own.seen) (all-at (λ o. StartsWith before (front_of i o.own.seen)) c.callers n q.0 all there_is) (q.2.fronts i range))
 
   -- All lines of callers on objects are answered by the closed cells.
-  module _ (trace : Trace) (config : g ≡ trace.config) (knows : Knows (openings_of trace) crew.feeder) where
-    pub run-objects : (told : (k : ℕ) → Option (List ℕ)) → HaveLooked g len told work.lines crew.parties.items → ((k : ℕ) (op : Op) → slice_get os k ≡ Some op → (n : ℕ) → caller_of op ≡ Some n → n < g.callers) → AreAnsweredByCells g len told closed.cells work.lines
-    run-objects told looked below = all-by-cells cache valid h.closing closed h.ends len told work.lines crew.parties.items looked come.did.fits
-        (λ i c at m less. ((run-cells trace config knows).each i c (slice-of closed.cells i c at)).did m (subst (λ (x : Config). m < parties_of x) config (omega (arith, less))) ∙ ap (events_of_cell i) (caller-noted m less))
-        (λ n few. let p = caller-ends n few in (party-at n, subst (λ (x : PartyPlace). get_elem? crew.parties.items n ≡ some x) (party-is n few) (come.each n few).at.party_at, p.0, p.1, p.2))
-        behind-all
-        (λ n l k at his. own-at work.lines (own-lines-of (λ n. n < g.callers) os rs work.lines come.did.lines below) k l at n (caller-is n l.op his))
-      where
-        -- the feeder ended each cell behind all that callers had seen there
-        behind-all : (i : ℕ) (x : OnHeap) → get_elem? closed.cells i ≡ some x → (before : List Seen) × (map line.Entry (map event_numbers x.value.history) ≡ before ++ end_entry g.callers i)
-            × ((n : ℕ) (few : n < g.callers) → StartsWith before (front_of i (party-at n).own.seen))
-        behind-all i x at =
-            let range : IsCell g i = subst (λ (k : ℕ). i < k) h.ends.cells (within closed.cells i x at) in
-            let end = c.ended.ends i range in (
-              end.0,
-              run-whole trace config knows i x at ∙ (end.1 ∙ ap (λ (n : ℕ). end.0 ++ end_entry n i) (ap (λ (p : PartyPlace). p.number) same-parties.1 ∙ same-feeder-number)),
-              ended-behind i range end.0 end.2,
-            )
+  module _ (trace : Trace) (config : g ≡ trace.config) (knows : Knows (openings_of trace) crew.feeder) (told : (k : ℕ) → Option (List ℕ)) (below : (k : ℕ) (op : Op) → slice_get os k ≡ Some op → (n : ℕ) → caller_of op ≡ Some n → n < g.callers) where
+    -- the feeder ended each cell behind all that callers had seen there
+    behind-all : (i : ℕ) (x : OnHeap) → get_elem? closed.cells i ≡ some x → (before : List Seen) × (map line.Entry (map event_numbers x.value.history) ≡ before ++ end_entry g.callers i)
+        × ((n : ℕ) (few : n < g.callers) → StartsWith before (front_of i (party-at n).own.seen))
+    behind-all i x at =
+        let range : IsCell g i = subst (λ (k : ℕ). i < k) h.ends.cells (within closed.cells i x at) in
+        let end = c.ended.ends i range in (
+          end.0,
+          run-whole trace config knows i x at ∙ (end.1 ∙ ap (λ (n : ℕ). end.0 ++ end_entry n i) (ap (λ (p : PartyPlace). p.number) same-parties.1 ∙ same-feeder-number)),
+          ended-behind i range end.0 end.2,
+        )
 
-        own-at : (ls : List Line) → AllByRecursion (IsOfOne (λ n. n < g.callers)) ls → (k : ℕ) (l : Line) → slice_get ls k ≡ Some l → (n : ℕ) → caller_of l.op ≡ Some n → n < g.callers
-        own-at [] all k l at n is = cc
-        own-at (x ∷ ls) all zero l at n is = let same : x ≡ l = cc in all.0 n (ap (λ (y : Line). caller_of y.op) same ∙ is)
-        own-at (x ∷ ls) all (suc k) l at n is = own-at ls all.1 k l at n is
+    own-at : (ls : List Line) → AllByRecursion (IsOfOne (λ n. n < g.callers)) ls → (k : ℕ) (l : Line) → slice_get ls k ≡ Some l → (n : ℕ) → caller_of l.op ≡ Some n → n < g.callers
+    own-at [] all k l at n is = cc
+    own-at (x ∷ ls) all zero l at n is = let same : x ≡ l = cc in all.0 n (ap (λ (y : Line). caller_of y.op) same ∙ is)
+    own-at (x ∷ ls) all (suc k) l at n is = own-at ls all.1 k l at n is
+
+    lines-own : AllByRecursion (IsOfOne (λ n. n < g.callers)) work.lines
+    lines-own = own-lines-of (λ n. n < g.callers) os rs work.lines come.did.lines below
+
+    -- by lines that have of each caller, and of the feeder, what was done
+    module _ (ls : List Line) (fits : AllFit g ls) (own : AllByRecursion (IsOfOne (λ n. n < g.callers)) ls) (callers_same : (m : ℕ) → lines_of_caller m ls ≡ lines_of_caller m work.lines) (feeder_same : noted_of_work (lines_of_feeder ls) ≡ noted_of_syncs work) where
+      caller-did : (i : ℕ) (x : OnHeap) → get_elem? closed.cells i ≡ some x → (m : ℕ) → m < g.callers → done_by m x.value.history ≡ events_of_cell i (noted_of_work (lines_of_caller m ls))
+      caller-did i x at m less =
+          ((run-cells trace config knows).each i x (slice-of closed.cells i x at)).did m (subst (λ (y : Config). m < parties_of y) config (omega (arith, less)))
+          ∙ ap (events_of_cell i) (caller-noted m less ∙ ap noted_of_work (sym (callers_same m)))
+
+      feeder-did : (i : ℕ) (x : OnHeap) → get_elem? closed.cells i ≡ some x → done_by g.callers x.value.history ≡ events_of_cell i (noted_of_work (lines_of_feeder ls)) ++ End g.callers ∷ []
+      feeder-did i x at =
+          let inside : i < g.cells = subst (λ (k : ℕ). i < k) h.ends.cells (within closed.cells i x at) in
+          ((run-cells trace config knows).each i x (slice-of closed.cells i x at)).did g.callers (subst (λ (y : Config). g.callers < parties_of y) config (omega arith))
+          ∙ (ap (events_of_cell i) feeder-noted ∙ (cell-append i (noted_of_syncs work) (noted_ends g.callers 0 g.cells)
+          ∙ (λ z. events_of_cell i (sym feeder_same z) ++ ends-one g.callers i 0 g.cells (omega arith) (omega (arith, inside)) z)))
+
+      objects-by : HaveLooked g len told ls crew.parties.items → AreAnsweredByCells g len told closed.cells ls
+      objects-by looked =
+          all-by-cells cache valid h.closing closed h.ends len told ls crew.parties.items looked fits caller-did feeder-did
+          (λ n few. let p = caller-ends n few in (party-at n, subst (λ (x : PartyPlace). get_elem? crew.parties.items n ≡ some x) (party-is n few) (come.each n few).at.party_at, p.0, p.1, p.2)) behind-all
+          (λ n l k at his. own-at ls own k l at n (caller-is n l.op his))
+
+    abbrev noted_lines : List Noted
+    noted_lines = noted_of_work (lines_of_feeder work.lines)
+
+    pub run-objects : (ls : List Line) → HasStop work ls → HaveLooked g len told ls crew.parties.items → AreAnsweredByCells g len told closed.cells work.lines
+    run-objects ls (inl none) looked =
+        objects-by work.lines come.did.fits lines-own (λ m. refl) (sym (ap (λ (x : Work). noted_lines ++ x.noted) none.1 ∙ append-nil noted_lines))
+        (subst (λ (ys : List Line). HaveLooked g len told ys crew.parties.items) none.0 looked)
+    run-objects ls (inr stops) looked =
+        let l : Line = stopped_line work in
+        front-answered g len told closed.cells work.lines (l ∷ [])
+        (objects-by (work.lines ++ l ∷ []) (all-append (λ x. FitsBy g (caller_of x.op) x) work.lines (l ∷ []) come.did.fits (come.did.stopped, tt)) (all-append (IsOfOne (λ n. n < g.callers)) work.lines (l ∷ []) lines-own ((λ n is. cc), tt))
+        (λ m. filter-append _ work.lines (l ∷ []) ∙ append-nil (lines_of_caller m work.lines))
+        (ap noted_of_work (filter-append _ work.lines (l ∷ [])) ∙ (noted-append (lines_of_feeder work.lines) (l ∷ []) ∙ ap (λ (ns : List Noted). noted_lines ++ ns) (append-nil work.stopped.noted)))
+        (subst (λ (ys : List Line). HaveLooked g len told ys crew.parties.items) stops looked))
 
   -- A closed cell goes on from what the feeder had seen of it between the groups.
   pub feeder-begins : (i : ℕ) (x : OnHeap) → slice_get closed.cells i ≡ Some x → StartsWith (map line.Entry (map event_numbers x.value.history)) (front_of i crew.feeder.own.seen)

@@ -54,7 +54,7 @@ use Rattle.trace_run.specs.one_caller.Alone.{ends_in, histories_of}
 use Rattle.trace_run.specs.RunWork.{IsRunWork, RunWork, lines_of_caller, noted_by}
 use Rattle.trace_run.specs.callers.DeviceForks.{UsedInGroups}
 use Rattle.trace_run.specs.callers.GroupRun.{HaveClosed, RanTogether}
-use Rattle.trace_run.specs.callers.Groups.{AreDone, EndsLines, HaveCome, IsEndLine, StoodSo}
+use Rattle.trace_run.specs.callers.Groups.{AreDone, EndsLines, HaveCome, IsEndLine, StoodSo, lines_with_stop}
 use Rattle.trace_run.specs.callers.Together.{AreCut, EndsRun, IsCutLast, StoodThen, StopsSo, StopsSync, WorkInGroups, answered_ops, between_groups, faults_told, groups_done, over_callers, reads_of_caller}
 use Rattle.trace_run.specs.callers.WorkLines.{calls_of_lines, effect_with}
 use Rattle.trace_run.proofs.callers.AbsorbLemmas.{over-few}
@@ -63,7 +63,7 @@ use Rattle.trace_run.proofs.callers.GroupCounts.{over-add, over-one, over-same, 
 use Rattle.trace_run.proofs.callers.GroupRunLemmas.{all-callers}
 use Rattle.trace_run.proofs.callers.SyncRun.{in-groups-as, stood-then, stops-sync-as}
 use Rattle.trace_run.proofs.theorem.LineAnswers.{EndsWell, IsOfOne, end-lines, lines-replies, own-lines-of}
-use Rattle.trace_run.proofs.theorem.RunEnds.{did-work, ended-work, feeder-begins, feeder-lines, lines-long, run-answers, run-cells, run-counted, run-cut, run-cut-last, run-explains, run-kept, run-objects, run-reads, since, HaveMade}
+use Rattle.trace_run.proofs.theorem.RunEnds.{HasStop, did-work, ended-work, feeder-begins, feeder-lines, lines-long, run-answers, run-cells, run-counted, run-cut, run-cut-last, run-explains, run-kept, run-objects, run-reads, since, HaveMade}
 
 -- ---- what the callers' replies tell is what all replies tell
 
@@ -263,8 +263,15 @@ module _ {P D : Type 0} (cache : Cache) (pools : Ghosts P) (devices : Devices D)
       go Sync ends = omega (arith, ends.answer.outside.faults.more (omega (arith, room, reached-faults room, faults-few)), reached-faults room)
       go (Full need left) ends = ends.answer.outside.faults ∙ reached-faults room
 
+  -- behind all lines stands the sync that stopped, where one did
+  has-stop : (e : Ending) → EndsLines pools cache trace rs crew.feeder work e d.now after → HasStop work (lines_with_stop e work)
+  has-stop Whole ends = inl (refl, ends.0)
+  has-stop Fork ends = inl (refl, ends.0)
+  has-stop Sync ends = inr refl
+  has-stop (Full need left) ends = inr refl
+
   objects : AreAnsweredByCells cache.config (pools.size before) d.reached.told closed.cells work.lines
-  objects = run-objects cache valid restored (pools.size before) (pools.told before) place trace.blocks os more rs work crew come closed h trace config d.reached.knows d.reached.told d.reached.looked below-all
+  objects = run-objects cache valid restored (pools.size before) (pools.told before) place trace.blocks os more rs work crew come closed h trace config d.reached.knows d.reached.told below-all (lines_with_stop ending work) (has-stop ending d.ended) d.reached.looked
 
   -- what its feeds leave of the cache device
   pub group-fed : LeavesFed devices trace.config restored done-work.feeds was is (histories_of closed)

@@ -1,5 +1,5 @@
 -- Several callers between two groups of a trace: what all lines so far came to.
-use Rattle.std.specs.Prelude.{◌≡◌, ◌⊎◌, ◌<◌, ◌≤◌, ◌+◌, ◌%◌, ◌^◌, ℕ, suc, Bool, true, false, List, [], Result, Ok, Err, Option, Some, None, count_by, length, map, slice_get, slice_index_or, take, ◌++◌}
+use Rattle.std.specs.Prelude.{◌≡◌, ◌⊎◌, ◌<◌, ◌≤◌, ◌+◌, ◌%◌, ◌^◌, ℕ, suc, Bool, true, false, List, [], ◌∷◌, Result, Ok, Err, Option, Some, None, count_by, length, map, slice_get, slice_index_or, take, ◌++◌}
 use Rattle.std.specs.List.{AllByRecursion}
 use Rattle.blk_ptr.specs.Size.{sector}
 use Rattle.blk_ptr.specs.declared.ptr.Ptr.{Ptr}
@@ -125,6 +125,17 @@ pub record StoodSo (openings : List (List ℕ)) (config : Config) (p : PartyPlac
   pub fed : (i : ℕ) (c : OnHeap) → slice_get cells i ≡ Some c → done_by config.callers c.value.history ≡ events_of_cell i (noted_of_work (lines_of_feeder before))
   pub noted : work.noted ≡ noted_of config.callers xs
 
+-- A sync that stopped, as the line that it would have been; it is not answered.
+abbrev pub stopped_line : RunWork → Line
+stopped_line work = record { op = Txg 0; reply = Synced 0 0 0; work = work.stopped }
+
+-- the lines that were answered, and behind them a sync that stopped
+abbrev pub lines_with_stop : Ending → RunWork → List Line
+lines_with_stop Whole work = work.lines
+lines_with_stop Fork work = work.lines
+lines_with_stop Sync work = work.lines ++ stopped_line work ∷ []
+lines_with_stop (Full need left) work = work.lines ++ stopped_line work ∷ []
+
 -- The next group has a number, and its sync a place: they are such that it may be done.
 pub record MaySync {P : Type 0} (pools : Ghosts P) (lines : ℕ) (now : BetweenGroups P) : Type 0 where
   pub born : 0 < now.group
@@ -151,8 +162,8 @@ pub record HaveReached {P D : Type 0} (cache : Cache) (restored : List Restored)
   pub used : 2 ≤ cache.config.callers → UsedInGroups devices trace.blocks cache.config.callers (groups_done ending work.lines) work.feeds (lent_in was) (lent_in is)
   -- each feed went on where the one before it left the ring
   pub fed : AreMadeSoFar dbuf_meanings devices cache restored work.feeds was is crew.feeder
-  -- each line on an object looked behind all groups before its own, and before all behind it
-  pub looked : HaveLooked cache.config (pools.size before.pool) told work.lines crew.parties.items
+  -- each line on an object looked behind all groups before its own, and before all behind it; a sync that stopped ends one too
+  pub looked : HaveLooked cache.config (pools.size before.pool) told (lines_with_stop ending work) crew.parties.items
 
 -- The callers stand between two groups of a trace.
 pub record AreBetween {P D : Type 0} (cache : Cache) (restored : List Restored) (pools : Ghosts P) (devices : Devices D) (trace : Trace) (before now : BetweenGroups P) (was is : Device D) (replies : List Reply) (work : RunWork) (crew : Crew OnHeap) : Type 0 where

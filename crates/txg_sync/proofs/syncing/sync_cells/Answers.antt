@@ -1,4 +1,4 @@
-use Rattle.std.proofs.Common.{◌-◌, ◌≤◌, List, sym, ap, ◌∙◌, subst, arith}
+use Rattle.std.proofs.Common.{◌≡◌, ◌-◌, ◌≤◌, List, length, refl, sym, ap, ◌∙◌, subst, arith}
 use Rattle.std.proofs.lemmas.Result.{err_from_is_err_and}
 use Rattle.dbuf_cells.specs.Turns.{OnHeap}
 use Rattle.txg_sync.specs.Syncing.{AreAllDirty, Same}
@@ -6,7 +6,7 @@ use Rattle.txg_sync.specs.InHand.{AreDueIn}
 use Rattle.txg_sync.specs.Items.{AreApart, need_of}
 use Rattle.txg_sync.specs.declared.due.Due.{Due}
 use Rattle.txg_sync.proofs.Dirty.{all-apart, all-due, count-most}
-use Rattle.txg_sync.proofs.Ended.{dues-claims, dues-may-give, dues-number, dues-stopped, may-give-all, nothing-done}
+use Rattle.txg_sync.proofs.Ended.{dues-claims, dues-may-give, dues-number, dues-stopped, dues-written, may-give-all, nothing-done, sized-all}
 use Rattle.txg_sync.proofs.syncing.sync_cells.Goals as goal
 
 pub returns-in_default-clause-hand : goal.returns-in_default-clause-hand
@@ -70,3 +70,25 @@ returns-in_err-behind-clause-number g c = dues-number g.P.Pool c.args.arcs.now c
 
 pub returns-clause-number : goal.returns-clause-number
 returns-clause-number g c = dues-number g.P.Pool c.args.arcs.now c.args.group c.args.tick c.args.next c.args.cells.now c.write_dues.new.cells c.args.pool.now c.write_dues.new.pool c.args.party.now c.write_dues.new.party c.deref-2.result.now c.write_dues.result c.write_dues.ensures.answer
+
+pub returns-clause-answer : goal.returns-clause-answer
+returns-clause-answer g c =
+    let cells : List OnHeap = c.args.cells.now in
+    let dues : List Due = c.deref-2.result.now in
+    let dirty : AreAllDirty cells dues = subst (AreAllDirty cells) (sym c.deref-2.ensures.value) record { rising = c.in-Ok.ensures.rising; all = c.in-Ok.ensures.all } in
+    let fits : need_of cells dues ≤ g.P.Pool.size c.args.pool.now - c.args.next =
+    let full = c.if-need-from.false in
+    let need = c.need_of-need.ensures in
+    let there = ap (need_of cells) (c.deref.ensures.value ∙ sym c.deref-2.ensures.value) in
+    let from = c.from.ensures in
+    let size = c.len.ensures in
+    let inside = c.requires.inside in
+    omega arith in
+    let sized = sized-all cells dues (subst (AreDueIn cells) (sym c.deref-2.ensures.value) (all-due cells c.in-Ok.dues.items c.in-Ok.ensures.known c.in-Ok.ensures.all)) in
+    let many : c.len-2.result ≡ length dues =
+    let len = c.len-2.ensures in
+    let same = c.in-Ok.dues.ok.0 in
+    let there = ap (λ (l : List Due). length l) c.deref-2.ensures.value in
+    omega arith in
+    dues-written g.P.Pool c.args.arcs.now c.args.group c.args.tick c.args.next cells c.write_dues.new.cells c.args.pool.now c.write_dues.new.pool c.args.party.now c.write_dues.new.party dues dirty fits c.in_ok-behind.behind
+    record { blocks = c.len-2.result; bytes = c.in_ok-behind.behind - c.args.next; next = c.in_ok-behind.behind } sized c.in_ok-behind.ensures.answer many refl refl
