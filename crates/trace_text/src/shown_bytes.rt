@@ -7,7 +7,7 @@ use std::alloc::{AllocError, Global};
 use std::fmt;
 use std::marker::Model;
 
-/// The most bytes that lie in the reply itself. With them a reply takes 64 bytes.
+/// The most bytes that lie in the reply itself.
 const MOST_INSIDE: usize = 22;
 
 /// Where the bytes lie.

@@ -35,11 +35,11 @@ given-did m cache t block ptr got p r q kept stands did is gives =
 pub returns-then-end-size-clause-did : goal.returns-then-end-size-clause-did
 returns-then-end-size-clause-did g c = acts-none c.args.arcs.now.config c.args.party.now c.args.party.now (shard_of c.args.arcs.now.config.shards c.args.ptr.now.key) refl
 
-pub returns-in-Ok-clause-stands : goal.returns-in-Ok-clause-stands
-returns-in-Ok-clause-stands g c = λ kept stands. subst (λ (l : List KeptBlock). Stands c.args.arcs.now c.give_back.new.party l) (append-nil kept) (c.give_back.ensures.stands kept [] (c.in-Ok.ensures.stands kept stands))
+pub returns-in_ok-shown-in-Ok-clause-stands : goal.returns-in_ok-shown-in-Ok-clause-stands
+returns-in_ok-shown-in-Ok-clause-stands g c = λ kept stands. subst (λ (l : List KeptBlock). Stands c.args.arcs.now c.give_back.new.party l) (append-nil kept) (c.give_back.ensures.stands kept [] (c.in-Ok.ensures.stands kept stands))
 
-pub returns-in-Ok-clause-did : goal.returns-in-Ok-clause-did
-returns-in-Ok-clause-did g c =
+pub returns-in_ok-shown-in-Ok-clause-did : goal.returns-in_ok-shown-in-Ok-clause-did
+returns-in_ok-shown-in-Ok-clause-did g c =
     given-did g.C.Keeps c.args.arcs.now c.args.t c.args.block c.args.ptr.now c.in-Ok.field-0
     c.args.party.now c.get.new.party c.give_back.new.party c.requires.0 (c.in-Ok.ensures.stands c.requires.0 c.requires.1) c.in-Ok.ensures.did c.in-Ok.ensures.got.kept c.give_back.ensures.gives
 
