@@ -39,8 +39,8 @@ use Rattle.trace_run.proofs.callers.ToldLemmas.{told_then}
 
 -- where a sync stopped, that stands behind all lines
 pub stop-behind : (ending : Ending) (work : RunWork) → groups_done ending [] ≡ groups_begun [] → lines_with_stop ending work ≡ work.lines ++ stopped_line work ∷ []
-stop-behind Whole work begun = cc
-stop-behind Fork work begun = cc
+stop-behind Whole work begun = let few : 0 ≡ 1 = ap length begun in absurd (omega (arith, few))
+stop-behind Fork work begun = let few : 0 ≡ 1 = ap length begun in absurd (omega (arith, few))
 stop-behind Sync work begun = refl
 stop-behind (Full need left) work begun = refl
 
