@@ -1,5 +1,5 @@
 -- Several callers behind more lines: how those on objects looked at cells, behind the lines of a group, and behind the line that ends it.
-use Rattle.std.proofs.Common.{◌≡◌, ℕ, ◌<◌, List, [], ◌∷◌, ◌++◌, Option, None, length, sym, ap, ◌∙◌, subst, inl, inr, arith, append-nil}
+use Rattle.std.proofs.Common.{◌≡◌, ℕ, ◌<◌, List, [], ◌∷◌, ◌++◌, Option, None, length, refl, sym, ap, ◌∙◌, subst, inl, inr, arith, append-nil}
 use Rattle.std.proofs.lemmas.Bool.{cases_lt}
 use mathlib.Core.Option.{some, some-injective}
 use lib.ListN.{get_elem?}
@@ -39,8 +39,8 @@ use Rattle.trace_run.proofs.callers.ToldLemmas.{told_then}
 
 -- where a sync stopped, that stands behind all lines
 pub stop-behind : (ending : Ending) (work : RunWork) → groups_done ending [] ≡ groups_begun [] → lines_with_stop ending work ≡ work.lines ++ stopped_line work ∷ []
-stop-behind Whole work begun = cc
-stop-behind Fork work begun = cc
+stop-behind Whole work begun = let few : 0 ≡ 1 = ap length begun in absurd (omega (arith, few))
+stop-behind Fork work begun = let few : 0 ≡ 1 = ap length begun in absurd (omega (arith, few))
 stop-behind Sync work begun = refl
 stop-behind (Full need left) work begun = refl
 
