@@ -17,6 +17,7 @@ pub mod RoomInTurn
 pub mod RoomLines
 pub mod RoomLists
 pub mod RoomNotes
+pub mod RoomPuts
 pub mod RoomSyncs
 pub mod RoomTogether
 pub mod RunLines

@@ -134,6 +134,20 @@ abbrev pub blocks_written : List Op → List Oid
 blocks_written [] = []
 blocks_written (op ∷ os) = with_block (block_written op) (blocks_written os)
 
+-- the line writes this block whole
+abbrev pub is_put_to : Oid → Op → Bool
+is_put_to at (ops.Put n t b size fill) = oid_eq at b
+is_put_to at (ops.Patch n t b from bytes) = false
+is_put_to at (ops.Read n t x window) = false
+is_put_to at (ops.Hold n t x) = false
+is_put_to at (ops.Drop n x) = false
+is_put_to at (ops.Get n t b window) = false
+is_put_to at (ops.Pin n t b) = false
+is_put_to at (ops.Unpin n b) = false
+is_put_to at ops.Feed = false
+is_put_to at (ops.Txg t) = false
+is_put_to at (ops.Cap c) = false
+
 -- the size that the line gives the block, which it writes whole; or 0
 abbrev pub size_put : Oid → Op → ℕ
 size_put at (ops.Put n t b size fill) = if oid_eq at b then size else 0
@@ -153,33 +167,39 @@ abbrev pub greatest_put : Oid → List Op → ℕ
 greatest_put at [] = 0
 greatest_put at (op ∷ os) = max (size_put at op) (greatest_put at os)
 
--- and with that of its first pointer: a block that is dirty has one of these sizes, whatever the order of the callers' work
-abbrev pub greatest_size : Trace → Oid → ℕ
-greatest_size trace at = max (option_map_or (λ (ptr : Ptr). ptr.key.size) (begins_with trace at) 0) (greatest_put at trace.ops)
+-- and with that of its first pointer
+abbrev pub greatest_size : Trace → List Op → Oid → ℕ
+greatest_size trace os at = max (option_map_or (λ (ptr : Ptr). ptr.key.size) (begins_with trace at) 0) (greatest_put at os)
 
--- as many bytes as a sync of what these lines write may need
-abbrev pub room_for : Trace → List Op → ℕ
-room_for trace os = sum_by (greatest_size trace) (blocks_written os)
+-- The most bytes that a sync may write of a block, whatever the order of the callers' work: where lines since the sync before it write the block whole, it has a size that they give it; else one that it
+-- had before them.
+abbrev pub size_needed : Trace → (before since : List Op) → Oid → ℕ
+size_needed trace before since at = if list_any (is_put_to at) since then greatest_put at since else greatest_size trace before at
 
--- Each sync of these lines has room from this place of the pool on, behind lines that wrote since the sync before it. The next one writes behind it.
-abbrev pub HaveRoom : Trace → (pool_len place : ℕ) → (since left : List Op) → Type 0
-HaveRoom trace pool_len place since [] = Unit {0}
-HaveRoom trace pool_len place since (ops.Txg t ∷ left) = (place + room_for trace since ≤ pool_len) × HaveRoom trace pool_len (place + room_for trace since) [] left
-HaveRoom trace pool_len place since (ops.Read n t x window ∷ left) = HaveRoom trace pool_len place since left
-HaveRoom trace pool_len place since (ops.Hold n t x ∷ left) = HaveRoom trace pool_len place since left
-HaveRoom trace pool_len place since (ops.Drop n x ∷ left) = HaveRoom trace pool_len place since left
-HaveRoom trace pool_len place since (ops.Get n t at window ∷ left) = HaveRoom trace pool_len place since left
-HaveRoom trace pool_len place since (ops.Put n t at size fill ∷ left) = HaveRoom trace pool_len place (since ++ ops.Put n t at size fill ∷ []) left
-HaveRoom trace pool_len place since (ops.Patch n t at from bytes ∷ left) = HaveRoom trace pool_len place (since ++ ops.Patch n t at from bytes ∷ []) left
-HaveRoom trace pool_len place since (ops.Pin n t at ∷ left) = HaveRoom trace pool_len place since left
-HaveRoom trace pool_len place since (ops.Unpin n at ∷ left) = HaveRoom trace pool_len place since left
-HaveRoom trace pool_len place since (ops.Feed ∷ left) = HaveRoom trace pool_len place since left
-HaveRoom trace pool_len place since (ops.Cap c ∷ left) = HaveRoom trace pool_len place since left
+-- as many bytes as a sync of what the lines since write may need
+abbrev pub room_for : Trace → (before since : List Op) → ℕ
+room_for trace before since = sum_by (size_needed trace before since) (blocks_written since)
+
+-- Each sync of the lines that are left has room from this place of the pool on. Behind the lines before stands the last sync, or none, and behind that the lines since. The next sync writes behind it.
+abbrev pub HaveRoom : Trace → (pool_len place : ℕ) → (before since left : List Op) → Type 0
+HaveRoom trace pool_len place before since [] = Unit {0}
+HaveRoom trace pool_len place before since (ops.Txg t ∷ left) =
+    (place + room_for trace before since ≤ pool_len) × HaveRoom trace pool_len (place + room_for trace before since) (before ++ since) [] left
+HaveRoom trace pool_len place before since (ops.Read n t x window ∷ left) = HaveRoom trace pool_len place before (since ++ ops.Read n t x window ∷ []) left
+HaveRoom trace pool_len place before since (ops.Hold n t x ∷ left) = HaveRoom trace pool_len place before (since ++ ops.Hold n t x ∷ []) left
+HaveRoom trace pool_len place before since (ops.Drop n x ∷ left) = HaveRoom trace pool_len place before (since ++ ops.Drop n x ∷ []) left
+HaveRoom trace pool_len place before since (ops.Get n t at window ∷ left) = HaveRoom trace pool_len place before (since ++ ops.Get n t at window ∷ []) left
+HaveRoom trace pool_len place before since (ops.Put n t at size fill ∷ left) = HaveRoom trace pool_len place before (since ++ ops.Put n t at size fill ∷ []) left
+HaveRoom trace pool_len place before since (ops.Patch n t at from bytes ∷ left) = HaveRoom trace pool_len place before (since ++ ops.Patch n t at from bytes ∷ []) left
+HaveRoom trace pool_len place before since (ops.Pin n t at ∷ left) = HaveRoom trace pool_len place before (since ++ ops.Pin n t at ∷ []) left
+HaveRoom trace pool_len place before since (ops.Unpin n at ∷ left) = HaveRoom trace pool_len place before (since ++ ops.Unpin n at ∷ []) left
+HaveRoom trace pool_len place before since (ops.Feed ∷ left) = HaveRoom trace pool_len place before (since ++ ops.Feed ∷ []) left
+HaveRoom trace pool_len place before since (ops.Cap c ∷ left) = HaveRoom trace pool_len place before (since ++ ops.Cap c ∷ []) left
 
 -- Each line has what it asks for, and each sync has room behind all declared blocks.
 pub record IsInPlace (pool_len : ℕ) (image : List ℕ) (trace : Trace) : Type 0 where
   pub lines : (k : ℕ) (op : Op) → slice_get trace.ops k ≡ Some op → HasItsOwn pool_len image trace k op
-  pub room : (place : ℕ) → IsFirstPlace pool_len trace.blocks place → HaveRoom trace pool_len place [] trace.ops
+  pub room : (place : ℕ) → IsFirstPlace pool_len trace.blocks place → HaveRoom trace pool_len place [] [] trace.ops
 
 -- Where nothing is out of place, and the pool's count of faults does not rise, each line is answered, and no reply is a refusal. The cache device may fail
 -- and have any bytes. (A run to which memory was refused has no report.)

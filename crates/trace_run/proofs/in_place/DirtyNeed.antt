@@ -1,5 +1,5 @@
 -- What a sync needs is within what all blocks that were written since the sync before may need.
-use Rattle.std.proofs.Common.{◌≡◌, ℕ, suc, ◌+◌, ◌<◌, ◌≤◌, true, false, List, [], ◌∷◌, ◌++◌, map, length, sum_by, Option, Some, IfSome, refl, sym, ap, subst, ◌∙◌, inl, inr, arith}
+use Rattle.std.proofs.Common.{◌≡◌, ℕ, suc, ◌+◌, ◌<◌, ◌≤◌, true, false, List, [], ◌∷◌, ◌++◌, map, length, sum_by, Option, Some, refl, sym, ap, subst, ◌∙◌, inl, inr, arith}
 use Rattle.std.specs.Prelude.{slice_get}
 use Rattle.std.specs.List.{AllByRecursion, list_any}
 use Rattle.std.specs.Option.{option_map_or}
@@ -18,14 +18,13 @@ use Rattle.dbuf_cells.specs.declared.kept.Kept.{Kept}
 use Rattle.txg_sync.specs.Items.{bytes_of_due, dirty_bytes_at, due_in, dues_from, dues_in, need_of}
 use Rattle.txg_sync.specs.Syncing.{AreAllDirty}
 use Rattle.txg_sync.specs.declared.due.Due.{Due}
-use Rattle.trace_run.specs.InPlace.{opened_ptr}
 use Rattle.trace_run.proofs.in_place.DirtyBlocks.{IsCleanBehind, dirty-written, is_write_of}
-use Rattle.trace_run.proofs.in_place.DirtySizes.{AreDirtyIn, IsPutWithin, all-dirty, dirty-within, distinct-dirty, mapping_oid, sound-distinct}
+use Rattle.trace_run.proofs.in_place.DirtySizes.{AreDirtyIn, all-dirty, distinct-dirty, mapping_oid, sound-distinct}
 use Rattle.trace_run.proofs.in_place.Mapped.{oid-is}
 use Rattle.trace_run.proofs.in_place.Sums.{AreDistinct, any-cons, none-apart, sum-among}
 
--- A cell of the number i, of m, as a sync takes it: nothing was dirty behind a front of its history, and what was written since is its own and among these blocks. These are the most bytes that each
--- block has.
+-- A cell of the number i, of m, as a sync takes it: nothing was dirty behind a front of its history, and what was written since is its own and among these blocks. These are the most bytes that its dirty
+-- blocks have.
 pub record IsRoomy (m : ℕ) (size : Oid → ℕ) (ats : List Oid) (i : ℕ) (c : CellLog Kept) : Type 0 where
   pub sound : IsSound c
   pub once : AreDistinct (map mapping_oid c.opening)
@@ -34,8 +33,7 @@ pub record IsRoomy (m : ℕ) (size : Oid → ℕ) (ats : List Oid) (i : ℕ) (c 
   pub split : c.history ≡ synced ++ since
   pub clean : IsCleanBehind c.opening synced
   pub own : (at : Oid) → list_any (is_write_of at) since ≡ true → (cell_of m at ≡ i) × (list_any (oid_eq at) ats ≡ true)
-  pub begins : (at : Oid) → IfSome (opened_ptr at c.opening) (λ ptr. ptr.key.size ≤ size at)
-  pub puts : (at : Oid) → AllByRecursion (IsPutWithin at (size at)) c.history
+  pub sized : (at : Oid) → cell_of m at ≡ i → length (dirty_bytes_at at c.dbufs) ≤ size at
 
 abbrev due_oid : Due → Oid
 due_oid due = due.at
@@ -88,7 +86,7 @@ module _ (m : ℕ) (size : Oid → ℕ) (ats : List Oid) (cells : List OnHeap) (
         record {
           own = w.0;
           among = w.1;
-          sized = subst (λ (o : Option OnHeap). length (option_map_or (λ (x : OnHeap). dirty_bytes_at at x.value.dbufs) o []) ≤ size at) (sym there) (dirty-within c.value room.sound at (size at) (room.begins at) (room.puts at));
+          sized = subst (λ (o : Option OnHeap). length (option_map_or (λ (x : OnHeap). dirty_bytes_at at x.value.dbufs) o []) ≤ size at) (sym there) (room.sized at w.0);
         }
 
     due-all : (oids : List Oid) → AreDirtyIn c.value.dbufs oids → AllByRecursion IsRoomyDue (map (due_in i) oids)

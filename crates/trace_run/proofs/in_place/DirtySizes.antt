@@ -1,5 +1,5 @@
 -- How many bytes the dirty blocks of a cell have, and that none stands twice among them: by its history.
-use Rattle.std.proofs.Common.{◌≡◌, ℕ, ◌+◌, ◌≤◌, Bool, true, false, if◌then◌else◌, List, [], ◌∷◌, map, length, Option, Some, None, IfSome, refl, sym, ap, subst, ◌∙◌, inl, inr, arith}
+use Rattle.std.proofs.Common.{◌≡◌, ℕ, ◌+◌, ◌≤◌, Bool, true, false, if◌then◌else◌, List, [], ◌∷◌, ◌++◌, map, length, Option, Some, None, IfSome, refl, sym, ap, subst, ◌∙◌, inl, inr, arith}
 use Rattle.std.specs.List.{AllByRecursion, list_any}
 use Rattle.std.specs.Option.{option_map, option_map_or}
 use Rattle.arc_lists.proofs.Tables.{cases_true}
@@ -25,6 +25,7 @@ use Rattle.dbuf_state.specs.declared.state.Mapping.{Mapping}
 use Rattle.dbuf_state.proofs.CellLemmas.{oid_eq-sym}
 use Rattle.dbuf_state.proofs.Changes.{view-found}
 use Rattle.dbuf_state.proofs.OutlineLemmas.{cell-is-in-outline, outline-follows, outline-is-told}
+use Rattle.dbuf_cells.specs.Laws.{is_put_of}
 use Rattle.dbuf_cells.specs.declared.kept.Kept.{Kept}
 use Rattle.txg_sync.specs.Items.{dirty_bytes_at, written_in}
 use Rattle.trace_run.specs.InPlace.{opened_ptr}
@@ -121,6 +122,47 @@ pub dirty-within : (c : CellLog Kept) → IsSound c → (at : Oid) (most : ℕ) 
 dirty-within c sound at most begins puts =
     let first : IsWithin most (mapped_at at (outline_of (opening_cell c.limit c.opening))) = subst (IsWithin most) (sym (mapped-told at c.limit c.opening [])) (opened-within most (opened_ptr at c.opening) begins) in
     let last = leads-within at most (opening_cell c.limit c.opening) c.history sound.bases (plain_cell sound.evicting c) sound.history.legal puts first in
+    found-within most (dbuf_at at c.dbufs) (subst (IsWithin most) (sym (cell-is-in-outline sound.evicting c at).mapped) last)
+
+-- ---- behind a whole write
+
+-- a whole write gives the block its size, whatever it had before
+put-within : (at : Oid) (most : ℕ) (m : Option Mapped) (e : CellEvent) → is_put_of at e ≡ true → IsPutWithin at most e → IsWithin most (mapped_then at m e)
+put-within at most m (Put n b size fill) is put = rw is (put is)
+put-within at most m (Get n b) is put = absurd (let clash : false ≡ true = is in cc)
+put-within at most m (Patch n b from bytes) is put = absurd (let clash : false ≡ true = is in cc)
+put-within at most m (Pin n b) is put = absurd (let clash : false ≡ true = is in cc)
+put-within at most m (Unpin n b) is put = absurd (let clash : false ≡ true = is in cc)
+put-within at most m (Load n b) is put = absurd (let clash : false ≡ true = is in cc)
+put-within at most m (Evict n b) is put = absurd (let clash : false ≡ true = is in cc)
+put-within at most m (Synced n b ptr) is put = absurd (let clash : false ≡ true = is in cc)
+put-within at most m (End n) is put = absurd (let clash : false ≡ true = is in cc)
+
+leads-put : (at : Oid) (most : ℕ) (c : PlainCell) (es : List CellEvent) (bases : List (List ℕ)) (end : PlainCell) → Leads c es bases end → AllByRecursion (IsPutWithin at most) es → list_any (is_put_of at) es ≡ true
+    → IsWithin most (mapped_at at (outline_of end))
+leads-put at most c [] bases end leads puts has = absurd (let clash : false ≡ true = has in cc)
+leads-put at most c (e ∷ es) bases end leads puts has =
+    let base = leads.1.0 in
+    let same : mapped_at at (outline_of (plain.after base c e)) ≡ mapped_then at (mapped_at at (outline_of c)) e
+    = ap (mapped_at at) (outline-follows c e base leads.0 leads.1.3) ∙ mapped-all at (outline_of c) (e ∷ []) in
+    elim (cases_true (is_put_of at e)) [
+      | inl here ↦ leads-within at most (plain.after base c e) es leads.1.1 end leads.1.4 puts.1 (subst (IsWithin most) (sym same) (put-within at most (mapped_at at (outline_of c)) e here puts.0))
+      | inr other ↦ leads-put at most (plain.after base c e) es leads.1.1 end leads.1.4 puts.1 (rw other at has)
+    ]
+
+leads-since : (at : Oid) (most : ℕ) (c : PlainCell) (front es : List CellEvent) (bases : List (List ℕ)) (end : PlainCell) → Leads c (front ++ es) bases end → AllByRecursion (IsPutWithin at most) es
+    → list_any (is_put_of at) es ≡ true → IsWithin most (mapped_at at (outline_of end))
+leads-since at most c [] es bases end leads puts has = leads-put at most c es bases end leads puts has
+leads-since at most c (e ∷ front) es bases end leads puts has = leads-since at most (plain.after leads.1.0 c e) front es leads.1.1 end leads.1.4 puts has
+
+-- so many bytes at most are those of a block that was written whole behind a front of the history, where the whole writes behind that have at most so many
+pub since-within : (c : CellLog Kept) → IsSound c → (at : Oid) (most : ℕ) (front since : List CellEvent) → c.history ≡ front ++ since → AllByRecursion (IsPutWithin at most) since → list_any (is_put_of at) since ≡ true
+    → length (dirty_bytes_at at c.dbufs) ≤ most
+since-within c sound at most front since split puts has =
+    let start : PlainCell = opening_cell c.limit c.opening in
+    let end : PlainCell = plain_cell sound.evicting c in
+    let legal : Leads start (front ++ since) sound.bases end = subst (λ (es : List CellEvent). Leads start es sound.bases end) split sound.history.legal in
+    let last = leads-since at most start front since sound.bases end legal puts has in
     found-within most (dbuf_at at c.dbufs) (subst (IsWithin most) (sym (cell-is-in-outline sound.evicting c at).mapped) last)
 
 -- ---- none stands twice

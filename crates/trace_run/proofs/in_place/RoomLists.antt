@@ -15,8 +15,9 @@ use Rattle.txg_sync.proofs.Gathering.{oid-same}
 use Rattle.trace_text.specs.Grammar.{AreApart, IsMapped}
 use Rattle.trace_text.specs.declared.mapping.Mapping.{Mapping as ObjectLine}
 use Rattle.trace_text.specs.declared.op.Op.{Op}
+use Rattle.trace_text.specs.declared.op.Op.TheVariants as ops
 use Rattle.trace_text.specs.declared.trace.Trace.{Trace}
-use Rattle.trace_run.specs.InPlace.{begins_with, block_written, blocks_written, greatest_put, greatest_size, opened_ptr, size_put, with_block}
+use Rattle.trace_run.specs.InPlace.{begins_with, block_written, blocks_written, greatest_put, greatest_size, is_put_to, opened_ptr, size_put, with_block}
 use Rattle.trace_run.specs.Openings.{mappings_in, opening_map}
 use Rattle.trace_run.specs.dbufs.CellEnds.{done_by}
 use Rattle.trace_run.proofs.in_place.DirtySizes.{mapping_oid}
@@ -123,11 +124,11 @@ first-within None b = tt
 first-within (Some ptr) b = max-left ptr.key.size b
 
 -- the pointer with which a block begins has at most its greatest size
-pub opening-within : (trace : Trace) (i : ℕ) (at : Oid) → IfSome (opened_ptr at (opening_map trace i)) (λ ptr. ptr.key.size ≤ greatest_size trace at)
-opening-within trace i at = elim (cases_true (cell_of trace.config.cells at == i)) [
-  | inl its ↦ subst (λ (j : ℕ). IfSome (opened_ptr at (opening_map trace j)) (λ ptr. ptr.key.size ≤ greatest_size trace at)) (eqb-true (cell_of trace.config.cells at) i its)
-      (first-within (begins_with trace at) (greatest_put at trace.ops))
-  | inr far ↦ subst (λ (o : Option Ptr). IfSome o (λ ptr. ptr.key.size ≤ greatest_size trace at)) (sym (opened-else trace.config.cells i trace.blocks at trace.objects far)) tt
+pub opening-within : (trace : Trace) (os : List Op) (i : ℕ) (at : Oid) → IfSome (opened_ptr at (opening_map trace i)) (λ ptr. ptr.key.size ≤ greatest_size trace os at)
+opening-within trace os i at = elim (cases_true (cell_of trace.config.cells at == i)) [
+  | inl its ↦ subst (λ (j : ℕ). IfSome (opened_ptr at (opening_map trace j)) (λ ptr. ptr.key.size ≤ greatest_size trace os at)) (eqb-true (cell_of trace.config.cells at) i its)
+      (first-within (begins_with trace at) (greatest_put at os))
+  | inr far ↦ subst (λ (o : Option Ptr). IfSome o (λ ptr. ptr.key.size ≤ greatest_size trace os at)) (sym (opened-else trace.config.cells i trace.blocks at trace.objects far)) tt
 ]
 
 -- ---- what lines write
@@ -135,18 +136,72 @@ opening-within trace i at = elim (cases_true (cell_of trace.config.cells at == i
 some-op : (a b : Op) → ◌≡◌ {A = Option Op} (Some a) (Some b) → a ≡ b
 some-op a b is = cc
 
-greatest-has : (at : Oid) (os : List Op) (k : ℕ) (op : Op) → slice_get os k ≡ Some op → size_put at op ≤ greatest_put at os
+-- a line gives a block at most the greatest that these lines give it
+pub greatest-has : (at : Oid) (os : List Op) (k : ℕ) (op : Op) → slice_get os k ≡ Some op → size_put at op ≤ greatest_put at os
 greatest-has at [] k op there = absurd (let clash : ◌≡◌ {A = Option Op} None (Some op) = there in cc)
 greatest-has at (o ∷ os) zero op there =
     subst (λ (x : Op). size_put at x ≤ greatest_put at (o ∷ os)) (some-op o op there) (max-left (size_put at o) (greatest_put at os))
 greatest-has at (o ∷ os) (suc k) op there = let a = greatest-has at os k op there in let b = max-right (size_put at o) (greatest_put at os) in omega arith
 
--- a line gives a block at most its greatest size
-pub put-within : (trace : Trace) (at : Oid) (k : ℕ) (op : Op) → slice_get trace.ops k ≡ Some op → size_put at op ≤ greatest_size trace at
-put-within trace at k op there =
-    let a = greatest-has at trace.ops k op there in
-    let b = max-right (option_map_or (λ (ptr : Ptr). ptr.key.size) (begins_with trace at) 0) (greatest_put at trace.ops) in
-    omega arith
+max-both : (a b c : ℕ) → max a (max b c) ≡ max (max a b) c
+max-both a b c = omega arith
+
+max-before : (a b c : ℕ) → max a b ≤ max a (max b c)
+max-before a b c = omega arith
+
+max-since : (a b c : ℕ) → c ≤ max a (max b c)
+max-since a b c = omega arith
+
+max-none : (a b : ℕ) → max a (max b 0) ≤ max a b
+max-none a b = omega arith
+
+max-zero : (a b : ℕ) → a ≡ 0 → b ≡ 0 → max a b ≡ 0
+max-zero a b x y = omega (arith, x, y)
+
+max-first : (a : ℕ) → a ≡ max 0 a
+max-first a = omega arith
+
+greatest-both : (at : Oid) (xs ys : List Op) → greatest_put at (xs ++ ys) ≡ max (greatest_put at xs) (greatest_put at ys)
+greatest-both at [] ys = max-first (greatest_put at ys)
+greatest-both at (o ∷ xs) ys = ap (λ (n : ℕ). max (size_put at o) n) (greatest-both at xs ys) ∙ max-both (size_put at o) (greatest_put at xs) (greatest_put at ys)
+
+abbrev first_size : Trace → Oid → ℕ
+first_size trace at = option_map_or (λ (ptr : Ptr). ptr.key.size) (begins_with trace at) 0
+
+-- more lines give it no less
+pub greatest-before : (trace : Trace) (xs ys : List Op) (at : Oid) → greatest_size trace xs at ≤ greatest_size trace (xs ++ ys) at
+greatest-before trace xs ys at =
+    subst (λ (n : ℕ). greatest_size trace xs at ≤ max (first_size trace at) n) (sym (greatest-both at xs ys)) (max-before (first_size trace at) (greatest_put at xs) (greatest_put at ys))
+
+pub greatest-since : (trace : Trace) (xs ys : List Op) (at : Oid) → greatest_put at ys ≤ greatest_size trace (xs ++ ys) at
+greatest-since trace xs ys at =
+    subst (λ (n : ℕ). greatest_put at ys ≤ max (first_size trace at) n) (sym (greatest-both at xs ys)) (max-since (first_size trace at) (greatest_put at xs) (greatest_put at ys))
+
+unput-size : (at : Oid) (op : Op) → is_put_to at op ≡ false → size_put at op ≡ 0
+unput-size at (ops.Put n t b size fill) un = rw un refl
+unput-size at (ops.Patch n t b from bytes) un = refl
+unput-size at (ops.Read n t x window) un = refl
+unput-size at (ops.Hold n t x) un = refl
+unput-size at (ops.Drop n x) un = refl
+unput-size at (ops.Get n t b window) un = refl
+unput-size at (ops.Pin n t b) un = refl
+unput-size at (ops.Unpin n b) un = refl
+unput-size at ops.Feed un = refl
+unput-size at (ops.Txg t) un = refl
+unput-size at (ops.Cap c) un = refl
+
+unput-greatest : (at : Oid) (os : List Op) → list_any (is_put_to at) os ≡ false → greatest_put at os ≡ 0
+unput-greatest at [] un = refl
+unput-greatest at (o ∷ os) un = elim (cases_true (is_put_to at o)) [
+  | inl here ↦ absurd (let clash : true ≡ false = rw here at un in cc)
+  | inr other ↦ max-zero (size_put at o) (greatest_put at os) (unput-size at o other) (unput-greatest at os (rw other at un))
+]
+
+-- nor do lines that don't write it whole give it more
+pub greatest-unput : (trace : Trace) (xs ys : List Op) (at : Oid) → list_any (is_put_to at) ys ≡ false → greatest_size trace (xs ++ ys) at ≤ greatest_size trace xs at
+greatest-unput trace xs ys at un =
+    let both : greatest_put at (xs ++ ys) ≡ max (greatest_put at xs) 0 = greatest-both at xs ys ∙ ap (λ (n : ℕ). max (greatest_put at xs) n) (unput-greatest at ys un) in
+    subst (λ (n : ℕ). max (first_size trace at) n ≤ greatest_size trace xs at) (sym both) (max-none (first_size trace at) (greatest_put at xs))
 
 with-first : (at : Oid) (ats : List Oid) → list_any (oid_eq at) (with_block (Some at) ats) ≡ true
 with-first at ats = elim (cases_true (list_any (oid_eq at) ats)) [

@@ -1,5 +1,5 @@
--- What lines note of a cell: each write there is of a block of the cell that one of the lines writes, and a whole write gives it a size that a line of the trace says.
-use Rattle.std.proofs.Common.{◌≡◌, ◌≤◌, ◌==◌, ℕ, zero, suc, if◌then◌else◌, Bool, true, false, List, [], ◌∷◌, ◌++◌, map, Option, Some, None, refl, sym, subst, inl, inr}
+-- What lines note of a cell: each write there is of a block of the cell that one of the lines writes, and a whole write gives it at most what one of them says.
+use Rattle.std.proofs.Common.{◌≡◌, ◌≤◌, ◌==◌, ℕ, zero, suc, if◌then◌else◌, Bool, true, false, List, [], ◌∷◌, ◌++◌, map, Option, Some, None, refl, sym, subst, inl, inr, arith}
 use Rattle.std.specs.Prelude.{slice_get}
 use Rattle.std.specs.List.{AllByRecursion, list_any}
 use Rattle.std.proofs.lemmas.Bool.{eqb-true}
@@ -17,7 +17,7 @@ use Rattle.trace_text.specs.declared.reply.Reply.{Reply}
 use Rattle.trace_text.specs.declared.reply.Reply.TheVariants as replies
 use Rattle.trace_text.specs.declared.trace.Trace.{Trace}
 use Rattle.trace_run.specs.Deeds.{Noted, events_of_cell, noted_in}
-use Rattle.trace_run.specs.InPlace.{block_written, blocks_written, greatest_size, size_put}
+use Rattle.trace_run.specs.InPlace.{block_written, blocks_written, greatest_put, size_put}
 use Rattle.trace_run.specs.Lines.{caller_of}
 use Rattle.trace_run.specs.RunWork.{AllFit, FitsBy, FitsFeeder, IsSyncedNote}
 use Rattle.trace_run.specs.callers.WorkLines.{IsWorkOf, NotesLine, noted_of_work}
@@ -26,7 +26,7 @@ use Rattle.trace_run.proofs.one_caller.TellLemmas.{all-append}
 use Rattle.trace_run.proofs.in_place.DirtyBlocks.{is_write_of}
 use Rattle.trace_run.proofs.in_place.DirtySizes.{IsPutWithin}
 use Rattle.trace_run.proofs.in_place.Mapped.{oid-is}
-use Rattle.trace_run.proofs.in_place.RoomLists.{put-within, written-among}
+use Rattle.trace_run.proofs.in_place.RoomLists.{greatest-has, written-among}
 
 -- ---- lists
 
@@ -38,45 +38,48 @@ pub all-each : {X : Type 0} (P Q : X → Type 0) (xs : List X) → ((x : X) → 
 all-each P Q [] f all = tt
 all-each P Q (x ∷ xs) f all = (f x all.0, all-each P Q xs f all.1)
 
-pub all-both : {X : Type 0} (P Q : X → Type 0) (xs : List X) → AllByRecursion P xs → AllByRecursion Q xs → AllByRecursion (λ x. P x × Q x) xs
-all-both P Q [] a b = tt
-all-both P Q (x ∷ xs) a b = ((a.0, b.0), all-both P Q xs a.1 b.1)
-
 -- ---- sizes
 
--- a whole write gives the block a size of the trace's
-abbrev pub IsSized : Trace → CellEvent → Type 0
-IsSized trace (events.Put n b size fill) = size ≤ greatest_size trace b
-IsSized trace (events.Get n b) = Unit {0}
-IsSized trace (events.Patch n b from bytes) = Unit {0}
-IsSized trace (events.Pin n b) = Unit {0}
-IsSized trace (events.Unpin n b) = Unit {0}
-IsSized trace (events.Load n b) = Unit {0}
-IsSized trace (events.Evict n b) = Unit {0}
-IsSized trace (events.Synced n b ptr) = Unit {0}
-IsSized trace (events.End n) = Unit {0}
+-- a whole write gives the block at most so many bytes
+abbrev pub IsSized : (size : Oid → ℕ) → CellEvent → Type 0
+IsSized size (events.Put n b most fill) = most ≤ size b
+IsSized size (events.Get n b) = Unit {0}
+IsSized size (events.Patch n b from bytes) = Unit {0}
+IsSized size (events.Pin n b) = Unit {0}
+IsSized size (events.Unpin n b) = Unit {0}
+IsSized size (events.Load n b) = Unit {0}
+IsSized size (events.Evict n b) = Unit {0}
+IsSized size (events.Synced n b ptr) = Unit {0}
+IsSized size (events.End n) = Unit {0}
 
--- so does a line
-abbrev pub IsSizedLine : Trace → Line → Type 0
-IsSizedLine trace l = (at : Oid) → size_put at l.op ≤ greatest_size trace at
+event-within : (size : Oid → ℕ) (at : Oid) (e : CellEvent) → IsSized size e → IsPutWithin at (size at) e
+event-within size at (events.Put n b most fill) sized = λ same. subst (λ (x : Oid). most ≤ size x) (sym (oid-is at b same)) sized
+event-within size at (events.Get n b) sized = tt
+event-within size at (events.Patch n b from bytes) sized = tt
+event-within size at (events.Pin n b) sized = tt
+event-within size at (events.Unpin n b) sized = tt
+event-within size at (events.Load n b) sized = tt
+event-within size at (events.Evict n b) sized = tt
+event-within size at (events.Synced n b ptr) sized = tt
+event-within size at (events.End n) sized = tt
 
--- a line of the trace does
-pub line-sized : (trace : Trace) (k : ℕ) (l : Line) → slice_get trace.ops k ≡ Some l.op → IsSizedLine trace l
-line-sized trace k l there at = put-within trace at k l.op there
+pub puts-within : (size : Oid → ℕ) (at : Oid) (h : List CellEvent) → AllByRecursion (IsSized size) h → AllByRecursion (IsPutWithin at (size at)) h
+puts-within size at h all = all-each (IsSized size) (IsPutWithin at (size at)) h (event-within size at) all
 
-event-within : (trace : Trace) (at : Oid) (e : CellEvent) → IsSized trace e → IsPutWithin at (greatest_size trace at) e
-event-within trace at (events.Put n b size fill) sized = λ same. subst (λ (x : Oid). size ≤ greatest_size trace x) (sym (oid-is at b same)) sized
-event-within trace at (events.Get n b) sized = tt
-event-within trace at (events.Patch n b from bytes) sized = tt
-event-within trace at (events.Pin n b) sized = tt
-event-within trace at (events.Unpin n b) sized = tt
-event-within trace at (events.Load n b) sized = tt
-event-within trace at (events.Evict n b) sized = tt
-event-within trace at (events.Synced n b ptr) sized = tt
-event-within trace at (events.End n) sized = tt
+module _ (few more : Oid → ℕ) (le : (at : Oid) → few at ≤ more at) where
+  event-more : (e : CellEvent) → IsSized few e → IsSized more e
+  event-more (events.Put n b most fill) sized = let a : most ≤ few b = sized in let c : few b ≤ more b = le b in let e : most ≤ more b = omega (arith, a, c) in e
+  event-more (events.Get n b) sized = tt
+  event-more (events.Patch n b from bytes) sized = tt
+  event-more (events.Pin n b) sized = tt
+  event-more (events.Unpin n b) sized = tt
+  event-more (events.Load n b) sized = tt
+  event-more (events.Evict n b) sized = tt
+  event-more (events.Synced n b ptr) sized = tt
+  event-more (events.End n) sized = tt
 
-pub puts-within : (trace : Trace) (at : Oid) (h : List CellEvent) → AllByRecursion (IsSized trace) h → AllByRecursion (IsPutWithin at (greatest_size trace at)) h
-puts-within trace at h all = all-each (IsSized trace) (IsPutWithin at (greatest_size trace at)) h (event-within trace at) all
+  pub sized-more : (h : List CellEvent) → AllByRecursion (IsSized few) h → AllByRecursion (IsSized more) h
+  sized-more h all = all-each (IsSized few) (IsSized more) h event-more all
 
 -- ---- writes
 
@@ -90,7 +93,7 @@ module _ (trace : Trace) (os : List Op) where
 
   -- a write of the cell i is such
   abbrev pub IsWriteOf : (i : ℕ) → CellEvent → Type 0
-  IsWriteOf i (events.Put n b size fill) = IsOwnHere i b × (size ≤ greatest_size trace b)
+  IsWriteOf i (events.Put n b size fill) = IsOwnHere i b × (size ≤ greatest_put b os)
   IsWriteOf i (events.Patch n b from bytes) = IsOwnHere i b
   IsWriteOf i (events.Get n b) = Unit {0}
   IsWriteOf i (events.Pin n b) = Unit {0}
@@ -100,7 +103,7 @@ module _ (trace : Trace) (os : List Op) where
   IsWriteOf i (events.Synced n b ptr) = Unit {0}
   IsWriteOf i (events.End n) = Unit {0}
 
-  write-sized : (i : ℕ) (e : CellEvent) → IsWriteOf i e → IsSized trace e
+  write-sized : (i : ℕ) (e : CellEvent) → IsWriteOf i e → IsSized (λ at. greatest_put at os) e
   write-sized i (events.Put n b size fill) w = w.1
   write-sized i (events.Patch n b from bytes) w = tt
   write-sized i (events.Get n b) w = tt
@@ -111,8 +114,8 @@ module _ (trace : Trace) (os : List Op) where
   write-sized i (events.Synced n b ptr) w = tt
   write-sized i (events.End n) w = tt
 
-  pub writes-sized : (i : ℕ) (h : List CellEvent) → AllByRecursion (IsWriteOf i) h → AllByRecursion (IsSized trace) h
-  writes-sized i h all = all-each (IsWriteOf i) (IsSized trace) h (write-sized i) all
+  pub writes-sized : (i : ℕ) (h : List CellEvent) → AllByRecursion (IsWriteOf i) h → AllByRecursion (IsSized (λ at. greatest_put at os)) h
+  writes-sized i h all = all-each (IsWriteOf i) (IsSized (λ at. greatest_put at os)) h (write-sized i) all
 
   named : (i : ℕ) (at b : Oid) → oid_eq at b ≡ true → IsOwnHere i b → IsOwnHere i at
   named i at b same own = subst (IsOwnHere i) (sym (oid-is at b same)) own
@@ -190,12 +193,12 @@ module _ (trace : Trace) (os : List Op) where
   none-all : (work : Work) → work ≡ no_work → AllByRecursion OfNote work.noted
   none-all work none = subst (λ (w : Work). AllByRecursion OfNote w.noted) (sym none) tt
 
-  -- what it writes is among what these lines write, and has a size of the trace's
+  -- what it writes is among what these lines write, and has at most the greatest size that they give it
   abbrev pub IsAmong : Op → Type 0
-  IsAmong op = ((at : Oid) → block_written op ≡ Some at → list_any (oid_eq at) (blocks_written os) ≡ true) × ((at : Oid) → size_put at op ≤ greatest_size trace at)
+  IsAmong op = ((at : Oid) → block_written op ≡ Some at → list_any (oid_eq at) (blocks_written os) ≡ true) × ((at : Oid) → size_put at op ≤ greatest_put at os)
 
   put-all : (m t : ℕ) (at : Oid) (size fill : ℕ) → IsAmong (ops.Put m t at size fill) → IsWriteOf (cell_of g.cells at) (events.Put m at size fill)
-  put-all m t at size fill among = ((refl, among.0 at refl), subst (λ (b : Bool). (if b then size else 0) ≤ greatest_size trace at) (oid-same at) (among.1 at))
+  put-all m t at size fill among = ((refl, among.0 at refl), subst (λ (b : Bool). (if b then size else 0) ≤ greatest_put at os) (oid-same at) (among.1 at))
 
   caller-all : (n : ℕ) (op : Op) (reply : Reply) (work : Work) → IsAmong op → IsWorkOf g n (record { op = op; reply = reply; work = work }) → AllByRecursion OfNote work.noted
   caller-all n (ops.Get m t at w) reply work among f = reply-all n (record { at = at; event = events.Get m at }) work reply tt f.notes
@@ -245,7 +248,6 @@ op-there [] k l at = absurd (let clash : ◌≡◌ {A = Option Line} None (Some 
 op-there (x ∷ ls) zero l at = let same : x ≡ l = cc in (λ i. Some (same i).op)
 op-there (x ∷ ls) (suc k) l at = op-there ls k l at
 
-pub all-among : (trace : Trace) (ls : List Line) → AllByRecursion (IsSizedLine trace) ls → AllByRecursion (λ l. IsAmong trace (ops_of ls) l.op) ls
-all-among trace ls sized = all-each (λ l. ((at : Oid) → block_written l.op ≡ Some at → list_any (oid_eq at) (blocks_written (ops_of ls)) ≡ true) × IsSizedLine trace l) (λ l. IsAmong trace (ops_of ls) l.op) ls (λ l both. both)
-    (all-both (λ l. (at : Oid) → block_written l.op ≡ Some at → list_any (oid_eq at) (blocks_written (ops_of ls)) ≡ true) (IsSizedLine trace) ls
-    (all-of _ ls (λ k l there at writes. written-among at (ops_of ls) k l.op (op-there ls k l there) writes)) sized)
+pub all-among : (trace : Trace) (ls : List Line) → AllByRecursion (λ l. IsAmong trace (ops_of ls) l.op) ls
+all-among trace ls = all-of (λ l. IsAmong trace (ops_of ls) l.op) ls
+    (λ k l there. ((λ at writes. written-among at (ops_of ls) k l.op (op-there ls k l there) writes), (λ at. greatest-has at (ops_of ls) k l.op (op-there ls k l there))))

@@ -376,7 +376,7 @@ pub run-fine : {P D : Type 0} (pool : Ghosts P) → ((p : P) (bytes : List ℕ) 
     → (report.status ≡ 0) × (length report.replies ≡ length trace.ops)
 run-fine pool told_len device before after lent back trace ending closed report image r some below apart tells in_place low still =
     let told = none-told (pool.faults before) (pool.faults after) (faults_told ending report.replies) (r.run.faults low) still low in
-    let roomy : (need left : ℕ) → ending ≡ Full need left → ⊥ = λ need left is. never-full pool device before after lent back trace need left closed report image (subst (λ (e : Ending). HasRun pool device before after lent back trace e closed report) is r) some apart in_place in
+    let roomy : (need left : ℕ) → ending ≡ Full need left → ⊥ = λ need left is. never-full pool device before after lent back trace need left closed report image (subst (λ (e : Ending). HasRun pool device before after lent back trace e closed report) is r) some below apart in_place in
     let whole = whole-ending report.replies ending told roomy in
     let run = subst (λ (e : Ending). HasRun pool device before after lent back trace e closed report) whole r in
     let none : faults_told Whole report.replies ≡ 0 = ap (λ (e : Ending). faults_told e report.replies) (sym whole) ∙ told in

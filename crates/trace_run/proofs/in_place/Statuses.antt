@@ -59,22 +59,22 @@ module _ (len : ℕ) (image : List ℕ) (trace : Trace) (size : ℕ) where
   bounded-line k (ops.Txg t) own = tt
   bounded-line k (ops.Cap c) own = tt
 
-  bounded-room : (place : ℕ) (since left : List Op) → HaveRoom trace len place since left → HaveRoom (with_bound trace size) len place since left
-  bounded-room place since [] room = tt
-  bounded-room place since (ops.Txg t ∷ left) room = (room.0, bounded-room (place + room_for trace since) [] left room.1)
-  bounded-room place since (ops.Read n t x window ∷ left) room = bounded-room place since left room
-  bounded-room place since (ops.Hold n t x ∷ left) room = bounded-room place since left room
-  bounded-room place since (ops.Drop n x ∷ left) room = bounded-room place since left room
-  bounded-room place since (ops.Get n t at window ∷ left) room = bounded-room place since left room
-  bounded-room place since (ops.Put n t at most fill ∷ left) room = bounded-room place (since ++ ops.Put n t at most fill ∷ []) left room
-  bounded-room place since (ops.Patch n t at from bytes ∷ left) room = bounded-room place (since ++ ops.Patch n t at from bytes ∷ []) left room
-  bounded-room place since (ops.Pin n t at ∷ left) room = bounded-room place since left room
-  bounded-room place since (ops.Unpin n at ∷ left) room = bounded-room place since left room
-  bounded-room place since (ops.Feed ∷ left) room = bounded-room place since left room
-  bounded-room place since (ops.Cap c ∷ left) room = bounded-room place since left room
+  bounded-room : (place : ℕ) (before since left : List Op) → HaveRoom trace len place before since left → HaveRoom (with_bound trace size) len place before since left
+  bounded-room place before since [] room = tt
+  bounded-room place before since (ops.Txg t ∷ left) room = (room.0, bounded-room (place + room_for trace before since) (before ++ since) [] left room.1)
+  bounded-room place before since (ops.Read n t x window ∷ left) room = bounded-room place before (since ++ ops.Read n t x window ∷ []) left room
+  bounded-room place before since (ops.Hold n t x ∷ left) room = bounded-room place before (since ++ ops.Hold n t x ∷ []) left room
+  bounded-room place before since (ops.Drop n x ∷ left) room = bounded-room place before (since ++ ops.Drop n x ∷ []) left room
+  bounded-room place before since (ops.Get n t at window ∷ left) room = bounded-room place before (since ++ ops.Get n t at window ∷ []) left room
+  bounded-room place before since (ops.Put n t at most fill ∷ left) room = bounded-room place before (since ++ ops.Put n t at most fill ∷ []) left room
+  bounded-room place before since (ops.Patch n t at from bytes ∷ left) room = bounded-room place before (since ++ ops.Patch n t at from bytes ∷ []) left room
+  bounded-room place before since (ops.Pin n t at ∷ left) room = bounded-room place before (since ++ ops.Pin n t at ∷ []) left room
+  bounded-room place before since (ops.Unpin n at ∷ left) room = bounded-room place before (since ++ ops.Unpin n at ∷ []) left room
+  bounded-room place before since (ops.Feed ∷ left) room = bounded-room place before (since ++ ops.Feed ∷ []) left room
+  bounded-room place before since (ops.Cap c ∷ left) room = bounded-room place before (since ++ ops.Cap c ∷ []) left room
 
   bounded-place : IsInPlace len image trace → IsInPlace len image (with_bound trace size)
-  bounded-place p = record { lines = λ k op at. bounded-line k op (p.lines k op at); room = λ place first. bounded-room place [] trace.ops (p.room place first) }
+  bounded-place p = record { lines = λ k op at. bounded-line k op (p.lines k op at); room = λ place first. bounded-room place [] [] trace.ops (p.room place first) }
 
 module _ {P D : Type 0} (pool : Ghosts P) (told_len : (p : P) (bytes : List ℕ) → pool.told p ≡ Some bytes → length bytes ≡ pool.size p) (device : Devices D) (events : Bool) (before after : Handed P D) (text : List ℕ) (trace : Trace) (image : List ℕ)
     (tells : before.source.told ≡ Some text) (is : IsTraceText text trace) (told : pool.told before.pool ≡ Some image) (in_place : IsInPlace (pool.size before.pool) image trace) (none : NoneRose pool before after) where
