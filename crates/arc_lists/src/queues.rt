@@ -167,7 +167,7 @@ impl Queues {
         };
     }
 
-    /// The key in front of this one, where it is the last of one of the sequences. None exactly where it is the last of none.
+    /// The key in front of this one, where it is the last of one of the sequences. None only where it is the last of none.
     pub fn ahead_of_last(&self, key: Key) -> Option<Option<Key>>
         requires { AreNodesApart self.now }
         ensures some { IfSome result (λ ahead. (s : State) × IsAheadIn key (nodes_of s self.now) ahead) }
