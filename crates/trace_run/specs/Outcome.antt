@@ -100,7 +100,7 @@ pub record IsRun {P D : Type 0} (pool : Ghosts P) (device : Devices D) (before a
   -- syncs write from this place on
   pub place : ℕ
   pub first : IsFirstPlace (pool.size before) trace.blocks place
-  -- what the pool told as the group of each line began, by the lines' places; up to that place it is what it told at first
+  -- what the pool told as the group of each line began, by the lines' places; up to that place it is what it told at first. What one caller's line found, `in_turn` says.
   pub told : (k : ℕ) → Option (List ℕ)
   pub told_front : (k : ℕ) → HasFront place (pool.told before) (told k)
   -- a line on an object is answered by its cell, over that
@@ -142,7 +142,7 @@ TellsEnding statuses.NoMemory ending = Unit {0}
 TellsEnding (statuses.Illegal shard index) ending = Unit {0}
 
 -- The report is that of a run of the trace that the source gave. The trace's bound of one feed is at most half of
--- the device's ring. What is reported of the device is what its start found; callers had forks of it, and it is handed back.
+-- the device's ring. What is reported of the device is what its start found; callers read it, several of them by forks, and it is handed back.
 pub record IsReport {P D : Type 0} (pool : Ghosts P) (device : Devices D) (before after : Handed P D) (answer : Status) (closed : Ended OnHeap) (report : Report) : Type 0 where
   pub trace : Trace
   pub read : WasRead before.source after.source trace
@@ -183,7 +183,7 @@ pub record IsGenReport (seed blocks ops : ℕ) (closed : Ended OnHeap) (report :
   pub cells : AreCellsOf (generated seed blocks ops) (only_ended (generated_sizes blocks)) closed
   pub status : report.status ≡ 0
 
--- the report is there exactly where the trace was run
+-- the report is there exactly where a run of the trace came to its end
 abbrev pub has_report : Status → Bool
 has_report statuses.Ok = true
 has_report statuses.ReadsFailed = true
@@ -196,7 +196,7 @@ has_report (statuses.PoolFull need left) = true
 has_report statuses.NoMemory = false
 has_report (statuses.Illegal shard index) = false
 
--- at these statuses nothing was run
+-- a trace may have been run: at the other statuses nothing was
 abbrev pub ran : Status → Bool
 ran (statuses.Usage index) = false
 ran (statuses.BadTrace line kind) = false

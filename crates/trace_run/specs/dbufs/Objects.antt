@@ -24,7 +24,7 @@ use Rattle.trace_run.specs.Deeds.{Noted, noted_in}
 
 -- the block that was brought for a line, so that a dbuf has its bytes
 pub data Brought : Type 0 where
-  -- none: the bytes were there, or the line asks for none
+  -- none: the bytes were there, the line asks for none, or it was refused before they were asked for
   Nothing : Brought
   -- this one, from here
   Loaded : Ptr → Served → Brought
