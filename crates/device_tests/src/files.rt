@@ -29,7 +29,7 @@ fn pool_in_a_file(rt: &HostRuntime, name: &str) -> Option<[bool; 4]> {
     let mut pool = FilePool::open(rt.alloc(), rt, name).ok()?;
     let whole = put_last(&mut pool) && last_four(&mut pool) == Some(*b"last");
     let mut fork = pool.fork(rt.alloc()).ok()?;
-    let forked = last_four(&mut fork) == Some(*b"last");
+    let forked = last_four(&mut fork) == Some(*b"last") && !put_last(&mut fork);
     let cut = set_len(rt, name, 256).is_ok() && last_four(&mut pool).is_none();
     let gone = fs::remove_file(rt, name).is_ok() && pool.fork(rt.alloc()).is_err();
     Some([whole, forked, cut, gone])
@@ -60,7 +60,7 @@ fn device_in_a_file(rt: &HostRuntime, name: &str) -> Option<[bool; 4]> {
     let mut dev = FileCache::open(rt.alloc(), rt, name).ok()?;
     let whole = put_second(&mut dev) && has_second(&mut dev);
     let mut fork = dev.fork(rt.alloc()).ok()?;
-    let forked = has_second(&mut fork);
+    let forked = has_second(&mut fork) && !put_second(&mut fork);
     let cut = set_len(rt, name, 600).is_ok() && !has_second(&mut dev);
     let gone = fs::remove_file(rt, name).is_ok() && dev.fork(rt.alloc()).is_err();
     Some([whole, forked, cut, gone])

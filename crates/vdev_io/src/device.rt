@@ -83,7 +83,8 @@ pub trait CacheDev: Sized + Send + Drop {
         ensures cause { HasCause (faults self.old) (faults self.new) result }
         ensures fault { CountsFault (faults self.old) (faults self.new) result };
 
-    /// Another handle on the device for a reader of its own: of the same length, and both its counts are 0. It tells nothing.
+    /// Another handle on the device for a reader of its own: of the same length, and both its counts are 0. It tells nothing. A write
+    /// through it fails, or what it writes is its own: the device keeps its image.
     /// To make it counts as one fault after [`IoFault::Failed`], and else as none.
     fn fork(&mut self, alloc: Global) -> Result<Self, IoFault>
         ensures fork { IfOk result (λ fork. (size fork ≡ size self.old) × (told fork ≡ None) × (faults fork ≡ 0) × (reads fork ≡ 0)) }

@@ -20,7 +20,7 @@ pub const LONGEST_CACHE: u64 = 1 << 32;
 ///
 /// Its length is the one that it had when it was opened: where the file has shrunk since, a read behind its end fails, and
 /// what it has grown by isn't seen. A read or a write that the system does in parts is gone on with, and one that a signal
-/// interrupts is made again.
+/// interrupts is made again. A fork has the file open to be read alone, so no write through one comes to the device.
 #[derive(Drop)]
 pub struct FileCache<'a, R: Files> {
     rt: &'a R,
@@ -121,9 +121,7 @@ where
         ensures fault { CountsIoFault self.old.faults.count self.new.faults.count result }
     {
         let name = String::from_str(alloc, self.name.as_str())?;
-        let file = self
-            .faults
-            .tell_memory(open_to_write(self.rt, name.as_str()))?;
+        let file = self.faults.tell_memory(fs::open(self.rt, name.as_str()))?;
         Ok(FileCache {
             rt: self.rt,
             name,

@@ -19,7 +19,7 @@ pub const LONGEST_POOL: u64 = 1 << 40;
 ///
 /// Its length is the one that it had when it was opened: where the file has shrunk since, a read behind its end fails, and
 /// what it has grown by isn't seen. A read or a write that the system does in parts is gone on with, and one that a signal
-/// interrupts is made again.
+/// interrupts is made again. A fork has the file open to be read alone, so no write through one comes to the pool.
 #[derive(Drop)]
 pub struct FilePool<'a, R: Files> {
     rt: &'a R,
@@ -142,7 +142,7 @@ where
         let disk = match &self.disk {
             Some(disk) => {
                 let name = String::from_str(alloc, disk.name.as_str())?;
-                let file = self.faults.tell_memory(open_file(self.rt, name.as_str()))?;
+                let file = self.faults.tell_memory(fs::open(self.rt, name.as_str()))?;
                 Some(Disk { name, file })
             }
             None => None,

@@ -49,8 +49,8 @@ pub trait Pool: Sized + Send + Drop {
         ensures cause { HasIoCause (faults self.old) (faults self.new) result }
         ensures fault { CountsIoFault (faults self.old) (faults self.new) result };
 
-    /// Another handle on the pool, for a caller of its own: it has the same length and tells the same bytes, and both its
-    /// counts are 0. To make it counts as one fault after [`IoFault::Failed`], and else as none.
+    /// Another handle on the pool, for a caller of its own that reads: it has the same length and tells the same bytes, and both its
+    /// counts are 0. A write through it fails, or what it writes is its own: the pool keeps its bytes. To make it counts as one fault after [`IoFault::Failed`], and else as none.
     fn fork(&mut self, alloc: Global) -> Result<Self, IoFault>
         ensures fork { IfOk result (λ fork. (size fork ≡ size self.old) × (told fork ≡ told self.old) × (faults fork ≡ 0) × (reads fork ≡ 0)) }
         ensures told { told self.new ≡ told self.old }
