@@ -91,13 +91,6 @@ impl CellHistory {
         self.len() == 0
     }
 
-    /// For how many more there is room.
-    pub fn room(&self) -> usize
-        ensures { result ≡ self.now.room }
-    {
-        self.room
-    }
-
     /// Makes room for so many more, be they the longest. After want of memory the history is as before.
     pub fn reserve(&mut self, more: usize) -> Result<(), NoMemory>
         ensures events { self.new.events ≡ self.old.events }
