@@ -2,7 +2,7 @@
 use crate::scene::byte_of;
 use blk_ptr::NoMemory;
 use dbuf_cells::HeapCell;
-use dbuf_state::{CellEvent, Oid, Shown};
+use dbuf_state::{CellEvent, CellHistory, Oid, Shown};
 use std::alloc::Global;
 
 /// What a get answered: two bytes of a block, from this one on.
@@ -87,22 +87,22 @@ fn lead_on(alloc: Global, map: &mut Vec<Vec<u8>>, event: &CellEvent) -> Result<(
 fn follow(
     alloc: Global,
     map: &mut Vec<Vec<u8>>,
-    history: &[CellEvent],
+    history: &CellHistory,
     answers: &[Vec<Answer>],
     cell: u64,
     cells: u64,
 ) -> Result<Option<usize>, NoMemory> {
     let mut places = vec![in alloc; 0usize; answers.len()]?;
     let mut count: usize = 0;
-    for event in history {
-        if let CellEvent::Get { n, at } = event {
+    for event in history.iter() {
+        if let CellEvent::Get { n, at } = &event {
             let n = *n as usize;
             if !takes_next(map, *at, answers, n, &mut places, cell, cells) {
                 return Ok(None);
             }
             count = count.saturating_add(1);
         } else {
-            lead_on(alloc, map, event)?;
+            lead_on(alloc, map, &event)?;
         }
     }
     Ok(Some(count))

@@ -7,6 +7,7 @@ pub mod HoldLemmas
 pub mod IndexLemmas
 pub mod NumberLemmas
 pub mod OutlineLemmas
+pub mod PackLemmas
 pub mod PinLemmas
 pub mod Places
 pub mod RankLemmas

@@ -14,9 +14,9 @@ module _ {H : Type 0} where
     limit = c.limit;
     opening = c.opening.items;
     dbufs = c.dbufs.items;
-    history = c.history.items;
+    history = c.history.events;
     dbuf_room = c.spare_dbufs;
-    event_room = c.spare_events;
+    event_room = c.history.room;
   }
 
   pub record CellKeeps (key_of : H → Key) (bytes_of : H → List ℕ) (c : Inside H) : Type 0 where
@@ -25,8 +25,7 @@ module _ {H : Type 0} where
     pub once : IsTrue (is_distinct dbuf_oid c.dbufs.items)
     pub index : c.index.standings ≡ map standing_of c.dbufs.items
     pub fit : AllByRecursion (IsFit key_of bytes_of) c.dbufs.items
-    -- there is room for so many more dbufs and events
+    -- there is room for so many more dbufs
     pub names_room : c.spare_dbufs ≤ spare c.names
     pub index_room : c.spare_dbufs ≤ c.index.spare
     pub dbufs_room : vec_len c.dbufs + c.spare_dbufs ≤ vec_capacity c.dbufs
-    pub events_room : vec_len c.history + c.spare_events ≤ vec_capacity c.history

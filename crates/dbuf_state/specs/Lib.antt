@@ -4,6 +4,8 @@ pub mod CellModel
 pub mod Dbufs
 pub mod Faults
 pub mod History
+pub mod HistoryLog
+pub mod HistoryModel
 pub mod InHand
 pub mod Index
 pub mod IndexRow
@@ -11,6 +13,7 @@ pub mod Numbers
 pub mod Objects
 pub mod Oids
 pub mod Outline
+pub mod Packed
 pub mod Pins
 pub mod Ranks
 pub mod Soundness

@@ -9,7 +9,7 @@ ghost use Rattle.dbuf_state.specs.Oids.{has_item, oid_eq};
 
 use crate::change::Change;
 use crate::dbuf::{Dbuf, apply, standing};
-use crate::event::CellEvent;
+use crate::history::CellHistory;
 use crate::index::Index;
 use crate::oid::Oid;
 use crate::room::append;
@@ -33,9 +33,8 @@ pub struct Cell<H: Shows> {
     names: IndexSet<Oid>,
     dbufs: Vec<Dbuf<H>>,
     index: Index,
-    history: Vec<CellEvent>,
+    history: CellHistory,
     spare_dbufs: usize,
-    spare_events: usize,
 }
 
 impl<H: Shows> Model for Cell<H> {
@@ -72,9 +71,8 @@ impl<H: Shows + Drop> Cell<H> {
             names: IndexSet::new(alloc),
             dbufs: Vec::new(alloc),
             index: Index::new(alloc),
-            history: Vec::new(alloc),
+            history: CellHistory::new(alloc),
             spare_dbufs: 0,
-            spare_events: 0,
         }
     }
 
@@ -93,19 +91,6 @@ impl<H: Shows + Drop> Cell<H> {
         Ok(())
     }
 
-    // Makes room for `n` more events.
-    fn reserve_events(&mut self, n: usize) -> Result<(), NoMemory>
-        ensures log { self.new ≡ record self.old { event_room = self.new.event_room } }
-        ensures ok { OnOk result (n ≤ self.new.event_room) }
-        ensures kept { self.old.event_room ≤ self.new.event_room }
-    {
-        if n > self.spare_events {
-            self.history.reserve(n)?;
-            self.spare_events = n;
-        }
-        Ok(())
-    }
-
     /// Makes room for `dbufs` more dbufs and `events` more events. After want of memory the cell is as before.
     pub fn reserve(&mut self, dbufs: usize, events: usize) -> Result<(), NoMemory>
         ensures log { self.new ≡ record self.old { dbuf_room = self.new.dbuf_room; event_room = self.new.event_room } }
@@ -115,7 +100,7 @@ impl<H: Shows + Drop> Cell<H> {
         ensures kept_events { self.old.event_room ≤ self.new.event_room }
     {
         self.reserve_dbufs(dbufs)?;
-        self.reserve_events(events)
+        self.history.reserve(events)
     }
 
     // Where the dbuf of an Oid stands.

@@ -7,10 +7,12 @@ mod change;
 mod dbuf;
 mod event;
 mod fault;
+mod history;
 mod index;
 mod keeps;
 mod laws;
 mod oid;
+mod packed;
 mod pins;
 mod rank;
 mod ranks;
@@ -26,6 +28,7 @@ pub use change::Change;
 pub use dbuf::{Content, Dbuf};
 pub use event::CellEvent;
 pub use fault::DbufFault;
+pub use history::{CellEvents, CellHistory};
 pub use laws::{
     a_history_goes_on, calls_are_their_events, cells_are_in_their_outlines, cells_come_to_rest,
     cells_stay_legal, claims_go_with_what_is_read, ended_cells_keep_nothing,

@@ -5,6 +5,8 @@
 #[cfg(test)]
 mod ends;
 #[cfg(test)]
+mod history;
+#[cfg(test)]
 mod kept;
 #[cfg(test)]
 mod memory;

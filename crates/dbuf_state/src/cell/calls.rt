@@ -17,7 +17,6 @@ use crate::change::Change;
 use crate::dbuf::{Content, Dbuf, fresh};
 use crate::event::CellEvent;
 use crate::oid::Oid;
-use crate::room::append;
 use crate::shown::Shown;
 use crate::state::{DbState, Mapping};
 use blk_ptr::{NoMemory, Ptr, Shows};
@@ -247,7 +246,6 @@ impl<H: Shows + Drop> Cell<H> {
         requires { 0 < self.old.event_room }
         ensures { self.new ≡ record self.old { history = self.old.history ++ event ∷ []; event_room = self.old.event_room - 1 } }
     {
-        append(&mut self.history, event);
-        self.spare_events -= 1;
+        self.history.push(&event);
     }
 }

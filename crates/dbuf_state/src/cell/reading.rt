@@ -14,7 +14,7 @@ ghost use Rattle.dbuf_state.specs.Standings.{is_evictable, is_first_kept, is_ove
 
 use super::Cell;
 use crate::dbuf::Content;
-use crate::event::CellEvent;
+use crate::history::CellHistory;
 use crate::keeps::is_hold_on;
 use crate::oid::Oid;
 use crate::shown::Shown;
@@ -112,8 +112,8 @@ impl<H: Shows + Drop> Cell<H> {
     }
 
     /// The events so far.
-    pub fn history(&self) -> &[CellEvent]
-        ensures { result.now ≡ self.now.history }
+    pub fn history(&self) -> &CellHistory
+        ensures { result.now.events ≡ self.now.history }
     {
         &self.history
     }

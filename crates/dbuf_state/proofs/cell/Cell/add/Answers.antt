@@ -32,5 +32,4 @@ invariant_of-self g c =
       names_room = omega (arith, c.enter.ensures.spare, c.self.invariant.names_room);
       index_room = omega (arith, c.push.ensures.spare, c.self.invariant.index_room);
       dbufs_room = omega arith;
-      events_room = c.self.invariant.events_room;
     }

@@ -20,5 +20,4 @@ invariant_of-self-2 g c =
       names_room = c.self.invariant.names_room;
       index_room = omega (arith, c.set.ensures.spare, c.self.invariant.index_room);
       dbufs_room = c.self.invariant.dbufs_room;
-      events_room = c.self.invariant.events_room;
     }
