@@ -13,7 +13,8 @@ use Rattle.std.proofs.lemmas.Simd.{none_from_empty_mask, run_in_chunk_fails}
 use Rattle.blk_ptr.specs.declared.key.Key.{Key}
 use Rattle.blk_ptr.specs.Order.{key_eq}
 use Rattle.blk_ptr.proofs.Keys.{key_eq-same, key_eq-is}
-use Rattle.hash_chain.specs.Kept.{is_key, tag_of_key}
+use Rattle.hash_chain.specs.declared.header.Header.{Header}
+use Rattle.hash_chain.specs.Kept.{is_key, keys_of, tag_of_key}
 
 true_false : true ≡ false → ⊥
 true_false e = cc
@@ -89,6 +90,21 @@ is_here ks k d p within same none =
     let at : slice_get ks p ≡ Some k = slice_get-get_or ks p d within ∙ ap Some (key_eq-is (get_or ks p d) k (sym same)) in
     let from_front : 0 + p ≡ p = omega arith in
     sym (position_from-zero (is_key k) ks ∙ (first ks k 0 p at none ∙ ap Some from_front))
+
+-- the key of a header, among the keys
+key_there : (hs : List Header) (d : Header) (k : Key) (p : ℕ) → p < length hs → get_or (keys_of hs) p k ≡ (get_or hs p d).key
+key_there hs d k p within = get_or-map (λ (h : Header). h.key) hs p d k within
+
+as_many : (hs : List Header) → length (keys_of hs) ≡ length hs
+as_many hs = length-map hs (λ (h : Header). h.key)
+
+-- the first header with the key
+pub is_header : (hs : List Header) (k : Key) (d : Header) (p : ℕ) → p < length hs → true ≡ key_eq (get_or hs p d).key k → IsNotBefore (keys_of hs) k p → Some p ≡ position (is_key k) (keys_of hs)
+is_header hs k d p within same none = is_here (keys_of hs) k k p (let n = as_many hs in omega arith) (same ∙ ap (λ (q : Key). key_eq q k) (sym (key_there hs d k p within))) none
+
+-- a header that has the tag, and another key
+pub no_header : (hs : List Header) (k : Key) (d : Header) (p : ℕ) → p < length hs → false ≡ key_eq (get_or hs p d).key k → IsNotBefore (keys_of hs) k p → IsNotBefore (keys_of hs) k (p + 1)
+no_header hs k d p within other none = not_here (keys_of hs) k k p (other ∙ ap (λ (q : Key). key_eq q k) (sym (key_there hs d k p within))) none
 
 -- no place with the key
 pub is_nowhere : (ks : List Key) (k : Key) (n : ℕ) → length ks ≤ n → IsNotBefore ks k n → None ≡ position (is_key k) ks

@@ -4,7 +4,7 @@ ghost use Rattle.std.specs.List.{position};
 ghost use Rattle.hash_chain.specs.declared.header.Header.{Header};
 ghost use Rattle.hash_chain.specs.Alike.{AreAlike};
 ghost use Rattle.hash_chain.specs.Chain.{header_at, bytes_lent, given, lent, IsAlikeTo, IsWith};
-ghost use Rattle.hash_chain.specs.Kept.{is_key, tag_of_key};
+ghost use Rattle.hash_chain.specs.Kept.{is_key, keys_of, tag_of_key};
 
 use crate::header::Header;
 use blk_ptr::{Block, Key, NoMemory, State, hash_of};
@@ -18,13 +18,12 @@ use std::sync::Arc;
 const LANES: usize = 16;
 
 /// The headers of the keys that fall into one bucket. Contracts see a finite map by key. A bucket mostly has one header or two. So the first lies in the bucket itself: a search
-/// for its key reads none of the vectors, and they have no memory until room is made for a second header. The others lie in `more`, and their keys and tags beside them in the same
-/// order. A tag is a byte of the key's hash: a search goes over the tags, many at a time, and reads a key only where the tag is the one that it looks for.
+/// for its key reads none of the vectors, and they have no memory until room is made for a second header. The others lie in `more`, and their tags beside them in the same
+/// order. A tag is a byte of the key's hash: a search goes over the tags, many at a time, and reads a header's key only where the tag is the one that it looks for.
 #[derive(Debug, Drop)]
 pub struct Bucket {
     first: Option<Header>,
     more: Vec<Header>,
-    keys: Vec<Key>,
     tags: Vec<u8>,
     spare: usize,
 }
@@ -39,10 +38,9 @@ impl Model for Bucket {
     ghost view = { λ b. record { headers = all_of b.first b.more.items; spare = b.spare } };
 
     // With a first there is room in each vector for `spare` more. Without one there may be room for one less, since the next header becomes the first.
-    ghost invariant = { λ b. (b.keys.items ≡ keys_of b.more.items) × AreOnce (all_of b.first b.more.items)
-        × (b.tags.items ≡ map tag_of_key b.keys.items) × IfNone b.first (b.more.items ≡ [])
+    ghost invariant = { λ b. (b.tags.items ≡ map tag_of_key (keys_of b.more.items)) × AreOnce (all_of b.first b.more.items)
+        × IfNone b.first (b.more.items ≡ [])
         × (length (option_to_list b.first) + vec_len b.more + b.spare ≤ vec_capacity b.more + 1)
-        × (length (option_to_list b.first) + vec_len b.keys + b.spare ≤ vec_capacity b.keys + 1)
         × (length (option_to_list b.first) + vec_len b.tags + b.spare ≤ vec_capacity b.tags + 1) };
 }
 
@@ -83,26 +81,26 @@ fn start_at_end(tags: &[u8], from: usize, tag: u8) -> usize
     from.max(last + others(tags, last, tag))
 }
 
-// Where a key stands among keys that have these tags, and not before `from`, where fewer than `LANES` are left.
-fn place_at_end(tags: &[u8], keys: &[Key], key: Key, from: usize) -> Option<usize>
-    requires tags { tags.now ≡ map tag_of_key keys.now }
+// Where a key stands among headers that have these tags, and not before `from`, where fewer than `LANES` are left.
+fn place_at_end(tags: &[u8], headers: &[Header], key: Key, from: usize) -> Option<usize>
+    requires tags { tags.now ≡ map tag_of_key (keys_of headers.now) }
     requires left { length tags.now < from + LANES }
-    requires passed { (k : ℕ) → k < from → slice_get keys.now k ≢ Some key }
-    ensures { result ≡ position (is_key key) keys.now }
+    requires passed { (k : ℕ) → k < from → slice_get (keys_of headers.now) k ≢ Some key }
+    ensures { result ≡ position (is_key key) (keys_of headers.now) }
 {
     let start = start_at_end(tags, from, tag_of(key));
-    for place in start..keys.len() {
-        if keys[place] == key {
+    for place in start..headers.len() {
+        if headers[place].key == key {
             return Some(place);
         }
     }
     None
 }
 
-// Where a key stands among keys that have these tags.
-fn place_of(tags: &[u8], keys: &[Key], key: Key) -> Option<usize>
-    requires { tags.now ≡ map tag_of_key keys.now }
-    ensures { result ≡ position (is_key key) keys.now }
+// Where a key stands among headers that have these tags. A header's own key is compared, since the caller reads that header next.
+fn place_of(tags: &[u8], headers: &[Header], key: Key) -> Option<usize>
+    requires { tags.now ≡ map tag_of_key (keys_of headers.now) }
+    ensures { result ≡ position (is_key key) (keys_of headers.now) }
 {
     let tag = tag_of(key);
     let mut from = 0;
@@ -110,13 +108,13 @@ fn place_of(tags: &[u8], keys: &[Key], key: Key) -> Option<usize>
         let ahead = others(tags, from, tag);
         from += ahead;
         if ahead < LANES {
-            if keys[from] == key {
+            if headers[from].key == key {
                 return Some(from);
             }
             from += 1;
         }
     }
-    place_at_end(tags, keys, key, from)
+    place_at_end(tags, headers, key, from)
 }
 
 // Whether a header says this state and this place.
@@ -168,7 +166,6 @@ impl Bucket {
         Bucket {
             first: None,
             more: Vec::new(alloc),
-            keys: Vec::new(alloc),
             tags: Vec::new(alloc),
             spare: 0,
         }
@@ -189,7 +186,7 @@ impl Bucket {
         if self.more.is_empty() {
             return None;
         }
-        let place = place_of(&self.tags, &self.keys, key)?;
+        let place = place_of(&self.tags, &self.more, key)?;
         Some(place + 1)
     }
 
@@ -217,7 +214,6 @@ impl Bucket {
         // The next header of a bucket without a first becomes the first, and takes no room in the vectors.
         let others = n - usize::from(self.first.is_none());
         self.tags.reserve(others)?;
-        self.keys.reserve(others)?;
         self.more.reserve(others)?;
         self.spare = n;
         Ok(())
@@ -236,7 +232,6 @@ impl Bucket {
             return;
         }
         self.tags.push_reserved(tag_of(header.key));
-        self.keys.push_reserved(header.key);
         self.more.push_reserved(header);
     }
 
@@ -250,12 +245,10 @@ impl Bucket {
         self.spare += 1;
         if i == 0 {
             self.tags.pop();
-            self.keys.pop();
             let last = self.more.pop();
             return mem::replace(&mut self.first, last).unwrap();
         }
         self.tags.swap_remove(i - 1);
-        self.keys.swap_remove(i - 1);
         self.more.swap_remove(i - 1)
     }
 

@@ -14,16 +14,13 @@ invariant_of-self-2 c =
     let hs : List Header = c.self.inside.more.items in
     let h : Header = c.args.header in
     let absent : header_at h.key (all_of o hs) ≡ None = subst (λ (b : Chain). header_at h.key b.headers ≡ None) (sym c.self.view_is) c.requires.absent in
-    let longer : all_of o c.push_reserved-3.new.self.items ≡ all_of o hs ++ h ∷ [] = ap (all_of o) c.push_reserved-3.ensures.items ∙ append_after o hs h in
+    let longer : all_of o c.push_reserved-2.new.self.items ≡ all_of o hs ++ h ∷ [] = ap (all_of o) c.push_reserved-2.ensures.items ∙ append_after o hs h in
     let room : 0 < c.self.inside.spare = subst (λ (b : Chain). 0 < b.spare) (sym c.self.view_is) c.requires.room in
-    let room_more = i.4 in
-    let room_keys = i.5 in
-    let room_tags = i.6 in (
-      c.push_reserved-2.ensures.items ∙ (ap (λ l. l ++ h.key ∷ []) i.0 ∙ (sym (keys_append hs (h ∷ [])) ∙ ap keys_of (sym c.push_reserved-3.ensures.items))),
+    let room_more = i.3 in
+    let room_tags = i.4 in (
+      tags_with _ _ _ _ _ c.push_reserved.ensures.items (ap keys_of c.push_reserved-2.ensures.items ∙ keys_append hs (h ∷ [])) i.0 c.tag_of.ensures,
       subst AreOnce (sym longer) (once_add (all_of o hs) h i.1 absent),
-      tags_with _ _ _ _ _ c.push_reserved.ensures.items c.push_reserved-2.ensures.items i.2 c.tag_of.ensures,
       none_not o _ c.is_none.result c.is_none.ensures c.if-is_none.false,
-      omega arith,
       omega arith,
       omega arith,
     )
@@ -34,6 +31,6 @@ returns-clause-map c =
     let hs : List Header = c.self.inside.more.items in
     let h : Header = c.args.header in
     let absent : header_at h.key (all_of o hs) ≡ None = subst (λ (b : Chain). header_at h.key b.headers ≡ None) (sym c.self.view_is) c.requires.absent in
-    let longer : all_of o c.push_reserved-3.new.self.items ≡ all_of o hs ++ h ∷ [] = ap (all_of o) c.push_reserved-3.ensures.items ∙ append_after o hs h in
-    subst (λ (b : Chain). IsWith h.key (Some h) b.headers (all_of o c.push_reserved-3.new.self.items)) c.self.view_is
+    let longer : all_of o c.push_reserved-2.new.self.items ≡ all_of o hs ++ h ∷ [] = ap (all_of o) c.push_reserved-2.ensures.items ∙ append_after o hs h in
+    subst (λ (b : Chain). IsWith h.key (Some h) b.headers (all_of o c.push_reserved-2.new.self.items)) c.self.view_is
     (subst (IsWith h.key (Some h) (all_of o hs)) (sym longer) (map_add (all_of o hs) h absent))

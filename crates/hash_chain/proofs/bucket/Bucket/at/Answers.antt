@@ -13,5 +13,5 @@ returns-then-i-gt0-clause-map c =
     let hs : List Header = c.self.inside.more.items in
     let h : Header = c.index.result.now in
     let range : c.args.i < length (all_of o hs) = subst (λ (b : Chain). c.args.i < length b.headers) (sym c.self.view_is) c.requires in
-    let place : slice_get (all_of o hs) c.args.i ≡ Some h = at_after o hs c.args.i h c.self.invariant.3 c.if-i-gt0.true range c.index.ensures in
+    let place : slice_get (all_of o hs) c.args.i ≡ Some h = at_after o hs c.args.i h c.self.invariant.2 c.if-i-gt0.true range c.index.ensures in
     subst (λ (b : Chain). header_at h.key b.headers ≡ Some h) c.self.view_is (found (all_of o hs) c.args.i h c.self.invariant.1 place)

@@ -1,9 +1,9 @@
-use Rattle.std.proofs.Common.{◌≡◌, ◌<◌, ◌∙◌, Option, Result, Ok, Err, OnOk, OnErr, Some, IfSome, length, slice_get, sym, ap, subst}
+use Rattle.std.proofs.Common.{◌≡◌, ◌<◌, ◌∙◌, Option, Result, Ok, Err, OnOk, OnErr, Some, IfSome, length, slice_get, sym, ap, subst, map}
 use Rattle.std.proofs.lemmas.Result.{IfOk-weaker, on_ok_weaker}
 use Rattle.hash_chain.specs.declared.header.Header.{Header}
 use Rattle.hash_chain.specs.Alike.{AreAlike}
 use Rattle.hash_chain.specs.Chain.{Chain, IsAlikeTo, bytes_lent, lent}
-use Rattle.hash_chain.specs.Kept.{all_of}
+use Rattle.hash_chain.specs.Kept.{all_of, tag_of_key}
 use Rattle.hash_chain.proofs.First.{at_after, became, became_headers, became_map}
 use Rattle.hash_chain.proofs.Headers.{some_is}
 use Rattle.hash_chain.proofs.bucket.Bucket.take_block.Goals as goal
@@ -19,8 +19,8 @@ invariant_of-self c =
     let t = c.take_from in
     let range : c.args.i < length (all_of c.self.inside.first c.self.inside.more.items) = subst (λ (b : Chain). c.args.i < length b.headers) (sym c.self.view_is) c.requires.range in
     let key = same_key t.result c.index_mut.result.now t.new.header t.ensures.ok t.ensures.err in
-    let r = became c.self.inside.first c.self.inside.more.items c.args.i c.index_mut.result.now t.new.header i.1 i.3 c.if-i-gt0.true range c.index_mut.ensures.value key in
-    (i.0 ∙ sym r.keys, r.once, i.2, r.none, i.4, i.5, i.6)
+    let r = became c.self.inside.first c.self.inside.more.items c.args.i c.index_mut.result.now t.new.header i.1 i.2 c.if-i-gt0.true range c.index_mut.ensures.value key in
+    (i.0 ∙ ap (map tag_of_key) (sym r.keys), r.once, r.none, i.3, i.4)
 
 pub returns-then-i-gt0-clause-ok : goal.returns-then-i-gt0-clause-ok
 returns-then-i-gt0-clause-ok c =
@@ -29,7 +29,7 @@ returns-then-i-gt0-clause-ok c =
     let range : c.args.i < length (all_of c.self.inside.first c.self.inside.more.items) = subst (λ (b : Chain). c.args.i < length b.headers) (sym c.self.view_is) c.requires.range in
     let key = same_key t.result c.index_mut.result.now t.new.header t.ensures.ok t.ensures.err in
     on_ok_weaker t.result (λ made h at.
-    became_headers c.self.inside.first c.self.inside.more.items c.args.i c.index_mut.result.now t.new.header i.1 i.3 c.if-i-gt0.true range c.index_mut.ensures.value key
+    became_headers c.self.inside.first c.self.inside.more.items c.args.i c.index_mut.result.now t.new.header i.1 i.2 c.if-i-gt0.true range c.index_mut.ensures.value key
     c.self.inside.spare lent made c.args.self.now c.self.view_is h at) t.ensures.ok
 
 pub returns-then-i-gt0-clause-map : goal.returns-then-i-gt0-clause-map
@@ -39,7 +39,7 @@ returns-then-i-gt0-clause-map c =
     let range : c.args.i < length (all_of c.self.inside.first c.self.inside.more.items) = subst (λ (b : Chain). c.args.i < length b.headers) (sym c.self.view_is) c.requires.range in
     let key = same_key t.result c.index_mut.result.now t.new.header t.ensures.ok t.ensures.err in
     on_ok_weaker t.result (λ made h at.
-    became_map c.self.inside.first c.self.inside.more.items c.args.i c.index_mut.result.now t.new.header i.1 i.3 c.if-i-gt0.true range c.index_mut.ensures.value key
+    became_map c.self.inside.first c.self.inside.more.items c.args.i c.index_mut.result.now t.new.header i.1 i.2 c.if-i-gt0.true range c.index_mut.ensures.value key
     c.self.inside.spare lent made c.args.self.now c.self.view_is h at) t.ensures.ok
 
 pub returns-then-i-gt0-clause-owner : goal.returns-then-i-gt0-clause-owner
@@ -48,7 +48,7 @@ returns-then-i-gt0-clause-owner c =
     let t = c.take_from in
     let m : Header = c.index_mut.result.now in
     let range : c.args.i < length (all_of c.self.inside.first c.self.inside.more.items) = subst (λ (b : Chain). c.args.i < length b.headers) (sym c.self.view_is) c.requires.range in
-    let place = at_after c.self.inside.first c.self.inside.more.items c.args.i m i.3 c.if-i-gt0.true range c.index_mut.ensures.value in
+    let place = at_after c.self.inside.first c.self.inside.more.items c.args.i m i.2 c.if-i-gt0.true range c.index_mut.ensures.value in
     IfOk-weaker t.result (λ owner. bytes_lent m ≡ Some owner.value) (λ owner. (h : Header) → slice_get c.args.self.now.headers c.args.i ≡ Some h → bytes_lent h ≡ Some owner.value)
     (λ owner is h at. ap bytes_lent (sym (some_is m h (sym place ∙ subst (λ (b : Chain). slice_get b.headers c.args.i ≡ Some h) (sym c.self.view_is) at))) ∙ is) t.ensures.owner
 
@@ -58,6 +58,6 @@ returns-then-i-gt0-clause-alike c =
     let t = c.take_from in
     let m : Header = c.index_mut.result.now in
     let range : c.args.i < length (all_of c.self.inside.first c.self.inside.more.items) = subst (λ (b : Chain). c.args.i < length b.headers) (sym c.self.view_is) c.requires.range in
-    let place = at_after c.self.inside.first c.self.inside.more.items c.args.i m i.3 c.if-i-gt0.true range c.index_mut.ensures.value in
+    let place = at_after c.self.inside.first c.self.inside.more.items c.args.i m i.2 c.if-i-gt0.true range c.index_mut.ensures.value in
     IfOk-weaker t.result (λ owner. IfSome m.block (λ kept. AreAlike owner.value kept.block.value)) (λ owner. IsAlikeTo (slice_get c.args.self.now.headers c.args.i) owner.value)
     (λ owner alike. subst (λ (b : Chain). IsAlikeTo (slice_get b.headers c.args.i) owner.value) c.self.view_is (subst (λ (o : Option Header). IsAlikeTo o owner.value) (sym place) alike)) t.ensures.alike
