@@ -88,10 +88,13 @@ fn place_at_end(tags: &[u8], headers: &[Header], key: Key, from: usize) -> Optio
     requires passed { (k : ℕ) → k < from → slice_get (keys_of headers.now) k ≢ Some key }
     ensures { result ≡ position (is_key key) (keys_of headers.now) }
 {
-    let start = start_at_end(tags, from, tag_of(key));
+    let tag = tag_of(key);
+    let start = start_at_end(tags, from, tag);
     for place in start..headers.len() {
-        if headers[place].key == key {
-            return Some(place);
+        if tags[place] == tag {
+            if headers[place].key == key {
+                return Some(place);
+            }
         }
     }
     None
