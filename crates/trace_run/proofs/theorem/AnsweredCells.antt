@@ -278,10 +278,14 @@ module _ (cache : Cache) (valid : IsConfig cache.config) (ps : List PartyPlace) 
         all-synced : k < length ls → StartsWith (done_by g.callers seen_then) (wrote_there g i (take k ls))
         all-synced inside = has-synced g i ls fits seen_then k (λ x v less at_x stops. synced-before n below k l at same cut x v at_x stops less) k (omega arith) (omega (arith, inside))
 
+        -- no more than all syncs did
+        all-unstopped : (before : List CellEvent) → history ≡ before ++ End g.callers ∷ [] → StartsWith before seen_then → StartsWith (wrote_there g i ls) (done_by g.callers seen_then)
+        all-unstopped before is starts = subst (λ (es : List CellEvent). StartsWith es (done_by g.callers seen_then)) (wrote-all before is) (done-starts g.callers before seen_then starts)
+
         all-unsynced : (before : List CellEvent) → history ≡ before ++ End g.callers ∷ [] → StartsWith before seen_then → (x : ℕ) → k < x → x < length ls → StartsWith (wrote_there g i (take x ls)) (done_by g.callers seen_then)
         all-unsynced before is starts x lt inside =
             none-synced g i ls fits seen_then k (λ y v more at_y stops. synced-behind n below k l at same cut y v at_y stops more)
-            (subst (λ (es : List CellEvent). StartsWith es (done_by g.callers seen_then)) (wrote-all before is) (done-starts g.callers before seen_then starts)) x lt (omega (arith, inside))
+            (all-unstopped before is starts) x lt (omega (arith, inside))
 
     -- ---- a line
 
@@ -300,6 +304,7 @@ module _ (cache : Cache) (valid : IsConfig cache.config) (ps : List PartyPlace) 
         let before = unended g.callers i c.value.history ended.0 ended.1 in
         let whole = starts-then ended.0 (front_of i f.0.own.seen) _ (ended.2 n below) a.front in
         let r = entries-front before.0 (a.cell.value.history ++ notes) whole.0 (sym before.2 ∙ (whole.1 ∙ ap (λ (x : List Seen). x ++ whole.0) (sym (entries-two a.cell.value.history notes)))) in
+        let behind_front : StartsWith before.0 a.cell.value.history = (notes ++ r.0, r.1 ∙ append_assoc a.cell.value.history notes r.0) in
         record {
           cell = c;
           there = slice-of e.cells i c (there-closed i range).1;
@@ -312,7 +317,8 @@ module _ (cache : Cache) (valid : IsConfig cache.config) (ps : List PartyPlace) 
           since = λ m x v less lt at_x stops. all-since i range n below k l at refl cut m x v less at_x stops lt;
           until = λ m x v less lt at_x stops. all-until i range n below k l at refl cut m x v less at_x stops lt;
           synced = all-synced i range n below k l at refl cut inside;
-          unsynced = λ x v lt at_x stops. all-unsynced i range n below k l at refl cut before.0 before.1 (notes ++ r.0, r.1 ∙ append_assoc a.cell.value.history notes r.0) x lt (slice_get_within ls x v at_x);
+          unsynced = λ x v lt at_x stops. all-unsynced i range n below k l at refl cut before.0 before.1 behind_front x lt (slice_get_within ls x v at_x);
+          unstopped = all-unstopped i range n below k l at refl cut before.0 before.1 behind_front;
           brought = subst (λ (x : ℕ × List Mapping). BringsAt len at (outline_after x.0 x.1 a.cell.value.history) l.work.brought) (λ z. (began.0 z, began.1 z)) a.brought;
           acts = subst (λ (x : ℕ × List Mapping). ActsFor g n (own_event l.op) (outline_after x.0 x.1 a.cell.value.history) l.work l.reply) (λ z. (began.0 z, began.1 z)) a.acts;
           answer = subst (λ (x : ℕ × List Mapping). AnswersObject len (told k) x.0 x.1 a.cell.value.history l.work.brought l.op l.reply) (λ z. (began.0 z, began.1 z)) a.answer;

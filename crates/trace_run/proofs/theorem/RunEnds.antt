@@ -548,7 +548,7 @@ module _ (cache : Cache) (valid : IsConfig cache.config) (restored : List Restor
         (subst (λ (ys : List Line). HaveLooked g len told ys crew.parties.items) none.0 looked)
     run-objects ls (inr stops) looked =
         let l : Line = stopped_line work in
-        front-answered g len told closed.cells work.lines (l ∷ [])
+        front-answered g len told closed.cells work.lines l refl
         (objects-by (work.lines ++ l ∷ []) (all-append (λ x. FitsBy g (caller_of x.op) x) work.lines (l ∷ []) come.did.fits (come.did.stopped, tt)) (all-append (IsOfOne (λ n. n < g.callers)) work.lines (l ∷ []) lines-own ((λ n is. cc), tt))
         (λ m. filter-append _ work.lines (l ∷ []) ∙ append-nil (lines_of_caller m work.lines))
         (ap noted_of_work (filter-append _ work.lines (l ∷ [])) ∙ (noted-append (lines_of_feeder work.lines) (l ∷ []) ∙ ap (λ (ns : List Noted). noted_lines ++ ns) (append-nil work.stopped.noted)))

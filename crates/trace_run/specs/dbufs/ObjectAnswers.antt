@@ -38,6 +38,8 @@ pub record LookedAt (g : Config) (pool_len : ℕ) (told : (k : ℕ) → Option (
   -- it has all that the syncs before the line wrote there, and nothing of one that ends this line's group or a later one
   pub synced : StartsWith (done_by g.callers front) (events_of_cell (cell_of g.cells at) (noted_of_work (lines_of_feeder (take k lines))))
   pub unsynced : (x : ℕ) (e : Line) → k < x → slice_get lines x ≡ Some e → ends_group e.op ≡ true → StartsWith (events_of_cell (cell_of g.cells at) (noted_of_work (lines_of_feeder (take x lines)))) (done_by g.callers front)
+  -- and nothing of one that stopped, which is none of these lines: the feeder had done there at most what the syncs among them wrote
+  pub unstopped : StartsWith (events_of_cell (cell_of g.cells at) (noted_of_work (lines_of_feeder lines))) (done_by g.callers front)
   pub brought : BringsAt pool_len at (outline_after cell.value.limit cell.value.opening front) l.work.brought
   pub acts : ActsFor g n (own_event l.op) (outline_after cell.value.limit cell.value.opening front) l.work l.reply
   pub answer : AnswersObject pool_len (told k) cell.value.limit cell.value.opening front l.work.brought l.op l.reply
