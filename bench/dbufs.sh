@@ -7,7 +7,7 @@ set -eu
 here=$(cd "$(dirname "$0")" && pwd)
 copy=$(mktemp -d)
 trap 'rm -rf "$copy"' EXIT
-names='blk_ptr vdev_io arc_links key_table arc_lists arc_core hash_chain dbuf_state turn_table arc_table arc_examples dbuf_cells txg_sync dbuf_examples'
+names='blk_ptr vdev_io arc_links key_table varint arc_lists arc_core hash_chain dbuf_state turn_table arc_table arc_examples dbuf_cells txg_sync dbuf_examples'
 mkdir "$copy/crates"
 for name in $names; do
     cp -r "$here/../crates/$name" "$copy/crates/"
