@@ -372,8 +372,8 @@ def has_strace():
 
 
 def wrong_opens(program):
-    """What is wrong of how the pool's file is opened for four callers: that is done once, and once more for each, under its own name, to be
-    read and written, and it is neither made nor cut. Nothing else is opened to be written."""
+    """What is wrong of how the pool's file is opened for four callers: that is done once to be read and written, and once more for each
+    caller, under its own name, to be read alone, and it is neither made nor cut. Nothing else is opened to be written."""
     trace = ['strace', '-f', '-qq', '-o', 'calls', '-e', 'trace=open,openat,openat2,creat']
     ended = subprocess.run([*trace, program, 'random', '-', 'run'], input=FOUR_CALLERS.encode(), capture_output=True, timeout=60)
     with open('calls') as file:
@@ -383,7 +383,8 @@ def wrong_opens(program):
     wrong = []
     if ended.returncode != 0 or ended.stdout.decode().splitlines() != FOUR_REPORT:
         wrong.append(f'strace: the run ended with {ended}')
-    if len(pool) != 5 or any('O_RDWR' not in flags or re.search('O_CREAT|O_TRUNC|O_APPEND', flags) for flags in pool):
+    how = ['O_RDWR', *['O_RDONLY'] * 4]
+    if len(pool) != 5 or any(way not in flags or re.search('O_CREAT|O_TRUNC|O_APPEND', flags) for way, flags in zip(how, pool)):
         wrong.append(f'strace: the pool of four callers is opened so: {pool}')
     if others:
         wrong.append(f'strace: other files are opened to be written: {others}')
