@@ -4,7 +4,7 @@ use Rattle.std.specs.Prelude.{Bool, IfSome, IsTrue, OnErr, OnOk}
 use Rattle.std.proofs.lemmas.List.{map-append}
 use Rattle.vdev_io.specs.declared.device.CacheDev.{Ghosts as DeviceGhosts}
 use Rattle.vdev_io.specs.Device.{FollowsBySector, IsWritten, LeavesNoMore, LeavesOnly, LeavesSame}
-use Rattle.vdev_io.specs.Faults.{CountsFault, CountsOne}
+use Rattle.vdev_io.specs.Faults.{CountsFault, CountsOne, sum_of_counts}
 use Rattle.vdev_io.specs.Calls.{Call, Gave, Failed, answer_of, CountsCall, Asked, Read, Write, Flush, DeviceCall, answered, IsToldAfter, LeavesAfter, MakesDeviceCall, MakesDeviceCalls, MakesAll, MakesUpTo, MakesAsked}
 
 counts_call : {T E : Type 0} (before now : ℕ) (result : Result T E) → CountsFault before now result → CountsCall (answer_of result) before now
@@ -34,8 +34,8 @@ leaves_flushed told sectors old new (Err error) no_more durable failed = failed
 
 module _ {D : Type 0} (device : DeviceGhosts D) where
   pub makes_read : {T E : Type 0} (at n : ℕ) (old new : D) (result : Result T E) → device.size new ≡ device.size old → device.has_sectors new ≡ device.has_sectors old → device.told new ≡ device.told old
-      → LeavesSame (device.may_leave old) (device.may_leave new) → CountsOne (device.reads old) (device.reads new) → CountsFault (device.faults old) (device.faults new) result → MakesDeviceCalls device (answered (answer_of result) (Read at n) ∷ []) old new
-  makes_read at n old new result size kind told crash reads faults = (
+      → LeavesSame (device.may_leave old) (device.may_leave new) → CountsOne (device.reads old) (device.reads new) → device.other_calls new ≡ device.other_calls old → CountsFault (device.faults old) (device.faults new) result → MakesDeviceCalls device (answered (answer_of result) (Read at n) ∷ []) old new
+  makes_read at n old new result size kind told crash reads others faults = (
     new,
     record {
       size = size;
@@ -43,15 +43,16 @@ module _ {D : Type 0} (device : DeviceGhosts D) where
       told = told_still (answer_of result) at n (device.told old) (device.told new) told;
       crash = crash;
       reads = reads;
+      others = others;
       faults = counts_call (device.faults old) (device.faults new) result faults;
     },
     refl,
   )
 
   pub makes_write : {T E : Type 0} (at : ℕ) (bytes : List ℕ) (old new : D) (result : Result T E) → device.size new ≡ device.size old → device.has_sectors new ≡ device.has_sectors old
-      → IsWritten at bytes (device.told old) (device.told new) result → (IsTrue (device.has_sectors old) → FollowsBySector at bytes (device.may_leave old) (device.may_leave new)) → device.reads new ≡ device.reads old → CountsFault (device.faults old) (device.faults new) result
+      → IsWritten at bytes (device.told old) (device.told new) result → (IsTrue (device.has_sectors old) → FollowsBySector at bytes (device.may_leave old) (device.may_leave new)) → device.reads new ≡ device.reads old → device.other_calls new ≡ sum_of_counts (device.other_calls old) 1 → CountsFault (device.faults old) (device.faults new) result
       → MakesDeviceCalls device (answered (answer_of result) (Write at bytes) ∷ []) old new
-  makes_write at bytes old new result size kind told crash reads faults = (
+  makes_write at bytes old new result size kind told crash reads others faults = (
     new,
     record {
       size = size;
@@ -59,6 +60,7 @@ module _ {D : Type 0} (device : DeviceGhosts D) where
       told = told_written at bytes (device.told old) (device.told new) result told;
       crash = crash;
       reads = reads;
+      others = others;
       faults = counts_call (device.faults old) (device.faults new) result faults;
     },
     refl,
@@ -66,9 +68,9 @@ module _ {D : Type 0} (device : DeviceGhosts D) where
 
   pub makes_flush : {T E : Type 0} (old new : D) (result : Result T E) → device.size new ≡ device.size old → device.has_sectors new ≡ device.has_sectors old → device.told new ≡ device.told old
       → LeavesNoMore (device.may_leave old) (device.may_leave new) → OnOk result (IfSome (device.told old) (λ image. LeavesOnly image (device.may_leave new)))
-      → OnErr result (LeavesSame (device.may_leave old) (device.may_leave new)) → device.reads new ≡ device.reads old → CountsFault (device.faults old) (device.faults new) result
+      → OnErr result (LeavesSame (device.may_leave old) (device.may_leave new)) → device.reads new ≡ device.reads old → device.other_calls new ≡ sum_of_counts (device.other_calls old) 1 → CountsFault (device.faults old) (device.faults new) result
       → MakesDeviceCalls device (answered (answer_of result) Flush ∷ []) old new
-  makes_flush old new result size kind told no_more durable failed reads faults = (
+  makes_flush old new result size kind told no_more durable failed reads others faults = (
     new,
     record {
       size = size;
@@ -76,6 +78,7 @@ module _ {D : Type 0} (device : DeviceGhosts D) where
       told = told_flushed (answer_of result) (device.told old) (device.told new) told;
       crash = leaves_flushed (device.told old) (device.has_sectors old) (device.may_leave old) (device.may_leave new) result no_more durable failed;
       reads = reads;
+      others = others;
       faults = counts_call (device.faults old) (device.faults new) result faults;
     },
     refl,

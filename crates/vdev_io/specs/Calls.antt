@@ -3,7 +3,7 @@ use Rattle.std.specs.Prelude.{◌≡◌, ℕ, ◌≤◌, Bool, true, false, List
 use Rattle.vdev_io.specs.declared.pool.Pool.{Ghosts}
 use Rattle.vdev_io.specs.declared.device.CacheDev.{Ghosts as DeviceGhosts}
 use Rattle.vdev_io.specs.Device.{put, IsTorn, FollowsBySector, LeavesNoMore, LeavesOnly, LeavesSame}
-use Rattle.vdev_io.specs.Faults.{CountsOne}
+use Rattle.vdev_io.specs.Faults.{CountsOne, sum_of_counts}
 
 -- how a call was answered
 pub data Call : Type 0 where
@@ -24,11 +24,12 @@ abbrev pub CountsCall : Call → (before now : ℕ) → Type 0
 CountsCall Gave before now = now ≡ before
 CountsCall Failed before now = CountsOne before now
 
--- the pool has its length and the bytes that it tells, and counts no fewer faults
+-- the pool has its length and the bytes that it tells, counts no fewer faults, and was asked for no write and no fork
 pub record KeepsPool {P : Type 0} (pool : Ghosts P) (old new : P) : Type 0 where
   pub size : pool.size new ≡ pool.size old
   pub told : pool.told new ≡ pool.told old
   pub faults : pool.faults old ≤ pool.faults new
+  pub others : pool.other_calls new ≡ pool.other_calls old
 
 -- the pool was read once, and answered so
 pub record MakesCall {P : Type 0} (pool : Ghosts P) (call : Call) (old new : P) : Type 0 where
@@ -60,6 +61,12 @@ CountsRead (Read at n) before now = CountsOne before now
 CountsRead (Write at bytes) before now = now ≡ before
 CountsRead Flush before now = now ≡ before
 
+-- a write or a flush was counted among the other calls, and no read was
+abbrev pub others_after : Asked → ℕ → ℕ
+others_after (Read at n) before = before
+others_after (Write at bytes) before = sum_of_counts before 1
+others_after Flush before = sum_of_counts before 1
+
 -- what the image that was told is after a call: a write puts its bytes there, or any where it failed, and no other call changes it
 abbrev pub IsImageAfter : Asked → Call → (old new : List ℕ) → Type 0
 IsImageAfter (Read at n) answer old new = new ≡ old
@@ -87,6 +94,7 @@ pub record MakesDeviceCall {D : Type 0} (device : DeviceGhosts D) (call : Device
   pub told : IsToldAfter call.asked call.answer (device.told old) (device.told new)
   pub crash : LeavesAfter call.asked call.answer (device.told old) (device.has_sectors old) (device.may_leave old) (device.may_leave new)
   pub reads : CountsRead call.asked (device.reads old) (device.reads new)
+  pub others : device.other_calls new ≡ others_after call.asked (device.other_calls old)
   pub faults : CountsCall call.answer (device.faults old) (device.faults new)
 
 -- The device was asked for each of these once, one after another, and answered so; nothing else was done with it.

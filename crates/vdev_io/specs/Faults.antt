@@ -1,5 +1,5 @@
 -- When a count of faults or of calls has risen. A count that stands at the last value of its type stands still.
-use Rattle.std.specs.Prelude.{◌≡◌, ℕ, ◌+◌, ◌-◌, ◌^◌, ◌<◌, ◌≤◌, min, Result, Ok, Err, OnErr, IsErrOf}
+use Rattle.std.specs.Prelude.{◌≡◌, ℕ, zero, suc, ◌+◌, ◌-◌, ◌^◌, ◌<◌, ◌≤◌, min, Result, Ok, Err, OnErr, IsErrOf}
 use Rattle.vdev_io.specs.declared.fault.IoFault.{IoFault}
 use Rattle.vdev_io.specs.declared.fault.IoFault.TheVariants.{Failed, NoMemory}
 
@@ -24,6 +24,11 @@ pub record HasIoCause {T : Type 0} (before now : ℕ) (result : Result T IoFault
 -- the sum of two counts, where there is room for it
 abbrev pub sum_of_counts : ℕ → ℕ → ℕ
 sum_of_counts a b = min (a + b) last_count
+
+-- a count once so many more were counted, one by one, where there is room for each
+abbrev pub counted_more : (n before : ℕ) → ℕ
+counted_more zero before = before
+counted_more (suc n) before = sum_of_counts (counted_more n before) 1
 
 -- one more was counted, where there was room for it
 pub record CountsOne (before now : ℕ) : Type 0 where

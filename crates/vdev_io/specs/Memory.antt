@@ -54,19 +54,21 @@ takes_of sink n = min n (min sink.most (sink.room - length sink.bytes))
 abbrev pub takes_none : MemorySink → ℕ → Bool
 takes_none sink n = takes_of sink n == 0 && nat_lt 0 n
 
--- a pool: its bytes, which calls of the forks to come are to fail, fork by fork, and how many reads were asked for
+-- a pool: its bytes, which calls of the forks to come are to fail, fork by fork, how many reads were asked for, how many writes and forks, and its calls
 pub record MemoryPool : Type 0 where
   pub bytes : List ℕ
   pub forks : List (List ℕ)
   pub reads : ℕ
+  pub other_calls : ℕ
   pub log : CallLog
 
--- a cache device: its bytes, whether all of them are flushed, whether it tells them, how many reads were asked for, and its calls
+-- a cache device: its bytes, whether all of them are flushed, whether it tells them, how many reads were asked for, how many other calls, and its calls
 pub record MemoryCache : Type 0 where
   pub bytes : List ℕ
   pub flushed : Bool
   pub tells : Bool
   pub reads : ℕ
+  pub other_calls : ℕ
   pub log : CallLog
 
 -- the image that it tells

@@ -44,8 +44,8 @@ MayHaveLeft opening calls t c =
     (k : ℕ) × (t ≤ k) × (k ≤ length calls) × IsCrash (after_calls opening (take k calls)) c
 
 -- The disk: the image that it opened with, the calls that changed it, whether it tells what it holds, how many writes and
--- flushes it still takes, and how many bytes, whether it was asked to write more than that, how many calls failed, and how
--- many reads were asked for. Each write and each flush is one call.
+-- flushes it still takes, and how many bytes, whether it was asked to write more than that, how many calls failed, how many
+-- reads were asked for, and how many writes, flushes and forks. Each write and each flush that was done is one call.
 pub record Disk : Type 0 where
   pub opening : List ℕ
   pub calls : List DiskCall
@@ -55,6 +55,7 @@ pub record Disk : Type 0 where
   pub full : Bool
   pub faults : ℕ
   pub reads : ℕ
+  pub other_calls : ℕ
 
 -- its images
 abbrev pub images : Disk → SectorImages

@@ -12,8 +12,8 @@ use std::alloc::Global;
 /// What it holds is its image. Until a flush, a crash may leave another one. A disk of sectors says more of that: each
 /// sector that a write touches is old or new until a flush, each by itself, and everything else is what a read gives.
 ///
-/// It has two counts: of the calls that failed, and of the reads that were asked for. A call counts as one fault where it
-/// fails, and as none where it doesn't.
+/// It has three counts: of the calls that failed, of the reads that were asked for, and of the writes, flushes and forks that were.
+/// A call counts as one fault where it fails, and as none where it doesn't.
 pub trait CacheDev: Sized + Send + Drop {
     /// Its length in bytes, which no call changes.
     ghost size: { Self → ℕ };
@@ -39,6 +39,9 @@ pub trait CacheDev: Sized + Send + Drop {
     /// How many reads were asked for. It never falls.
     ghost reads: { Self → ℕ };
 
+    /// How many writes, flushes and forks were asked for, in all. It never falls.
+    ghost other_calls: { Self → ℕ };
+
     /// The length in bytes.
     fn len(&self) -> u64
         ensures { result ≡ size self.now };
@@ -53,6 +56,7 @@ pub trait CacheDev: Sized + Send + Drop {
         ensures crash { LeavesSame (may_leave self.old) (may_leave self.new) }
         ensures time { LeavesNothingNew (moment self.old) (moment self.new) (left_since self.old) (left_since self.new) }
         ensures counted { CountsOne (reads self.old) (reads self.new) }
+        ensures others { other_calls self.new ≡ other_calls self.old }
         ensures cause { HasCause (faults self.old) (faults self.new) result }
         ensures fault { CountsFault (faults self.old) (faults self.new) result };
 
@@ -66,6 +70,7 @@ pub trait CacheDev: Sized + Send + Drop {
         ensures time { Elapses (moment self.old) (moment self.new) (left_since self.old) (left_since self.new) }
         ensures since { IsTrue (has_sectors self.old) → ElapsesTo (moment self.old) (left_since self.old) (left_since self.new) (may_leave self.new) }
         ensures reads { reads self.new ≡ reads self.old }
+        ensures others { other_calls self.new ≡ sum_of_counts (other_calls self.old) 1 }
         ensures cause { HasCause (faults self.old) (faults self.new) result }
         ensures fault { CountsFault (faults self.old) (faults self.new) result };
 
@@ -80,27 +85,30 @@ pub trait CacheDev: Sized + Send + Drop {
         ensures time { Elapses (moment self.old) (moment self.new) (left_since self.old) (left_since self.new) }
         ensures since { IsTrue (has_sectors self.old) → ElapsesTo (moment self.old) (left_since self.old) (left_since self.new) (may_leave self.new) }
         ensures reads { reads self.new ≡ reads self.old }
+        ensures others { other_calls self.new ≡ sum_of_counts (other_calls self.old) 1 }
         ensures cause { HasCause (faults self.old) (faults self.new) result }
         ensures fault { CountsFault (faults self.old) (faults self.new) result };
 
-    /// Another handle on the device for a reader of its own: of the same length, and both its counts are 0. It tells nothing. A write
+    /// Another handle on the device for a reader of its own: of the same length, and its counts are 0. It tells nothing. A write
     /// through it fails, or what it writes is its own: the device keeps its image.
     /// To make it counts as one fault after [`IoFault::Failed`], and else as none.
     fn fork(&mut self, alloc: Global) -> Result<Self, IoFault>
-        ensures fork { IfOk result (λ fork. (size fork ≡ size self.old) × (told fork ≡ None) × (faults fork ≡ 0) × (reads fork ≡ 0)) }
+        ensures fork { IfOk result (λ fork. (size fork ≡ size self.old) × (told fork ≡ None) × (faults fork ≡ 0) × (reads fork ≡ 0) × (other_calls fork ≡ 0)) }
         ensures size { size self.new ≡ size self.old }
         ensures kind { has_sectors self.new ≡ has_sectors self.old }
         ensures told { told self.new ≡ told self.old }
         ensures crash { LeavesSame (may_leave self.old) (may_leave self.new) }
         ensures time { LeavesNothingNew (moment self.old) (moment self.new) (left_since self.old) (left_since self.new) }
         ensures reads { reads self.new ≡ reads self.old }
+        ensures others { other_calls self.new ≡ sum_of_counts (other_calls self.old) 1 }
         ensures cause { HasIoCause (faults self.old) (faults self.new) result }
         ensures fault { CountsIoFault (faults self.old) (faults self.new) result };
 
-    /// Takes a fork back, and adds its counts. It takes no memory.
+    /// Takes a fork back, and adds its counts of faults and reads. It takes no memory.
     fn absorb(&mut self, other: Self)
         ensures faults { faults self.new ≡ sum_of_counts (faults self.old) (faults other) }
         ensures reads { reads self.new ≡ sum_of_counts (reads self.old) (reads other) }
+        ensures others { other_calls self.new ≡ other_calls self.old }
         ensures size { size self.new ≡ size self.old }
         ensures kind { has_sectors self.new ≡ has_sectors self.old }
         ensures told { told self.new ≡ told self.old }
@@ -130,14 +138,18 @@ pub trait CacheDev: Sized + Send + Drop {
 #[derive(Debug, Drop)]
 pub struct NoCache {
     reads: u64,
+    other_calls: u64,
 }
 
 impl NoCache {
-    /// No device, which was not read yet.
+    /// No device, of which nothing was asked yet.
     pub fn new() -> NoCache
-        ensures { result.reads ≡ 0 }
+        ensures { (result.reads ≡ 0) × (result.other_calls ≡ 0) }
     {
-        NoCache { reads: 0 }
+        NoCache {
+            reads: 0,
+            other_calls: 0,
+        }
     }
 }
 
@@ -158,6 +170,8 @@ impl CacheDev for NoCache {
 
     ghost reads = { λ dev. dev.reads };
 
+    ghost other_calls = { λ dev. dev.other_calls };
+
     fn len(&self) -> u64 {
         0
     }
@@ -168,14 +182,17 @@ impl CacheDev for NoCache {
     }
 
     fn write(&mut self, _offset: u64, _bytes: &[u8]) -> Result<(), Failed> {
+        self.other_calls = self.other_calls.saturating_add(1);
         Ok(())
     }
 
     fn flush(&mut self) -> Result<(), Failed> {
+        self.other_calls = self.other_calls.saturating_add(1);
         Ok(())
     }
 
     fn fork(&mut self, _alloc: Global) -> Result<NoCache, IoFault> {
+        self.other_calls = self.other_calls.saturating_add(1);
         Ok(NoCache::new())
     }
 

@@ -28,6 +28,7 @@ pub struct FileCache<'a, R: Files> {
     file: R::File,
     len: u64,
     reads: u64,
+    other_calls: u64,
     faults: FaultCount,
 }
 
@@ -37,7 +38,7 @@ impl<'a, R: Files> FileCache<'a, R> {
         ensures len { IfOk result (λ cache. cache.len ≤ 2 ^ 32) }
         ensures told { IfOk result (λ cache. (opened : R.File) × HasLength R.File.stream_position R.File.stream_bytes opened cache.len) }
         ensures name { IfOk result (λ cache. string_bytes cache.name ≡ name.now) }
-        ensures counts { IfOk result (λ cache. (cache.reads ≡ 0) × (cache.faults.count ≡ 0)) }
+        ensures counts { IfOk result (λ cache. (cache.reads ≡ 0) × (cache.other_calls ≡ 0) × (cache.faults.count ≡ 0)) }
     {
         if fs::metadata(rt, name)?.is_dir() {
             return Err(OpenFault::File);
@@ -51,6 +52,7 @@ impl<'a, R: Files> FileCache<'a, R> {
             file,
             len,
             reads: 0,
+            other_calls: 0,
             faults: FaultCount::new(),
         })
     }
@@ -76,6 +78,8 @@ where
 
     ghost reads = { λ cache. cache.reads };
 
+    ghost other_calls = { λ cache. cache.other_calls };
+
     fn len(&self) -> u64 {
         self.len
     }
@@ -84,6 +88,7 @@ where
         ensures bytes { OnOk result (ReadsAt R.File.stream_position R.File.remaining offset self.old.file self.new.file buf.new) }
         ensures kept { (self.new.len ≡ self.old.len) × (self.new.name ≡ self.old.name) }
         ensures counted { CountsOne self.old.reads self.new.reads }
+        ensures others { self.new.other_calls ≡ self.old.other_calls }
         ensures told { GivesAnything result }
         ensures crash { LeavesSame (OfLength self.old.len) (OfLength self.new.len) }
         ensures time { LeavesNothingNew 0 0 (λ _. OfLength self.old.len) (λ _. OfLength self.new.len) }
@@ -97,29 +102,34 @@ where
     fn write(&mut self, offset: u64, bytes: &[u8]) -> Result<(), Failed>
         ensures bytes { OnOk result (WritesAt R.File.stream_position R.File.contents offset self.old.file self.new.file bytes.now) }
         ensures kept { (self.new.len ≡ self.old.len) × (self.new.name ≡ self.old.name) × (self.new.reads ≡ self.old.reads) }
+        ensures others { self.new.other_calls ≡ sum_of_counts self.old.other_calls 1 }
         ensures crash { IsTrue false → FollowsBySector offset bytes.now (OfLength self.old.len) (OfLength self.new.len) }
         ensures time { Elapses 0 0 (λ _. OfLength self.old.len) (λ _. OfLength self.new.len) }
         ensures since { IsTrue false → ElapsesTo 0 (λ _. OfLength self.old.len) (λ _. OfLength self.new.len) (OfLength self.new.len) }
         ensures cause { HasCause self.old.faults.count self.new.faults.count result }
         ensures fault { CountsFault self.old.faults.count self.new.faults.count result }
     {
+        self.other_calls = self.other_calls.saturating_add(1);
         self.faults.tell(write_at(&mut self.file, offset, bytes))
     }
 
     fn flush(&mut self) -> Result<(), Failed> {
+        self.other_calls = self.other_calls.saturating_add(1);
         self.faults.tell(self.file.sync_all())
     }
 
     fn fork(&mut self, alloc: Global) -> Result<Self, IoFault>
-        ensures fork { IfOk result (λ fork. (fork.len ≡ self.old.len) × TellsNothing × (fork.faults.count ≡ 0) × (fork.reads ≡ 0)) }
+        ensures fork { IfOk result (λ fork. (fork.len ≡ self.old.len) × TellsNothing × (fork.faults.count ≡ 0) × (fork.reads ≡ 0) × (fork.other_calls ≡ 0)) }
         ensures name { IfOk result (λ fork. string_bytes fork.name ≡ string_bytes self.old.name) }
         ensures file { self.new.file ≡ self.old.file }
         ensures kept { (self.new.len ≡ self.old.len) × (self.new.name ≡ self.old.name) × (self.new.reads ≡ self.old.reads) }
+        ensures others { self.new.other_calls ≡ sum_of_counts self.old.other_calls 1 }
         ensures crash { LeavesSame (OfLength self.old.len) (OfLength self.new.len) }
         ensures time { LeavesNothingNew 0 0 (λ _. OfLength self.old.len) (λ _. OfLength self.new.len) }
         ensures cause { HasIoCause self.old.faults.count self.new.faults.count result }
         ensures fault { CountsIoFault self.old.faults.count self.new.faults.count result }
     {
+        self.other_calls = self.other_calls.saturating_add(1);
         let name = String::from_str(alloc, self.name.as_str())?;
         let file = self.faults.tell_memory(fs::open(self.rt, name.as_str()))?;
         Ok(FileCache {
@@ -128,6 +138,7 @@ where
             file,
             len: self.len,
             reads: 0,
+            other_calls: 0,
             faults: FaultCount::new(),
         })
     }

@@ -1,6 +1,6 @@
 //! A pool over a file or a block device. Nothing is told of its content.
 ghost use Rattle.std.specs.Prelude.{◌≡◌, ◌^◌, ◌≤◌, None, IfOk, OnOk, IfSome, IsErrOf, IsNone, IsSome, is_err, if◌then◌else◌, string_bytes};
-ghost use Rattle.vdev_io.specs.Faults.{CountsFault, CountsIoFault, CountsOne, HasCause, HasIoCause};
+ghost use Rattle.vdev_io.specs.Faults.{CountsFault, CountsIoFault, CountsOne, HasCause, HasIoCause, sum_of_counts};
 ghost use Rattle.vdev_io.specs.Place.{HasLength, OnDisk, ReadsAt, WritesAt};
 ghost use Rattle.vdev_io.specs.Untold.{GivesAnything, TellsNothing, untold};
 
@@ -26,6 +26,7 @@ pub struct FilePool<'a, R: Files> {
     disk: Option<Disk<R::File>>,
     len: u64,
     reads: u64,
+    other_calls: u64,
     faults: FaultCount,
     ghost no_file: { IsNone disk → len ≡ 0 },
 }
@@ -52,7 +53,7 @@ impl<'a, R: Files> FilePool<'a, R> {
         ensures len { IfOk result (λ pool. pool.len ≤ 2 ^ 40) }
         ensures told { IfOk result (λ pool. (opened : R.File) × HasLength R.File.stream_position R.File.stream_bytes opened pool.len) }
         ensures name { IfOk result (λ pool. IsSome pool.disk × IfSome pool.disk (λ disk. string_bytes disk.name ≡ name.now)) }
-        ensures counts { IfOk result (λ pool. (pool.reads ≡ 0) × (pool.faults.count ≡ 0)) }
+        ensures counts { IfOk result (λ pool. (pool.reads ≡ 0) × (pool.other_calls ≡ 0) × (pool.faults.count ≡ 0)) }
     {
         if fs::metadata(rt, name)?.is_dir() {
             return Err(OpenFault::File);
@@ -65,6 +66,7 @@ impl<'a, R: Files> FilePool<'a, R> {
             disk: Some(Disk { name, file }),
             len,
             reads: 0,
+            other_calls: 0,
             faults: FaultCount::new(),
         })
     }
@@ -72,13 +74,14 @@ impl<'a, R: Files> FilePool<'a, R> {
     /// A pool of length 0, of no file.
     pub fn empty(rt: &'a R) -> FilePool<'a, R>
         ensures len { result.len ≡ 0 }
-        ensures counts { (result.reads ≡ 0) × (result.faults.count ≡ 0) }
+        ensures counts { (result.reads ≡ 0) × (result.other_calls ≡ 0) × (result.faults.count ≡ 0) }
     {
         FilePool {
             rt,
             disk: None,
             len: 0,
             reads: 0,
+            other_calls: 0,
             faults: FaultCount::new(),
         }
     }
@@ -96,6 +99,8 @@ where
 
     ghost reads = { λ pool. pool.reads };
 
+    ghost other_calls = { λ pool. pool.other_calls };
+
     fn len(&self) -> u64 {
         self.len
     }
@@ -106,6 +111,7 @@ where
         ensures told { GivesAnything result }
         ensures size { self.new.len ≡ self.old.len }
         ensures counted { CountsOne self.old.reads self.new.reads }
+        ensures others { self.new.other_calls ≡ self.old.other_calls }
         ensures cause { HasCause self.old.faults.count self.new.faults.count result }
         ensures fault { CountsFault self.old.faults.count self.new.faults.count result }
     {
@@ -121,9 +127,11 @@ where
         ensures disk { OnDisk (λ old new. new.name ≡ old.name) self.old.disk self.new.disk }
         ensures size { self.new.len ≡ self.old.len }
         ensures reads { self.new.reads ≡ self.old.reads }
+        ensures others { self.new.other_calls ≡ sum_of_counts self.old.other_calls 1 }
         ensures cause { HasIoCause self.old.faults.count self.new.faults.count result }
         ensures fault { CountsIoFault self.old.faults.count self.new.faults.count result }
     {
+        self.other_calls = self.other_calls.saturating_add(1);
         if let Some(disk) = &mut self.disk {
             self.faults.tell(write_at(&mut disk.file, offset, bytes))?;
         }
@@ -131,14 +139,16 @@ where
     }
 
     fn fork(&mut self, alloc: Global) -> Result<Self, IoFault>
-        ensures fork { IfOk result (λ fork. (fork.len ≡ self.old.len) × TellsNothing × (fork.faults.count ≡ 0) × (fork.reads ≡ 0)) }
+        ensures fork { IfOk result (λ fork. (fork.len ≡ self.old.len) × TellsNothing × (fork.faults.count ≡ 0) × (fork.reads ≡ 0) × (fork.other_calls ≡ 0)) }
         ensures name { IfOk result (λ fork. OnDisk (λ disk other. string_bytes other.name ≡ string_bytes disk.name) self.old.disk fork.disk) }
         ensures disk { self.new.disk ≡ self.old.disk }
         ensures size { self.new.len ≡ self.old.len }
         ensures reads { self.new.reads ≡ self.old.reads }
+        ensures others { self.new.other_calls ≡ sum_of_counts self.old.other_calls 1 }
         ensures cause { HasIoCause self.old.faults.count self.new.faults.count result }
         ensures fault { CountsIoFault self.old.faults.count self.new.faults.count result }
     {
+        self.other_calls = self.other_calls.saturating_add(1);
         let disk = match &self.disk {
             Some(disk) => {
                 let name = String::from_str(alloc, disk.name.as_str())?;
@@ -152,6 +162,7 @@ where
             disk,
             len: self.len,
             reads: 0,
+            other_calls: 0,
             faults: FaultCount::new(),
         })
     }

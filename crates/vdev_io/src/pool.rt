@@ -9,7 +9,7 @@ use std::alloc::Global;
 
 /// The disk that holds the blocks.
 ///
-/// It has two counts: of the calls that failed, and of the reads that were asked for.
+/// It has three counts: of the calls that failed, of the reads that were asked for, and of the writes and forks that were.
 pub trait Pool: Sized + Send + Drop {
     /// Its length in bytes, which no call changes.
     ghost size: { Self → ℕ };
@@ -22,6 +22,9 @@ pub trait Pool: Sized + Send + Drop {
 
     /// How many reads were asked for. It never falls.
     ghost reads: { Self → ℕ };
+
+    /// How many writes and forks were asked for, in all. It never falls.
+    ghost other_calls: { Self → ℕ };
 
     /// The length in bytes.
     fn len(&self) -> u64
@@ -36,6 +39,7 @@ pub trait Pool: Sized + Send + Drop {
         ensures told { told self.new ≡ told self.old }
         ensures size { size self.new ≡ size self.old }
         ensures counted { CountsOne (reads self.old) (reads self.new) }
+        ensures others { other_calls self.new ≡ other_calls self.old }
         ensures cause { HasCause (faults self.old) (faults self.new) result }
         ensures fault { CountsFault (faults self.old) (faults self.new) result };
 
@@ -46,23 +50,26 @@ pub trait Pool: Sized + Send + Drop {
         ensures told { WritesOrRefuses offset bytes.now (told self.old) (told self.new) result }
         ensures size { size self.new ≡ size self.old }
         ensures reads { reads self.new ≡ reads self.old }
+        ensures others { other_calls self.new ≡ sum_of_counts (other_calls self.old) 1 }
         ensures cause { HasIoCause (faults self.old) (faults self.new) result }
         ensures fault { CountsIoFault (faults self.old) (faults self.new) result };
 
-    /// Another handle on the pool, for a caller of its own that reads: it has the same length and tells the same bytes, and both its
+    /// Another handle on the pool, for a caller of its own that reads: it has the same length and tells the same bytes, and its
     /// counts are 0. A write through it fails, or what it writes is its own: the pool keeps its bytes. To make it counts as one fault after [`IoFault::Failed`], and else as none.
     fn fork(&mut self, alloc: Global) -> Result<Self, IoFault>
-        ensures fork { IfOk result (λ fork. (size fork ≡ size self.old) × (told fork ≡ told self.old) × (faults fork ≡ 0) × (reads fork ≡ 0)) }
+        ensures fork { IfOk result (λ fork. (size fork ≡ size self.old) × (told fork ≡ told self.old) × (faults fork ≡ 0) × (reads fork ≡ 0) × (other_calls fork ≡ 0)) }
         ensures told { told self.new ≡ told self.old }
         ensures size { size self.new ≡ size self.old }
         ensures reads { reads self.new ≡ reads self.old }
+        ensures others { other_calls self.new ≡ sum_of_counts (other_calls self.old) 1 }
         ensures cause { HasIoCause (faults self.old) (faults self.new) result }
         ensures fault { CountsIoFault (faults self.old) (faults self.new) result };
 
-    /// Takes a fork back, and adds its counts. It takes no memory.
+    /// Takes a fork back, and adds its counts of faults and reads. It takes no memory.
     fn absorb(&mut self, other: Self)
         ensures faults { faults self.new ≡ sum_of_counts (faults self.old) (faults other) }
         ensures reads { reads self.new ≡ sum_of_counts (reads self.old) (reads other) }
+        ensures others { other_calls self.new ≡ other_calls self.old }
         ensures told { told self.new ≡ told self.old }
         ensures size { size self.new ≡ size self.old };
 

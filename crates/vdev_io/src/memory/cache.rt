@@ -18,19 +18,20 @@ pub struct MemCache {
     flushed: bool,
     tells: bool,
     reads: u64,
+    other_calls: u64,
     calls: Calls,
 }
 
 impl Model for MemCache {
     ghost Value = { MemoryCache };
 
-    ghost view = { λ cache. record { bytes = cache.bytes.items; flushed = cache.flushed; tells = cache.tells; reads = cache.reads; log = cache.calls } };
+    ghost view = { λ cache. record { bytes = cache.bytes.items; flushed = cache.flushed; tells = cache.tells; reads = cache.reads; other_calls = cache.other_calls; log = cache.calls } };
 }
 
 impl MemCache {
     /// A device of these bytes, all of them flushed, of which the calls numbered in `fail` are to fail, counted from 0.
     pub fn new(bytes: Vec<u8>, fail: Vec<u64>) -> MemCache
-        ensures { result ≡ record { bytes = bytes.items; flushed = true; tells = true; reads = 0; log = new_log fail.items } }
+        ensures { result ≡ record { bytes = bytes.items; flushed = true; tells = true; reads = 0; other_calls = 0; log = new_log fail.items } }
     {
         let calls = Calls::new(fail);
         MemCache {
@@ -38,6 +39,7 @@ impl MemCache {
             flushed: true,
             tells: true,
             reads: 0,
+            other_calls: 0,
             calls,
         }
     }
@@ -67,6 +69,8 @@ impl CacheDev for MemCache {
 
     ghost reads = { λ cache. cache.reads };
 
+    ghost other_calls = { λ cache. cache.other_calls };
+
     fn len(&self) -> u64 {
         self.bytes.len() as u64
     }
@@ -74,7 +78,7 @@ impl CacheDev for MemCache {
     fn read(&mut self, offset: u64, buf: &mut [u8]) -> Result<(), Failed>
         requires inside { offset + length buf.old ≤ length self.old.bytes }
         ensures bytes { OnOk result (buf.new ≡ take (length buf.old) (drop offset self.old.bytes)) }
-        ensures kept { (self.new.bytes ≡ self.old.bytes) × (self.new.flushed ≡ self.old.flushed) × (self.new.tells ≡ self.old.tells) }
+        ensures kept { (self.new.bytes ≡ self.old.bytes) × (self.new.flushed ≡ self.old.flushed) × (self.new.tells ≡ self.old.tells) × (self.new.other_calls ≡ self.old.other_calls) }
         ensures counted { CountsOne self.old.reads self.new.reads }
         ensures cause { HasCause self.old.log.faults self.new.log.faults result }
         ensures fault { CountsFault self.old.log.faults self.new.log.faults result }
@@ -93,12 +97,14 @@ impl CacheDev for MemCache {
         ensures written { OnOk result ((self.new.bytes ≡ put offset bytes.now self.old.bytes) × (self.new.flushed ≡ false)) }
         ensures failed { OnErr result ((self.new.bytes ≡ self.old.bytes) × (self.new.flushed ≡ self.old.flushed)) }
         ensures kept { (self.new.tells ≡ self.old.tells) × (self.new.reads ≡ self.old.reads) }
+        ensures others { self.new.other_calls ≡ sum_of_counts self.old.other_calls 1 }
         ensures len { length self.new.bytes ≡ length self.old.bytes }
         ensures cause { HasCause self.old.log.faults self.new.log.faults result }
         ensures fault { CountsFault self.old.log.faults self.new.log.faults result }
         ensures listed { is_err result ≡ is_to_fail self.old.log }
         ensures calls { self.new.log ≡ after_call self.old.log }
     {
+        self.other_calls = self.other_calls.saturating_add(1);
         self.calls.begin()?;
         let at = offset as usize;
         self.flushed = false;
@@ -111,24 +117,28 @@ impl CacheDev for MemCache {
         ensures failed { OnErr result (self.new.flushed ≡ self.old.flushed) }
         ensures bytes { self.new.bytes ≡ self.old.bytes }
         ensures kept { (self.new.tells ≡ self.old.tells) × (self.new.reads ≡ self.old.reads) }
+        ensures others { self.new.other_calls ≡ sum_of_counts self.old.other_calls 1 }
         ensures cause { HasCause self.old.log.faults self.new.log.faults result }
         ensures fault { CountsFault self.old.log.faults self.new.log.faults result }
         ensures listed { is_err result ≡ is_to_fail self.old.log }
         ensures calls { self.new.log ≡ after_call self.old.log }
     {
+        self.other_calls = self.other_calls.saturating_add(1);
         self.calls.begin()?;
         self.flushed = true;
         Ok(())
     }
 
     fn fork(&mut self, alloc: Global) -> Result<MemCache, IoFault>
-        ensures fork { IfOk result (λ fork. fork ≡ record { bytes = self.old.bytes; flushed = false; tells = false; reads = 0; log = new_log [] }) }
+        ensures fork { IfOk result (λ fork. fork ≡ record { bytes = self.old.bytes; flushed = false; tells = false; reads = 0; other_calls = 0; log = new_log [] }) }
         ensures kept { (self.new.bytes ≡ self.old.bytes) × (self.new.flushed ≡ self.old.flushed) × (self.new.tells ≡ self.old.tells) × (self.new.reads ≡ self.old.reads) }
+        ensures others { self.new.other_calls ≡ sum_of_counts self.old.other_calls 1 }
         ensures cause { HasIoCause self.old.log.faults self.new.log.faults result }
         ensures fault { CountsIoFault self.old.log.faults self.new.log.faults result }
         ensures listed { IsErrOf result IoFault.Failed ↔ IsTrue (is_to_fail self.old.log) }
         ensures calls { self.new.log ≡ after_call self.old.log }
     {
+        self.other_calls = self.other_calls.saturating_add(1);
         self.calls.begin()?;
         let bytes = self.bytes.to_vec(alloc)?;
         Ok(MemCache {
@@ -136,6 +146,7 @@ impl CacheDev for MemCache {
             flushed: false,
             tells: false,
             reads: 0,
+            other_calls: 0,
             calls: Calls::new(Vec::new(alloc)),
         })
     }
@@ -143,7 +154,7 @@ impl CacheDev for MemCache {
     fn absorb(&mut self, other: MemCache)
         ensures faults { self.new.log ≡ record self.old.log { faults = sum_of_counts self.old.log.faults other.log.faults } }
         ensures reads { self.new.reads ≡ sum_of_counts self.old.reads other.reads }
-        ensures kept { (self.new.bytes ≡ self.old.bytes) × (self.new.flushed ≡ self.old.flushed) × (self.new.tells ≡ self.old.tells) }
+        ensures kept { (self.new.bytes ≡ self.old.bytes) × (self.new.flushed ≡ self.old.flushed) × (self.new.tells ≡ self.old.tells) × (self.new.other_calls ≡ self.old.other_calls) }
     {
         self.reads = self.reads.saturating_add(other.reads);
         self.calls.absorb(other.calls.faults());

@@ -21,13 +21,14 @@ pub struct MemPool {
     bytes: Arc<Vec<u8>>,
     forks: VecDeque<Vec<u64>>,
     reads: u64,
+    other_calls: u64,
     calls: Calls,
 }
 
 impl Model for MemPool {
     ghost Value = { MemoryPool };
 
-    ghost view = { λ pool. record { bytes = (arc_value pool.bytes).items; forks = map (λ fail. fail.items) pool.forks.items; reads = pool.reads; log = pool.calls } };
+    ghost view = { λ pool. record { bytes = (arc_value pool.bytes).items; forks = map (λ fail. fail.items) pool.forks.items; reads = pool.reads; other_calls = pool.other_calls; log = pool.calls } };
 }
 
 impl MemPool {
@@ -39,7 +40,7 @@ impl MemPool {
         fail: Vec<u64>,
         forks: Vec<Vec<u64>>,
     ) -> Result<MemPool, NoMemory>
-        ensures { IfOk result (λ pool. pool ≡ record { bytes = bytes.items; forks = map (λ fail. fail.items) forks.items; reads = 0; log = new_log fail.items }) }
+        ensures { IfOk result (λ pool. pool ≡ record { bytes = bytes.items; forks = map (λ fail. fail.items) forks.items; reads = 0; other_calls = 0; log = new_log fail.items }) }
     {
         let bytes = Arc::new(alloc, bytes)?;
         let calls = Calls::new(fail);
@@ -47,6 +48,7 @@ impl MemPool {
             bytes,
             forks: VecDeque::from(forks),
             reads: 0,
+            other_calls: 0,
             calls,
         })
     }
@@ -68,6 +70,8 @@ impl Pool for MemPool {
 
     ghost reads = { λ pool. pool.reads };
 
+    ghost other_calls = { λ pool. pool.other_calls };
+
     fn len(&self) -> u64 {
         self.bytes.len() as u64
     }
@@ -76,7 +80,7 @@ impl Pool for MemPool {
         requires inside { offset + length buf.old ≤ length self.old.bytes }
         requires one_block { length buf.old ≤ largest_block }
         ensures bytes { OnOk result (buf.new ≡ take (length buf.old) (drop offset self.old.bytes)) }
-        ensures kept { (self.new.bytes ≡ self.old.bytes) × (self.new.forks ≡ self.old.forks) }
+        ensures kept { (self.new.bytes ≡ self.old.bytes) × (self.new.forks ≡ self.old.forks) × (self.new.other_calls ≡ self.old.other_calls) }
         ensures counted { CountsOne self.old.reads self.new.reads }
         ensures cause { HasCause self.old.log.faults self.new.log.faults result }
         ensures fault { CountsFault self.old.log.faults self.new.log.faults result }
@@ -96,11 +100,13 @@ impl Pool for MemPool {
         ensures failed { OnErr result (self.new.bytes ≡ self.old.bytes) }
         ensures len { length self.new.bytes ≡ length self.old.bytes }
         ensures kept { (self.new.reads ≡ self.old.reads) × (self.new.forks ≡ self.old.forks) }
+        ensures others { self.new.other_calls ≡ sum_of_counts self.old.other_calls 1 }
         ensures cause { HasIoCause self.old.log.faults self.new.log.faults result }
         ensures fault { CountsIoFault self.old.log.faults self.new.log.faults result }
         ensures listed { IsErrOf result IoFault.Failed ↔ IsTrue (is_to_fail self.old.log) }
         ensures calls { self.new.log ≡ after_call self.old.log }
     {
+        self.other_calls = self.other_calls.saturating_add(1);
         self.calls.begin()?;
         let at = offset as usize;
         let held = Arc::make_mut(&mut self.bytes)?;
@@ -109,15 +115,17 @@ impl Pool for MemPool {
     }
 
     fn fork(&mut self, alloc: Global) -> Result<MemPool, IoFault>
-        ensures fork { IfOk result (λ fork. fork ≡ record { bytes = self.old.bytes; forks = []; reads = 0; log = new_log (next_fork self.old.forks) }) }
+        ensures fork { IfOk result (λ fork. fork ≡ record { bytes = self.old.bytes; forks = []; reads = 0; other_calls = 0; log = new_log (next_fork self.old.forks) }) }
         ensures made { OnOk result (self.new.forks ≡ drop 1 self.old.forks) }
         ensures failed { OnErr result (self.new.forks ≡ self.old.forks) }
         ensures kept { (self.new.bytes ≡ self.old.bytes) × (self.new.reads ≡ self.old.reads) }
+        ensures others { self.new.other_calls ≡ sum_of_counts self.old.other_calls 1 }
         ensures cause { HasIoCause self.old.log.faults self.new.log.faults result }
         ensures fault { CountsIoFault self.old.log.faults self.new.log.faults result }
         ensures listed { IsErrOf result IoFault.Failed ↔ IsTrue (is_to_fail self.old.log) }
         ensures calls { self.new.log ≡ after_call self.old.log }
     {
+        self.other_calls = self.other_calls.saturating_add(1);
         self.calls.begin()?;
         let bytes = Arc::try_clone(&self.bytes)?;
         let fail = match self.forks.pop_front() {
@@ -128,6 +136,7 @@ impl Pool for MemPool {
             bytes,
             forks: VecDeque::new(alloc),
             reads: 0,
+            other_calls: 0,
             calls: Calls::new(fail),
         })
     }
@@ -135,7 +144,7 @@ impl Pool for MemPool {
     fn absorb(&mut self, other: MemPool)
         ensures faults { self.new.log ≡ record self.old.log { faults = sum_of_counts self.old.log.faults other.log.faults } }
         ensures reads { self.new.reads ≡ sum_of_counts self.old.reads other.reads }
-        ensures kept { (self.new.bytes ≡ self.old.bytes) × (self.new.forks ≡ self.old.forks) }
+        ensures kept { (self.new.bytes ≡ self.old.bytes) × (self.new.forks ≡ self.old.forks) × (self.new.other_calls ≡ self.old.other_calls) }
     {
         self.reads = self.reads.saturating_add(other.reads);
         self.calls.absorb(other.calls.faults());

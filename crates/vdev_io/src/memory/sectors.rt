@@ -27,12 +27,13 @@ pub struct SectorDisk {
     full: bool,
     faults: u64,
     reads: u64,
+    other_calls: u64,
 }
 
 impl Model for SectorDisk {
     ghost Value = { Disk };
 
-    ghost view = { λ disk. record { opening = disk.opening.items; calls = disk.journal.calls; tells = disk.tells; left = disk.journal.left; room = disk.journal.room; full = disk.full; faults = disk.faults; reads = disk.reads } };
+    ghost view = { λ disk. record { opening = disk.opening.items; calls = disk.journal.calls; tells = disk.tells; left = disk.journal.left; room = disk.journal.room; full = disk.full; faults = disk.faults; reads = disk.reads; other_calls = disk.other_calls } };
 
     ghost invariant = { λ disk. KeepsImages disk.opening.items disk.journal.calls disk.flushed.items disk.now.items };
 }
@@ -46,7 +47,7 @@ impl SectorDisk {
         stop_after: u64,
         room: u64,
     ) -> Result<SectorDisk, NoMemory>
-        ensures { IfOk result (λ disk. disk ≡ record { opening = bytes.items; calls = []; tells = true; left = stop_after; room = room; full = false; faults = 0; reads = 0 }) }
+        ensures { IfOk result (λ disk. disk ≡ record { opening = bytes.items; calls = []; tells = true; left = stop_after; room = room; full = false; faults = 0; reads = 0; other_calls = 0 }) }
     {
         let journal = Journal::new(alloc, stop_after, room)?;
         let flushed = bytes.to_vec(alloc)?;
@@ -60,6 +61,7 @@ impl SectorDisk {
             full: false,
             faults: 0,
             reads: 0,
+            other_calls: 0,
         })
     }
 
@@ -78,6 +80,7 @@ impl SectorDisk {
             full: _,
             faults: _,
             reads: _,
+            other_calls: _,
         } = self;
         put_back(&mut now, &flushed, &journal, kept);
         now
@@ -103,6 +106,19 @@ impl SectorDisk {
             return Err(Failed);
         }
         Ok(())
+    }
+
+    /// Counts a write, a flush or a fork, and lets it begin as any call.
+    fn begin_other(&mut self) -> Result<(), Failed>
+        ensures stopped { is_err result ≡ is_stopped self.old }
+        ensures begun { MatchResult result
+            (λ _. self.new ≡ record self.old { other_calls = sum_of_counts self.old.other_calls 1 })
+            (λ _. self.new ≡ record self.old { faults = sum_of_counts self.old.faults 1; other_calls = sum_of_counts self.old.other_calls 1 }) }
+        ensures cause { HasCause self.old.faults self.new.faults result }
+        ensures fault { CountsFault self.old.faults self.new.faults result }
+    {
+        self.other_calls = self.other_calls.saturating_add(1);
+        self.begin()
     }
 }
 
@@ -175,6 +191,8 @@ impl CacheDev for SectorDisk {
 
     ghost reads = { λ disk. disk.reads };
 
+    ghost other_calls = { λ disk. disk.other_calls };
+
     fn len(&self) -> u64 {
         self.now.len() as u64
     }
@@ -211,11 +229,11 @@ impl CacheDev for SectorDisk {
         ensures cause { HasCause self.old.faults self.new.faults result }
         ensures fault { CountsFault self.old.faults self.new.faults result }
         ensures stopped { is_err result ≡ (is_stopped self.old || nat_lt self.old.room (length bytes.now)) }
-        ensures recorded { OnOk result (self.new ≡ record self.old { calls = self.old.calls ++ Write offset bytes.now ∷ []; left = self.old.left - 1; room = self.old.room - length bytes.now }) }
-        ensures failed { OnErr result (self.new ≡ record self.old { full = self.new.full; faults = sum_of_counts self.old.faults 1 }) }
+        ensures recorded { OnOk result (self.new ≡ record self.old { calls = self.old.calls ++ Write offset bytes.now ∷ []; left = self.old.left - 1; room = self.old.room - length bytes.now; other_calls = sum_of_counts self.old.other_calls 1 }) }
+        ensures failed { OnErr result (self.new ≡ record self.old { full = self.new.full; faults = sum_of_counts self.old.faults 1; other_calls = sum_of_counts self.old.other_calls 1 }) }
         ensures full { OnErr result (is_stopped self.new ≡ true) }
     {
-        self.begin()?;
+        self.begin_other()?;
         if self.journal.room() < bytes.len() as u64 {
             self.full = true;
             self.faults = self.faults.saturating_add(1);
@@ -238,17 +256,17 @@ impl CacheDev for SectorDisk {
         ensures fault { CountsFault self.old.faults self.new.faults result }
         ensures stopped { is_err result ≡ is_stopped self.old }
         ensures recorded { MatchResult result
-            (λ _. self.new ≡ record self.old { calls = self.old.calls ++ Flush ∷ []; left = self.old.left - 1 })
-            (λ _. self.new ≡ record self.old { faults = sum_of_counts self.old.faults 1 }) }
+            (λ _. self.new ≡ record self.old { calls = self.old.calls ++ Flush ∷ []; left = self.old.left - 1; other_calls = sum_of_counts self.old.other_calls 1 })
+            (λ _. self.new ≡ record self.old { faults = sum_of_counts self.old.faults 1; other_calls = sum_of_counts self.old.other_calls 1 }) }
     {
-        self.begin()?;
+        self.begin_other()?;
         self.flushed.copy_from_slice(&self.now);
         self.journal.flush();
         Ok(())
     }
 
     fn fork(&mut self, alloc: Global) -> Result<SectorDisk, IoFault>
-        ensures fork { IfOk result (λ fork. fork ≡ record { opening = (images self.old).now; calls = []; tells = false; left = self.old.left; room = self.old.room; full = false; faults = 0; reads = 0 }) }
+        ensures fork { IfOk result (λ fork. fork ≡ record { opening = (images self.old).now; calls = []; tells = false; left = self.old.left; room = self.old.room; full = false; faults = 0; reads = 0; other_calls = 0 }) }
         ensures told { told_image self.new ≡ told_image self.old }
         ensures size { length (images self.new).now ≡ length (images self.old).now }
         ensures crash { LeavesSame (DiskMayLeave self.old) (DiskMayLeave self.new) }
@@ -256,10 +274,11 @@ impl CacheDev for SectorDisk {
         ensures cause { HasIoCause self.old.faults self.new.faults result }
         ensures fault { CountsIoFault self.old.faults self.new.faults result }
         ensures reads { self.new.reads ≡ self.old.reads }
+        ensures others { self.new.other_calls ≡ sum_of_counts self.old.other_calls 1 }
         ensures stopped { IsErrOf result IoFault.Failed ↔ IsTrue (is_stopped self.old) }
-        ensures only { OnOk result (self.new ≡ self.old) }
+        ensures only { OnOk result (self.new ≡ record self.old { other_calls = sum_of_counts self.old.other_calls 1 }) }
     {
-        self.begin()?;
+        self.begin_other()?;
         let bytes = self.now.to_vec(alloc)?;
         match SectorDisk::new(alloc, bytes, self.journal.left(), self.journal.room()) {
             Ok(fork) => Ok(fork.silent()),

@@ -14,4 +14,4 @@ returns-clause-calls g c =
     let d = g.D.CacheDev in
     let e = c.write.ensures in
     asked_once d (Write c.args.offset c.args.bytes.now) c.args.dev.now c.write.new.self c.write.result
-    (makes_write d c.args.offset c.args.bytes.now c.args.dev.now c.write.new.self c.write.result e.size e.kind e.told e.crash e.reads e.fault)
+    (makes_write d c.args.offset c.args.bytes.now c.args.dev.now c.write.new.self c.write.result e.size e.kind e.told e.crash e.reads e.others e.fault)

@@ -31,4 +31,4 @@ returns-clause-calls g c =
     let d = g.D.CacheDev in
     let e = c.flush.ensures in
     asked_behind d (Write c.args.offset c.args.bytes.now ∷ []) (Flush ∷ []) c.args.dev.now c.write_at.new.dev c.flush.new.self c.flush.result c.in_ok-write_at.ensures.calls
-    (asked_once d Flush c.write_at.new.dev c.flush.new.self c.flush.result (makes_flush d c.write_at.new.dev c.flush.new.self c.flush.result e.size e.kind e.told e.crash e.durable e.failed e.reads e.fault))
+    (asked_once d Flush c.write_at.new.dev c.flush.new.self c.flush.result (makes_flush d c.write_at.new.dev c.flush.new.self c.flush.result e.size e.kind e.told e.crash e.durable e.failed e.reads e.others e.fault))

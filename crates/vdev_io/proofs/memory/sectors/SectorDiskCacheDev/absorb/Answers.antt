@@ -15,5 +15,6 @@ returns-clause-time c =
       full = c.self.inside.full;
       faults = c.saturating_add-self-inside.result;
       reads = c.saturating_add-self-inside-2.result;
+      other_calls = c.self.inside.other_calls;
     } in
     stands-same c.args.self.now new (ap (λ (d : Disk). d.calls) (sym c.self.view_is)) (ap (λ (d : Disk). d.opening) (sym c.self.view_is))

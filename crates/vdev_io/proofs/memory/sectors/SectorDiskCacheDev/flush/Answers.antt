@@ -21,7 +21,7 @@ invariant_of-self c =
 
 pub returns-clause-durable : goal.returns-clause-durable
 returns-clause-durable c =
-    let e = c.self.view_is ∙ c.in_ok-begin.ensures.begun in
+    let e = c.self.view_is ∙ c.in_ok-begin_other.ensures.begun in
     let new : Disk = record {
       opening = c.self.inside.opening.items;
       calls = c.flush.new.self.calls;
@@ -31,6 +31,7 @@ returns-clause-durable c =
       full = c.self.inside.full;
       faults = c.self.inside.faults;
       reads = c.self.inside.reads;
+      other_calls = c.self.inside.other_calls;
     } in
     let r : Records c.args.self.now new Flush = record {
       opening = ap (λ (d : Disk). d.opening) e;
@@ -41,7 +42,7 @@ returns-clause-durable c =
 
 pub returns-clause-told : goal.returns-clause-told
 returns-clause-told c =
-    let e = c.self.view_is ∙ c.in_ok-begin.ensures.begun in
+    let e = c.self.view_is ∙ c.in_ok-begin_other.ensures.begun in
     let new : Disk = record {
       opening = c.self.inside.opening.items;
       calls = c.flush.new.self.calls;
@@ -51,6 +52,7 @@ returns-clause-told c =
       full = c.self.inside.full;
       faults = c.self.inside.faults;
       reads = c.self.inside.reads;
+      other_calls = c.self.inside.other_calls;
     } in
     let r : Records c.args.self.now new Flush = record {
       opening = ap (λ (d : Disk). d.opening) e;
@@ -61,7 +63,7 @@ returns-clause-told c =
 
 pub returns-clause-size : goal.returns-clause-size
 returns-clause-size c =
-    let e = c.self.view_is ∙ c.in_ok-begin.ensures.begun in
+    let e = c.self.view_is ∙ c.in_ok-begin_other.ensures.begun in
     let new : Disk = record {
       opening = c.self.inside.opening.items;
       calls = c.flush.new.self.calls;
@@ -71,6 +73,7 @@ returns-clause-size c =
       full = c.self.inside.full;
       faults = c.self.inside.faults;
       reads = c.self.inside.reads;
+      other_calls = c.self.inside.other_calls;
     } in
     let r : Records c.args.self.now new Flush = record {
       opening = ap (λ (d : Disk). d.opening) e;
@@ -81,7 +84,7 @@ returns-clause-size c =
 
 pub returns-clause-crash : goal.returns-clause-crash
 returns-clause-crash c =
-    let e = c.self.view_is ∙ c.in_ok-begin.ensures.begun in
+    let e = c.self.view_is ∙ c.in_ok-begin_other.ensures.begun in
     let new : Disk = record {
       opening = c.self.inside.opening.items;
       calls = c.flush.new.self.calls;
@@ -91,6 +94,7 @@ returns-clause-crash c =
       full = c.self.inside.full;
       faults = c.self.inside.faults;
       reads = c.self.inside.reads;
+      other_calls = c.self.inside.other_calls;
     } in
     let r : Records c.args.self.now new Flush = record {
       opening = ap (λ (d : Disk). d.opening) e;

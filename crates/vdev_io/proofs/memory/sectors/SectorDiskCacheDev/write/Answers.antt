@@ -8,13 +8,13 @@ use Rattle.vdev_io.proofs.memory.sectors.SectorDiskCacheDev.write.Goals as goal
 pub put_bytes-requires : goal.put_bytes-requires
 put_bytes-requires c =
     let same : images c.args.self.now ≡ record { flushed = c.self.inside.flushed.items; now = c.self.inside.now.items } =
-    ap images (sym (c.self.view_is ∙ c.in_ok-begin.ensures.begun)) ∙ c.self.invariant.images in
+    ap images (sym (c.self.view_is ∙ c.in_ok-begin_other.ensures.begun)) ∙ c.self.invariant.images in
     subst (λ (d : SectorImages). c.args.offset + length c.args.bytes.now ≤ length d.now) same c.requires.inside
 
 pub invariant_of-self-2 : goal.invariant_of-self-2
 invariant_of-self-2 c =
     let same : images c.args.self.now ≡ record { flushed = c.self.inside.flushed.items; now = c.self.inside.now.items } =
-    ap images (sym (c.self.view_is ∙ c.in_ok-begin.ensures.begun)) ∙ c.self.invariant.images in
+    ap images (sym (c.self.view_is ∙ c.in_ok-begin_other.ensures.begun)) ∙ c.self.invariant.images in
     let le : c.args.offset + length c.args.bytes.now ≤ length c.self.inside.now.items =
     subst (λ (d : SectorImages). c.args.offset + length c.args.bytes.now ≤ length d.now) same c.requires.inside in
     subst (λ (calls : List DiskCall). KeepsImages c.self.inside.opening.items calls c.self.inside.flushed.items c.put_bytes.new.image.items)
@@ -25,7 +25,7 @@ invariant_of-self-2 c =
 
 pub returns-clause-told : goal.returns-clause-told
 returns-clause-told c =
-    let e = c.self.view_is ∙ c.in_ok-begin.ensures.begun in
+    let e = c.self.view_is ∙ c.in_ok-begin_other.ensures.begun in
     let new : Disk = record {
       opening = c.self.inside.opening.items;
       calls = c.write.new.self.calls;
@@ -35,6 +35,7 @@ returns-clause-told c =
       full = c.self.inside.full;
       faults = c.self.inside.faults;
       reads = c.self.inside.reads;
+      other_calls = c.self.inside.other_calls;
     } in
     let r : Records c.args.self.now new (Write c.args.offset c.args.bytes.now) = record {
       opening = ap (λ (d : Disk). d.opening) e;
@@ -45,7 +46,7 @@ returns-clause-told c =
 
 pub returns-clause-size : goal.returns-clause-size
 returns-clause-size c =
-    let e = c.self.view_is ∙ c.in_ok-begin.ensures.begun in
+    let e = c.self.view_is ∙ c.in_ok-begin_other.ensures.begun in
     let new : Disk = record {
       opening = c.self.inside.opening.items;
       calls = c.write.new.self.calls;
@@ -55,6 +56,7 @@ returns-clause-size c =
       full = c.self.inside.full;
       faults = c.self.inside.faults;
       reads = c.self.inside.reads;
+      other_calls = c.self.inside.other_calls;
     } in
     let r : Records c.args.self.now new (Write c.args.offset c.args.bytes.now) = record {
       opening = ap (λ (d : Disk). d.opening) e;
@@ -65,7 +67,7 @@ returns-clause-size c =
 
 pub returns-clause-crash : goal.returns-clause-crash
 returns-clause-crash c =
-    let e = c.self.view_is ∙ c.in_ok-begin.ensures.begun in
+    let e = c.self.view_is ∙ c.in_ok-begin_other.ensures.begun in
     let new : Disk = record {
       opening = c.self.inside.opening.items;
       calls = c.write.new.self.calls;
@@ -75,6 +77,7 @@ returns-clause-crash c =
       full = c.self.inside.full;
       faults = c.self.inside.faults;
       reads = c.self.inside.reads;
+      other_calls = c.self.inside.other_calls;
     } in
     let r : Records c.args.self.now new (Write c.args.offset c.args.bytes.now) = record {
       opening = ap (λ (d : Disk). d.opening) e;
@@ -82,7 +85,7 @@ returns-clause-crash c =
       calls = ap (λ (r : Recording). r.calls) c.write.ensures ∙ ap (λ (d : Disk). d.calls ++ Write c.args.offset c.args.bytes.now ∷ []) e;
     } in
     let same : images c.args.self.now ≡ record { flushed = c.self.inside.flushed.items; now = c.self.inside.now.items } =
-    ap images (sym (c.self.view_is ∙ c.in_ok-begin.ensures.begun)) ∙ c.self.invariant.images in
+    ap images (sym (c.self.view_is ∙ c.in_ok-begin_other.ensures.begun)) ∙ c.self.invariant.images in
     let lens = kept_lens c.self.inside.opening.items c.self.inside.journal.calls c.self.inside.flushed.items c.self.inside.now.items c.self.invariant in
     crash-write c.args.self.now new c.args.offset c.args.bytes.now r
     (subst (λ (d : SectorImages). length d.flushed ≡ length d.now) (sym same) (lens.0 ∙ sym lens.1)) c.requires.inside
