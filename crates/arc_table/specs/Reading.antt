@@ -76,7 +76,7 @@ failed_at (unfetched.PoolFault) = failed.Pool
 failed_at (unfetched.Mismatch found) = failed.Pool
 failed_at (unfetched.NoMemory at) = at
 
--- the device has its length and its kind, tells the same, may leave the same at a crash, and counts no fewer faults
+-- the device has its length and its kind, tells the same, may leave the same at a crash, counts no fewer faults, and was asked for no write, no flush and no fork
 pub record KeepsDevice {D : Type 0} (device : DeviceGhosts D) (old new : D) : Type 0 where
   pub size : device.size new ≡ device.size old
   pub kind : device.has_sectors new ≡ device.has_sectors old
@@ -84,6 +84,7 @@ pub record KeepsDevice {D : Type 0} (device : DeviceGhosts D) (old new : D) : Ty
   pub crash : LeavesSame (device.may_leave old) (device.may_leave new)
   pub time : LeavesNothingNew (device.moment old) (device.moment new) (device.left_since old) (device.left_since new)
   pub faults : device.faults old ≤ device.faults new
+  pub others : device.other_calls new ≡ device.other_calls old
 
 module _ {P : Type 0} (pools : PoolGhosts P) where
   -- the pool was read once and gave these bytes, which are of the pointer: where it tells its bytes, they are those in the key's range

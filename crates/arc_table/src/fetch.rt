@@ -52,6 +52,7 @@ fn read_range<P: Pool>(alloc: Global, pool: &mut P, key: Key) -> Result<Vec<u8>,
     ensures kept { P.faults pool.old ≤ P.faults pool.new }
     ensures told { P.told pool.new ≡ P.told pool.old }
     ensures size_kept { P.size pool.new ≡ P.size pool.old }
+    ensures others { P.other_calls pool.new ≡ P.other_calls pool.old }
 {
     let Ok(mut bytes) = vec![in alloc; 0u8; key.size as usize] else {
         return Err(Unfetched::NoMemory {
@@ -77,6 +78,7 @@ fn read_pool<P: Pool>(alloc: Global, pool: &mut P, ptr: &Ptr) -> Result<Block, U
     ensures kept { P.faults pool.old ≤ P.faults pool.new }
     ensures told { P.told pool.new ≡ P.told pool.old }
     ensures size { P.size pool.new ≡ P.size pool.old }
+    ensures others { P.other_calls pool.new ≡ P.other_calls pool.old }
 {
     let block = Block::seal(read_range(alloc, pool, ptr.key)?);
     let found = block.digest();
@@ -234,6 +236,7 @@ impl<C: Keeps> Arcs<C> {
         ensures kept { P.faults pool.old ≤ P.faults pool.new }
         ensures told { P.told pool.new ≡ P.told pool.old }
         ensures size { P.size pool.new ≡ P.size pool.old }
+        ensures others { P.other_calls pool.new ≡ P.other_calls pool.old }
     {
         let _ = party;
         let block = read_pool(self.alloc, pool, ptr)?;
@@ -267,6 +270,7 @@ impl<C: Keeps> Arcs<C> {
         ensures kept { P.faults pool.old ≤ P.faults pool.new }
         ensures told { P.told pool.new ≡ P.told pool.old }
         ensures size { P.size pool.new ≡ P.size pool.old }
+        ensures others { P.other_calls pool.new ≡ P.other_calls pool.old }
         ensures keeps { KeepsDevice D.CacheDev cache.old cache.new }
     {
         let Ok(answer) = ask_cache(self.alloc, cache, ptr, found) else {

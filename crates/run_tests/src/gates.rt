@@ -49,6 +49,7 @@ struct Meeting<'a> {
     /// 1 once the gate has let the other caller begin
     open: &'a AtomicU64,
     reads: u64,
+    other_calls: u64,
     faults: u64,
 }
 
@@ -62,6 +63,7 @@ fn pool_with<'a>(forks: [First; 2], begun: &'a AtomicU64, open: &'a AtomicU64) -
         begun,
         open,
         reads: 0,
+        other_calls: 0,
         faults: 0,
     }
 }
@@ -97,6 +99,8 @@ impl Pool for Meeting<'_> {
 
     ghost reads = { λ pool. pool.reads };
 
+    ghost other_calls = { λ pool. pool.other_calls };
+
     fn len(&self) -> u64 {
         self.len
     }
@@ -112,10 +116,12 @@ impl Pool for Meeting<'_> {
     }
 
     fn write(&mut self, _offset: u64, _bytes: &[u8]) -> Result<(), IoFault> {
+        self.other_calls = self.other_calls.saturating_add(1);
         Err(IoFault::NoMemory)
     }
 
     fn fork(&mut self, _alloc: Global) -> Result<Self, IoFault> {
+        self.other_calls = self.other_calls.saturating_add(1);
         let first = if self.made < 2 {
             self.forks[self.made]
         } else {
@@ -130,6 +136,7 @@ impl Pool for Meeting<'_> {
             begun: self.begun,
             open: self.open,
             reads: 0,
+            other_calls: 0,
             faults: 0,
         })
     }

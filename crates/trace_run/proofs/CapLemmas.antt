@@ -39,7 +39,7 @@ module _ {C P : Type 0} (g : Config) (pools : Ghosts P) (blocks : List Ptr) (p q
     found = λ alone. tt;
     range = λ came. absurd came;
     calls = refl;
-    keeps = record { size = refl; told = refl; faults = omega arith };
+    keeps = record { size = refl; told = refl; faults = omega arith; others = refl };
   }
 
   pub capped-line : (op : Op) (reply : Reply) → (c : ℕ) × (op ≡ ops.Cap c) × (reply ≡ Capped c) × HasResized g c p q → DidLine g pools blocks op reply (at p kept a) (at q kept a)

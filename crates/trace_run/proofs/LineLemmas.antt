@@ -350,5 +350,5 @@ module _ {C P : Type 0} (g : Config) (pools : Ghosts P) (blocks : List Ptr) (p q
         found = λ alone. tt;
         range = λ came. told-all (pools.told a) (λ image. Unit {0}) (λ image. tt);
         calls = subst (λ (cs : List Call). MakesCalls pools cs a a) (sym calls) refl;
-        keeps = record { size = refl; told = refl; faults = omega arith };
+        keeps = record { size = refl; told = refl; faults = omega arith; others = refl };
       })

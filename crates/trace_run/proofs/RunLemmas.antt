@@ -24,7 +24,7 @@ calls-then {P} pool [] ds a b c first second = subst (λ (p : P). MakesCalls poo
 calls-then pool (call ∷ cs) ds a b c first second = (first.0, first.1, calls-then pool cs ds first.0 b c first.2 second)
 
 pub keeps-then : {P : Type 0} (pool : Ghosts P) (a b c : P) → KeepsPool pool a b → KeepsPool pool b c → KeepsPool pool a c
-keeps-then pool a b c first second = record { size = second.size ∙ first.size; told = second.told ∙ first.told; faults = omega (arith, first.faults, second.faults) }
+keeps-then pool a b c first second = record { size = second.size ∙ first.size; told = second.told ∙ first.told; faults = omega (arith, first.faults, second.faults); others = second.others ∙ first.others }
 
 pub calls-few-one : (e : Effect) → length (calls_of e) ≤ 1
 calls-few-one (Answered served.Hit) = omega arith

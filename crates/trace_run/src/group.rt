@@ -1,10 +1,9 @@
 //! The work of several callers at once, each by its own lines, with its own party and its own forks of the pool and of the cache device; and of the feeder
 //! beside them.
-ghost use Rattle.std.specs.Prelude.{All, ◌≡◌, ℕ, ◌<◌, ◌≤◌, ◌+◌, ◌^◌, ◌++◌, ◌∷◌, [], IfOk, IsErrOf, List, OnErr, OnOk, filter, length, map, vec_len};
+ghost use Rattle.std.specs.Prelude.{All, ◌≡◌, ℕ, suc, ◌<◌, ◌≤◌, ◌+◌, ◌^◌, ◌++◌, ◌∷◌, [], IfOk, IsErrOf, List, OnErr, OnOk, filter, length, map, vec_len};
 ghost use Rattle.std.specs.List.{AllByRecursion, AllZip};
-ghost use Rattle.vdev_io.specs.Calls.{KeepsPool};
 ghost use Rattle.trace_text.specs.declared.reply.Reply.{Reply};
-ghost use Rattle.vdev_io.specs.Faults.{CountsIoFault, Rose, last_count};
+ghost use Rattle.vdev_io.specs.Faults.{CountsIoFault, Rose, counted_more, last_count, sum_of_counts};
 ghost use Rattle.vdev_io.specs.declared.fault.IoFault.{IoFault};
 ghost use Rattle.dbuf_cells.specs.Turns.{dbuf_meanings};
 ghost use Rattle.trace_run.specs.Devices.{WasLent, lent_in};
@@ -73,8 +72,9 @@ fn absorb_all<P: Pool>(pool: &mut P, forks: Vec<P>)
 fn one_fork<P: Pool>(alloc: Global, pool: &mut P, forks: &mut Vec<P>) -> Result<(), IoFault>
     ensures made { OnOk result ((fork : P) × (forks.new.items ≡ forks.old.items ++ fork ∷ []) × IsFork P.Pool pool.old fork) }
     ensures none { OnErr result (forks.new.items ≡ forks.old.items) }
-    ensures pool { KeepsPool P.Pool pool.old pool.new }
+    ensures pool { LeavesPool P.Pool pool.old pool.new }
     ensures reads { P.reads pool.new ≡ P.reads pool.old }
+    ensures others { P.other_calls pool.new ≡ sum_of_counts (P.other_calls pool.old) 1 }
     ensures faults { CountsIoFault (P.faults pool.old) (P.faults pool.new) result }
 {
     let fork = pool.fork(alloc)?;
@@ -90,12 +90,13 @@ pub(crate) fn forks<P: Pool>(alloc: Global, pool: &mut P, callers: u32) -> Resul
     ensures forks { IfOk result (λ forks. AllByRecursion (IsFork P.Pool pool.new) forks.items) }
     ensures count { IfOk result (λ forks. vec_len forks ≡ callers) }
     ensures pool { LeavesPool P.Pool pool.old pool.new }
-    ensures keeps { OnOk result (KeepsPool P.Pool pool.old pool.new) }
+    ensures others { OnOk result (P.other_calls pool.new ≡ counted_more callers (P.other_calls pool.old)) }
     ensures unread { OnOk result (P.reads pool.new ≡ P.reads pool.old) }
     ensures reads { P.reads pool.old ≤ last_count → P.reads pool.new ≡ P.reads pool.old }
     ensures unfailed { OnOk result (P.faults pool.new ≡ P.faults pool.old) }
     ensures failed { IsErrOf result IoFault.Failed → P.faults pool.old < last_count → P.faults pool.new ≡ P.faults pool.old + 1 }
     ensures rose { IsErrOf result IoFault.Failed → Rose (P.faults pool.old) (P.faults pool.new) }
+    ensures made { OnErr result ((made : ℕ) × (made < callers) × (P.other_calls pool.new ≡ counted_more (suc made) (P.other_calls pool.old))) }
 {
     let mut forks = Vec::new(alloc);
     for _ in 0..callers {

@@ -13,15 +13,21 @@ use vdev_io::{Failed, IoFault, Pool};
 pub(crate) struct ZeroPool {
     len: u64,
     reads: u64,
+    other_calls: u64,
 }
 
 impl ZeroPool {
-    /// A pool of this length, which was not read yet.
+    /// A pool of this length, of which nothing was asked yet.
     pub(crate) fn new(len: u64) -> ZeroPool
         ensures len { result.len ≡ len }
         ensures reads { result.reads ≡ 0 }
+        ensures others { result.other_calls ≡ 0 }
     {
-        ZeroPool { len, reads: 0 }
+        ZeroPool {
+            len,
+            reads: 0,
+            other_calls: 0,
+        }
     }
 }
 
@@ -34,6 +40,8 @@ impl Pool for ZeroPool {
 
     ghost reads = { λ pool. pool.reads };
 
+    ghost other_calls = { λ pool. pool.other_calls };
+
     fn len(&self) -> u64 {
         self.len
     }
@@ -45,10 +53,12 @@ impl Pool for ZeroPool {
     }
 
     fn write(&mut self, _offset: u64, _bytes: &[u8]) -> Result<(), IoFault> {
+        self.other_calls = self.other_calls.saturating_add(1);
         Err(IoFault::NoMemory)
     }
 
     fn fork(&mut self, _alloc: Global) -> Result<ZeroPool, IoFault> {
+        self.other_calls = self.other_calls.saturating_add(1);
         Ok(ZeroPool::new(self.len))
     }
 

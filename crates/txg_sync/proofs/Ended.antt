@@ -71,6 +71,7 @@ module _ {P : Type 0} (pool : Ghosts P) (group next : ℕ) (before now : P) (g :
     turns = goes a.cells _ _ a.turns;
     told = a.told;
     outside = a.outside;
+    others = a.others;
     blocks = a.blocks;
     bytes = a.bytes;
     next_is = a.next_is;
@@ -85,8 +86,9 @@ module _ {P : Type 0} (pool : Ghosts P) (group next : ℕ) (before now : P) (g :
     turns = goes a.cells _ _ a.turns;
     told = a.told;
     outside = a.outside;
+    others = a.others;
   }
-  answers-so (Err fault.PoolFault) a = record { stops = stops-so _ _ a.stops; outside = a.outside }
+  answers-so (Err fault.PoolFault) a = record { stops = stops-so _ _ a.stops; outside = a.outside; others = a.others }
   answers-so (Err fault.NoMemory) a = record { outside = a.outside; stops = go a.stops }
     where
       go : RefusedFirst pool group next before now g One ⊎ RefusedAt pool group next before now g One → RefusedFirst pool group next before now g Two ⊎ RefusedAt pool group next before now g Two
@@ -135,6 +137,7 @@ module _ {P : Type 0} (pool : Ghosts P) (cache : Cache) (group tick next : ℕ) 
       turns = (refl, a.sync);
       told = a.told;
       outside = a.outside;
+      others = a.others;
       blocks = blocks;
       bytes = bytes ∙ (let e = a.behind in omega arith);
       next_is = behind ∙ a.behind;
@@ -142,7 +145,7 @@ module _ {P : Type 0} (pool : Ghosts P) (cache : Cache) (group tick next : ℕ) 
 
     -- or a write stopped
     pub dues-stopped : (why : IoFault) → AnswersDues pool cache group tick next cells nows dues before now p q (Err why) → AnswersWith pool group next before now cache.config InAll (Err (sync_fault_of why))
-    dues-stopped io.Failed a = record { stops = stops-at _ _ a.0; outside = a.1 }
+    dues-stopped io.Failed a = record { stops = stops-at _ _ a.0; outside = a.1.0; others = a.1.1 }
     dues-stopped io.NoMemory a = record { outside = a.1; stops = ⊎_elim (λ s. inr (inl (stops-at _ _ s))) (λ s. inr (inr (stops-at _ _ s))) a.0 }
 
   pub dues-may-give : (dues : List Due) (result : Result ℕ IoFault) → AnswersDues pool cache group tick next cells nows dues before now p q result → MayGiveAll cache nows q

@@ -1,5 +1,5 @@
 -- The blocks one after another: what is written so far, and what is left.
-use Rattle.std.proofs.Common.{◌≡◌, ◌≢◌, ◌==◌, ℕ, zero, suc, ◌+◌, ◌%◌, ◌<◌, ◌≤◌, Bool, true, false, ◌&&◌, List, [], ◌∷◌, ◌++◌, length, drop, slice_get, slice_index_or, slice_set, Option, Some, None, Ok, Err, refl, sym, ap, ◌∙◌, subst, inl, inr, ⊎_elim, eq-eqb, eqb-true, arith}
+use Rattle.std.proofs.Common.{◌≡◌, ◌≢◌, ◌==◌, ℕ, zero, suc, ◌+◌, ◌%◌, ◌<◌, ◌≤◌, Bool, true, false, ◌&&◌, List, [], ◌∷◌, ◌++◌, length, drop, slice_get, slice_index_or, slice_set, Option, Some, None, Ok, Err, refl, sym, ap, ◌∙◌, subst, inl, inr, ⊎_elim, eq-eqb, eqb-true, arith, length-append}
 use Rattle.std.specs.List.{AllByRecursion}
 use Rattle.std.specs.Option.{option_map_or}
 use Rattle.std.proofs.lemmas.List.{append-nil, append_assoc, length-set, get_or_default, get_or-set_same, get_or-set_other}
@@ -25,7 +25,7 @@ use Rattle.txg_sync.specs.declared.due.Due.{Due}
 use Rattle.txg_sync.proofs.Gathering.{apart-first, apart-rest}
 use Rattle.turn_table.specs.Board.{IsAmong}
 use Rattle.arc_table.specs.Geometry.{IsCell}
-use Rattle.vdev_io.specs.Faults.{CountsIoFault, CountsOne}
+use Rattle.vdev_io.specs.Faults.{CountsIoFault, CountsOne, counted_more, sum_of_counts}
 use Rattle.vdev_io.specs.declared.fault.IoFault.{IoFault}
 use Rattle.vdev_io.specs.declared.fault.IoFault.TheVariants as io
 use Rattle.dbuf_cells.specs.InHand.{IsRoomier}
@@ -33,6 +33,9 @@ use Rattle.txg_sync.proofs.Hand.{among-below, sync-more, sync-stopped}
 use Rattle.txg_sync.proofs.Steps.{Grows, looked-grows, looked-stays, Remains}
 
 -- ---- one block more at the end
+
+length-more : (dues : List Due) (due : Due) → length (dues ++ due ∷ []) ≡ suc (length dues)
+length-more dues due = let n = length-append dues (due ∷ []) in omega arith
 
 pub need-more : (cells : List OnHeap) (dues : List Due) (due : Due) → need_of cells (dues ++ due ∷ []) ≡ need_of cells dues + length (bytes_of_due cells due)
 need-more cells [] due = let b = length (bytes_of_due cells due) in let e : b + 0 ≡ 0 + b = omega arith in e
@@ -153,6 +156,7 @@ pub record HasWritten {P : Type 0} (pool : Ghosts P) (cache : Cache) (group tick
   pub sync : InSync cache tick cells nows p q (items_from group next cells done) Same
   pub told : pool.told now ≡ tells_written (items_from group next cells done) (pool.told before)
   pub outside : IsUnharmed pool before now
+  pub others : pool.other_calls now ≡ counted_more (length done) (pool.other_calls before)
   pub left : AreDueIn nows (drop index dues)
   pub apart : AreApart (drop index dues)
   pub same : AllByRecursion (λ due. bytes_of_due nows due ≡ bytes_of_due cells due) (drop index dues)
@@ -174,6 +178,7 @@ module _ {P : Type 0} (pool : Ghosts P) (cache : Cache) (group tick next : ℕ) 
     sync = record { reached = p; inserts = refl; besides = refl; holding = taken.holding; count = refl; cells = taken.cells };
     told = untouched (pool.told before);
     outside = record { size = refl; reads = refl; faults = refl };
+    others = refl;
     left = due;
     apart = apart;
     same = all-same cells dues;
@@ -199,9 +204,9 @@ module _ {P : Type 0} (pool : Ghosts P) (cache : Cache) (group tick next : ℕ) 
     item-here cell = item-there group place cells nows due cell first.inside bytes-first ∙ ap (λ (n : ℕ). at_place group n cells due) h.behind
 
     -- one more was written
-    pub writes-on : (a : AltersCell due.cell nows news (λ old new. WritesBlock cache.config group tick place due.cell due.at old new (pool.told now) (pool.told then) q r size)) → IsUnharmed pool now then
+    pub writes-on : (a : AltersCell due.cell nows news (λ old new. WritesBlock cache.config group tick place due.cell due.at old new (pool.told now) (pool.told then) q r size)) → IsUnharmed pool now then → pool.other_calls then ≡ sum_of_counts (pool.other_calls now) 1
         → HasWritten pool cache group tick next cells news dues (suc index) before then p r (place + size)
-    writes-on a unharmed = record {
+    writes-on a unharmed counted = record {
       done = h.done ++ due ∷ [];
       whole = h.whole ∙ (ap (λ (l : List Due). h.done ++ l) here ∙ sym (append_assoc h.done (due ∷ []) (drop (suc index) dues)));
       behind = ap (λ (n : ℕ). n + size) h.behind ∙ (ap (λ (n : ℕ). (next + need_of cells h.done) + n) sized ∙ (let e : (next + need_of cells h.done) + length (bytes_of_due cells due) ≡ next + (need_of cells h.done + length (bytes_of_due cells due)) = omega arith in e)
@@ -215,6 +220,7 @@ module _ {P : Type 0} (pool : Ghosts P) (cache : Cache) (group tick next : ℕ) 
           ∙ (sym (told-more (items_from group next cells h.done) (at_place group (next + need_of cells h.done) cells due) (pool.told before))
           ∙ ap (λ (zs : List SyncItem). tells_written zs (pool.told before)) (sym (items-more group next cells h.done due)))));
       outside = record { size = unharmed.size ∙ h.outside.size; reads = unharmed.reads ∙ h.outside.reads; faults = unharmed.faults ∙ h.outside.faults };
+      others = counted ∙ (ap (λ (n : ℕ). sum_of_counts n 1) h.others ∙ ap (λ (n : ℕ). counted_more n (pool.other_calls before)) (sym (length-more h.done due)));
       left = dues-still nows news due a.cell first.inside a.news_are f (λ d. refl) dbufs-are (drop (suc index) dues) apart-here (subst (AreDueIn nows) here h.left).1;
       apart = apart-rest due (drop (suc index) dues) (subst AreApart here h.apart);
       same = bytes-still nows news due a.cell first.inside a.news_are f (λ d. refl) dbufs-are cells (drop (suc index) dues) apart-here (subst (AreDueIn nows) here h.left).1 (subst (AllByRecursion (λ d. bytes_of_due nows d ≡ bytes_of_due cells d)) here h.same).1;
@@ -273,12 +279,14 @@ module _ {P : Type 0} (pool : Ghosts P) (cache : Cache) (group tick next : ℕ) 
       none-grows e j in_range among = subst (Grows j [] q) (sym e) record { recorded = refl; listed = refl }
 
       pub stops-here : (why : IoFault) → RefusesBlock cache.config (item_in group place due.cell due.at (slice_index_or nows due.cell a-cell).value) (pool.told now) (pool.told then) q r why
-          → pool.size then ≡ pool.size now → pool.reads then ≡ pool.reads now → CountsIoFault {T = ℕ} (pool.faults now) (pool.faults then) (Err why) → AnswersDues pool cache group tick next cells news dues before then p r (Err why)
-      stops-here io.Failed f size reads counts = (
+          → pool.size then ≡ pool.size now → pool.reads then ≡ pool.reads now → CountsIoFault {T = ℕ} (pool.faults now) (pool.faults then) (Err why)
+          → (why ≡ io.Failed → pool.other_calls then ≡ sum_of_counts (pool.other_calls now) 1) → AnswersDues pool cache group tick next cells news dues before then p r (Err why)
+      stops-here io.Failed f size reads counts asked = (
         stopped (λ x old. TellsTorn x old (pool.told then)) (λ x. Same) (none-stays f.0) (none-grows f.0) f.0 f.1,
         record { size = size ∙ h.outside.size; reads = reads ∙ h.outside.reads; faults = subst (λ (n : ℕ). CountsOne n (pool.faults then)) h.outside.faults counts },
+        asked refl ∙ ap (λ (n : ℕ). sum_of_counts n 1) h.others,
       )
-      stops-here io.NoMemory f size reads counts = (
+      stops-here io.NoMemory f size reads counts asked = (
         ⊎_elim (λ e. inl (stopped (λ x old. pool.told then ≡ old) (λ x. Same) (none-stays e.0) (none-grows e.0) e.0 e.1))
             (λ e. inr (stopped (λ x old. pool.told then ≡ tells_written (x ∷ []) old) (Looked cache.config) (looked-stays cache p (length cells) q r h.sync.holding _ e.0) (λ j in_range among. looked-grows cache p (length cells) q r h.sync.holding _ e.0 j in_range among) e.0 e.1)) f,
         record { size = size ∙ h.outside.size; reads = reads ∙ h.outside.reads; faults = counts ∙ h.outside.faults },
@@ -293,4 +301,5 @@ module _ {P : Type 0} (pool : Ghosts P) (cache : Cache) (group tick next : ℕ) 
         sync = subst (λ (ds : List Due). InSync cache tick cells nows p q (items_from group next cells ds) Same) whole h.sync;
         told = h.told ∙ ap (λ (ds : List Due). tells_written (items_from group next cells ds) (pool.told before)) whole;
         outside = h.outside;
+        others = h.others ∙ ap (λ (ds : List Due). counted_more (length ds) (pool.other_calls before)) whole;
       }

@@ -1,9 +1,9 @@
 -- What `sync` answers.
-use Rattle.std.specs.Prelude.{◌≡◌, ◌⊎◌, ℕ, ◌+◌, ◌-◌, ◌<◌, ◌≤◌, List, [], ◌∷◌, ◌++◌, length, Option, None, Some, Result, Ok, Err, IsPermutation, IsSortedBy}
+use Rattle.std.specs.Prelude.{◌≡◌, ◌⊎◌, ℕ, suc, ◌+◌, ◌-◌, ◌<◌, ◌≤◌, List, [], ◌∷◌, ◌++◌, length, Option, None, Some, Result, Ok, Err, IsPermutation, IsSortedBy}
 use Rattle.std.specs.List.{AllByRecursion}
 use Rattle.blk_ptr.specs.Size.{IsBlockSize}
 use Rattle.vdev_io.specs.Device.{IsTorn}
-use Rattle.vdev_io.specs.Faults.{CountsOne}
+use Rattle.vdev_io.specs.Faults.{CountsOne, counted_more}
 use Rattle.vdev_io.specs.declared.pool.Pool.{Ghosts}
 use Rattle.arc_core.specs.declared.config.Config.{Config}
 use Rattle.arc_table.specs.Both.{Does}
@@ -65,6 +65,8 @@ module _ {P : Type 0} (pool : Ghosts P) (group next : ℕ) (before now : P) (g :
     pub turns : Turns cells (items_from group next cells dues) Same
     pub told : pool.told now ≡ tells_written (items_from group next cells dues) (pool.told before)
     pub outside : IsUnharmed pool before now
+    -- it was asked for a write of each, and for nothing else
+    pub others : pool.other_calls now ≡ counted_more (length dues) (pool.other_calls before)
     pub blocks : done.blocks ≡ length dues
     pub bytes : done.bytes ≡ need_of cells dues
     pub next_is : done.next ≡ next + need_of cells dues
@@ -80,6 +82,7 @@ module _ {P : Type 0} (pool : Ghosts P) (group next : ℕ) (before now : P) (g :
     pub turns : Turns cells [] Same
     pub told : pool.told now ≡ pool.told before
     pub outside : IsUnharmed pool before now
+    pub others : pool.other_calls now ≡ pool.other_calls before
 
   -- A stop at one of them: those before it were written and are clean, it and those behind it are dirty as before. What the pool tells is `Told` of the one
   -- in hand, and of what the pool told once those before it were written.
@@ -97,6 +100,8 @@ module _ {P : Type 0} (pool : Ghosts P) (group next : ℕ) (before now : P) (g :
   pub record FailsAt : Type 0 where
     pub stops : StopsAt (λ x old. TellsTorn x old (pool.told now)) (λ x. Same)
     pub outside : HasFailedOnce pool before now
+    -- it was asked for a write of each block before it, and of it, and for nothing else
+    pub others : pool.other_calls now ≡ counted_more (suc (length stops.done)) (pool.other_calls before)
 
   -- NoMemory before one was reached
   pub record RefusedFirst : Type 0 where

@@ -1,8 +1,9 @@
 -- What the write of one block does, with its cell in hand.
-use Rattle.std.specs.Prelude.{◌≡◌, ◌⊎◌, ℕ, ◌+◌, false, List, [], ◌∷◌, ◌++◌, length, slice_index_or, slice_set, Option, Result, Ok, Err}
+use Rattle.std.specs.Prelude.{◌≡◌, ◌⊎◌, ℕ, suc, ◌+◌, false, List, [], ◌∷◌, ◌++◌, length, slice_index_or, slice_set, Option, Result, Ok, Err}
 use Rattle.std.specs.List.{AllByRecursion}
 use Rattle.blk_ptr.specs.Ptr.{sha256_of}
 use Rattle.blk_ptr.specs.declared.ptr.Ptr.{Ptr}
+use Rattle.vdev_io.specs.Faults.{counted_more}
 use Rattle.vdev_io.specs.declared.pool.Pool.{Ghosts}
 use Rattle.vdev_io.specs.declared.fault.IoFault.{IoFault}
 use Rattle.vdev_io.specs.declared.fault.IoFault.TheVariants as io
@@ -90,6 +91,7 @@ module _ {P : Type 0} (pool : Ghosts P) (cache : Cache) (group tick next : ℕ) 
     pub sync : InSync cache tick cells nows p q (items_from group next cells dues) Same
     pub told : pool.told now ≡ tells_written (items_from group next cells dues) (pool.told before)
     pub outside : IsUnharmed pool before now
+    pub others : pool.other_calls now ≡ counted_more (length dues) (pool.other_calls before)
 
   -- those before one were, and that one was not
   pub record StopsIn (Told : SyncItem → Option (List ℕ) → Type 0) (Besides : SyncItem → PartyPlace → PartyPlace → Type 0) : Type 0 where
@@ -102,5 +104,5 @@ module _ {P : Type 0} (pool : Ghosts P) (cache : Cache) (group tick next : ℕ) 
 
   abbrev pub AnswersDues : Result ℕ IoFault → Type 0
   AnswersDues (Ok place) = WritesDues place
-  AnswersDues (Err io.Failed) = StopsIn (λ x old. TellsTorn x old (pool.told now)) (λ x. Same) × HasFailedOnce pool before now
+  AnswersDues (Err io.Failed) = (stops : StopsIn (λ x old. TellsTorn x old (pool.told now)) (λ x. Same)) × HasFailedOnce pool before now × (pool.other_calls now ≡ counted_more (suc (length stops.done)) (pool.other_calls before))
   AnswersDues (Err io.NoMemory) = (StopsIn (λ x old. pool.told now ≡ old) (λ x. Same) ⊎ StopsIn (λ x old. pool.told now ≡ tells_written (x ∷ []) old) (Looked cache.config)) × IsUnharmed pool before now

@@ -1,9 +1,9 @@
 //! One block is written: to the pool first, then into the cache, and then its cell notes it (`dbuf_sync_leaf` and `dbuf_write_done` of OpenZFS's `dbuf.c`).
-ghost use Rattle.std.specs.Prelude.{◌≡◌, ◌+◌, ◌<◌, ◌≤◌, ◌%◌, [], IfOk, IsTrue, OnErr, OnOk, length};
+ghost use Rattle.std.specs.Prelude.{◌≡◌, ◌+◌, ◌<◌, ◌≤◌, ◌%◌, [], IfOk, IsErrOf, IsTrue, OnErr, OnOk, length};
 ghost use Rattle.blk_ptr.specs.Key.{is_well_formed};
 ghost use Rattle.blk_ptr.specs.Size.{IsBlockSize, sector};
 ghost use Rattle.turn_table.specs.Board.{IsAmong};
-ghost use Rattle.vdev_io.specs.Faults.{CountsIoFault};
+ghost use Rattle.vdev_io.specs.Faults.{CountsIoFault, sum_of_counts};
 ghost use Rattle.arc_table.specs.Both.{Does};
 ghost use Rattle.arc_table.specs.Cache.{IsPartyOf};
 ghost use Rattle.arc_table.specs.Geometry.{IsCell};
@@ -88,6 +88,8 @@ fn write_block<P: Pool>(
     ensures answer { AnswersBlock arcs.now.config group tick place i at cell.old cell.new (P.told pool.old) (P.told pool.new) party.old party.new result }
     ensures size { P.size pool.new ≡ P.size pool.old }
     ensures reads { P.reads pool.new ≡ P.reads pool.old }
+    ensures wrote { OnOk result (P.other_calls pool.new ≡ sum_of_counts (P.other_calls pool.old) 1) }
+    ensures failed { IsErrOf result IoFault.Failed → P.other_calls pool.new ≡ sum_of_counts (P.other_calls pool.old) 1 }
     ensures fault { CountsIoFault (P.faults pool.old) (P.faults pool.new) result }
 {
     told(cell);
@@ -140,6 +142,8 @@ pub(crate) fn write_due<P: Pool>(
     ensures answer { AltersCell due.cell cells.old cells.new (λ old new. AnswersBlock arcs.now.config group tick place due.cell due.at old new (P.told pool.old) (P.told pool.new) party.old party.new result) }
     ensures size { P.size pool.new ≡ P.size pool.old }
     ensures reads { P.reads pool.new ≡ P.reads pool.old }
+    ensures wrote { OnOk result (P.other_calls pool.new ≡ sum_of_counts (P.other_calls pool.old) 1) }
+    ensures failed { IsErrOf result IoFault.Failed → P.other_calls pool.new ≡ sum_of_counts (P.other_calls pool.old) 1 }
     ensures fault { CountsIoFault (P.faults pool.old) (P.faults pool.new) result }
 {
     let cell: &mut Cell<Kept> = &mut cells[due.cell as usize];

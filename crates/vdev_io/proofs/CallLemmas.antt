@@ -1,11 +1,11 @@
 -- The calls of a device, from the clauses of its trait, and one list of calls behind another.
-use Rattle.std.proofs.Common.{◌≡◌, ℕ, List, [], ◌∷◌, ◌++◌, length, map, Option, None, Some, Result, Ok, Err, refl, sym, ap, subst, ◌∙◌, append_assoc}
+use Rattle.std.proofs.Common.{◌≡◌, ℕ, List, [], ◌∷◌, ◌++◌, map, Option, None, Some, Result, Ok, Err, refl, sym, ap, subst, ◌∙◌, append_assoc}
 use Rattle.std.specs.Prelude.{Bool, IfSome, IsTrue, OnErr, OnOk}
 use Rattle.std.proofs.lemmas.List.{map-append}
 use Rattle.vdev_io.specs.declared.device.CacheDev.{Ghosts as DeviceGhosts}
 use Rattle.vdev_io.specs.Device.{FollowsBySector, IsWritten, LeavesNoMore, LeavesOnly, LeavesSame}
 use Rattle.vdev_io.specs.Faults.{CountsFault, CountsOne, sum_of_counts}
-use Rattle.vdev_io.specs.Calls.{Call, Gave, Failed, answer_of, CountsCall, Asked, Read, Write, Flush, DeviceCall, answered, IsToldAfter, LeavesAfter, MakesDeviceCall, MakesDeviceCalls, MakesAll, MakesUpTo, MakesAsked}
+use Rattle.vdev_io.specs.Calls.{Call, Gave, Failed, answer_of, CountsCall, Asked, Read, Write, Flush, DeviceCall, answered, IsToldAfter, LeavesAfter, MakesDeviceCalls, MakesAll, MakesUpTo, MakesAsked}
 
 counts_call : {T E : Type 0} (before now : ℕ) (result : Result T E) → CountsFault before now result → CountsCall (answer_of result) before now
 counts_call before now (Ok value) counts = counts

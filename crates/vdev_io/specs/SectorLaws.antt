@@ -1,6 +1,6 @@
 -- That the disk of sectors keeps what is asked of a cache device: what a write, a flush and the passing of time do to
 -- what a crash of it may leave.
-use Rattle.std.proofs.Common.{◌≡◌, ℕ, ◌+◌, ◌-◌, ◌*◌, ◌/◌, ◌<◌, ◌≤◌, ◌⊎◌, inr, List, [], ◌∷◌, ◌++◌, length, take, refl, sym, subst, ◌∙◌, arith}
+use Rattle.std.proofs.Common.{◌≡◌, ℕ, ◌≤◌, inr, List, length, take, refl, sym, subst, arith}
 use Rattle.std.proofs.lemmas.List.{take_all}
 use Rattle.vdev_io.specs.SectorDisk.{DiskCall, SectorImages, after_calls, IsCrash, MayHaveLeft}
 

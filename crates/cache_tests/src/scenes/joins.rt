@@ -37,6 +37,7 @@ struct Slow<'a> {
     // 1 once a read has begun, and 2 once the other caller is about to ask
     stage: &'a AtomicU64,
     reads: u64,
+    other_calls: u64,
 }
 
 impl Pool for Slow<'_> {
@@ -47,6 +48,8 @@ impl Pool for Slow<'_> {
     ghost faults = { λ _. 0 };
 
     ghost reads = { λ pool. pool.reads };
+
+    ghost other_calls = { λ pool. pool.other_calls };
 
     fn len(&self) -> u64 {
         self.len
@@ -64,10 +67,12 @@ impl Pool for Slow<'_> {
     }
 
     fn write(&mut self, _offset: u64, _bytes: &[u8]) -> Result<(), IoFault> {
+        self.other_calls = self.other_calls.saturating_add(1);
         Err(IoFault::NoMemory)
     }
 
     fn fork(&mut self, _alloc: Global) -> Result<Self, IoFault> {
+        self.other_calls = self.other_calls.saturating_add(1);
         Err(IoFault::NoMemory)
     }
 
@@ -91,6 +96,7 @@ fn reads_of<R: Wait>(
         len: 6144,
         stage,
         reads: 0,
+        other_calls: 0,
     };
     let answer = served(
         rt,

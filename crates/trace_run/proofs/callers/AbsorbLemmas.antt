@@ -5,7 +5,6 @@ use Rattle.std.specs.List.{AllByRecursion}
 use Rattle.std.proofs.lemmas.List.Sums.{sum_by-cons}
 use Rattle.vdev_io.specs.declared.pool.Pool.{Ghosts}
 use Rattle.vdev_io.specs.Faults.{last_count, sum_of_counts}
-use Rattle.vdev_io.specs.Calls.{KeepsPool}
 use Rattle.trace_run.specs.callers.Callers.{Absorbs, AbsorbsAll}
 use Rattle.trace_run.specs.callers.Group.{IsFork, LeavesPool}
 use Rattle.trace_run.specs.callers.Together.{over_callers}
@@ -28,26 +27,34 @@ module _ {P : Type 0} (pools : Ghosts P) where
         faults = omega (arith, one.faults, rest.faults);
       }
 
-  pub kept-leaves : (a b c : P) → KeepsPool pools a b → LeavesPool pools b c → LeavesPool pools a c
-  kept-leaves a b c first second = record {
+  pub leaves-then : (a b c : P) → LeavesPool pools a b → LeavesPool pools b c → LeavesPool pools a c
+  leaves-then a b c first second = record {
     size = second.size ∙ first.size;
     told = second.told ∙ first.told;
     faults = omega (arith, first.faults, second.faults);
   }
 
+  pub leaves-same : (a : P) → LeavesPool pools a a
+  leaves-same a = record { size = refl; told = refl; faults = omega arith }
+
+  -- what it counts of other calls is no fork's
+  pub absorbed-others : (forks : List P) (old new : P) → AbsorbsAll pools forks old new → pools.other_calls new ≡ pools.other_calls old
+  absorbed-others [] old new is = ap pools.other_calls is
+  absorbed-others (fork ∷ forks) old new did = absorbed-others forks did.0 new did.2 ∙ did.1.others
+
   -- forks of a pool are forks of it as it is later
-  pub forks-moved : (old new : P) → KeepsPool pools old new → (forks : List P) → AllByRecursion (IsFork pools old) forks → AllByRecursion (IsFork pools new) forks
+  pub forks-moved : (old new : P) → LeavesPool pools old new → (forks : List P) → AllByRecursion (IsFork pools old) forks → AllByRecursion (IsFork pools new) forks
   forks-moved old new keeps [] all = tt
   forks-moved old new keeps (fork ∷ forks) all =
       let one = all.0 in
-      (record { size = one.size ∙ sym keeps.size; told = one.told ∙ sym keeps.told; reads = one.reads; faults = one.faults }, forks-moved old new keeps forks all.1)
+      (record { size = one.size ∙ sym keeps.size; told = one.told ∙ sym keeps.told; reads = one.reads; faults = one.faults; others = one.others }, forks-moved old new keeps forks all.1)
 
   -- one fork more
-  pub fresh-then : (old now : P) → KeepsPool pools old now → (forks : List P) (fork : P) (more : List P) → more ≡ forks ++ fork ∷ [] → AllByRecursion (IsFork pools old) forks → IsFork pools now fork → AllByRecursion (IsFork pools old) more
+  pub fresh-then : (old now : P) → LeavesPool pools old now → (forks : List P) (fork : P) (more : List P) → more ≡ forks ++ fork ∷ [] → AllByRecursion (IsFork pools old) forks → IsFork pools now fork → AllByRecursion (IsFork pools old) more
   fresh-then old now keeps forks fork more is all one = subst (AllByRecursion (IsFork pools old)) (sym is) (both forks all)
     where
       both : (fs : List P) → AllByRecursion (IsFork pools old) fs → AllByRecursion (IsFork pools old) (fs ++ fork ∷ [])
-      both [] have = (record { size = one.size ∙ keeps.size; told = one.told ∙ keeps.told; reads = one.reads; faults = one.faults }, tt)
+      both [] have = (record { size = one.size ∙ keeps.size; told = one.told ∙ keeps.told; reads = one.reads; faults = one.faults; others = one.others }, tt)
       both (f ∷ fs) have = (have.0, both fs have.1)
 
   -- ---- what it counts

@@ -30,7 +30,8 @@ use Rattle.trace_run.specs.dbufs.Objects.{Line, Work, no_work}
 use Rattle.trace_run.specs.Openings.{Knows, openings_of}
 use Rattle.trace_run.specs.RunWork.{RunWork}
 use Rattle.trace_run.specs.Syncing.{SyncedJoined, SyncsJoined, inserts_in, lines_of, noted_of}
-use Rattle.trace_run.specs.callers.Group.{LeavesFront}
+use Rattle.trace_run.specs.callers.Group.{LeavesFront, LeavesPool}
+use Rattle.vdev_io.specs.Faults.{counted_more}
 use Rattle.trace_run.specs.callers.Groups.{DidCap, DidEndLine, DidSync, EndsLines, MaySync, StoodSo, TellsSync, goes_on}
 use Rattle.trace_run.specs.callers.Together.{EndsGroup, BetweenGroups, OfCells, StoppedAt, StopsSync, SyncsGroup, groups_begun, groups_done}
 use Rattle.trace_run.proofs.callers.EndedLemmas.{EndsSo, JoinedCell, MadeWork, StopsSo, cap-ends, with_stop}
@@ -39,12 +40,18 @@ use Rattle.trace_run.proofs.callers.GroupLists.{slice-there}
 use Rattle.trace_run.proofs.syncs.SyncTold.{noted-there}
 use Rattle.trace_run.proofs.syncs.SyncTurned.{AreToldOf, more-acts, more-noted, none-own, sync-of, sync-stood, sync_work, work-fits}
 
--- The pool is as it was, and has counted nothing since.
-pub record IsUnused {P : Type 0} (pools : Ghosts P) (old now : P) : Type 0 where
+-- The pool is as it was, and has counted nothing since but one fork for each caller.
+pub record IsUnused {P : Type 0} (pools : Ghosts P) (callers : ℕ) (old now : P) : Type 0 where
   pub size : pools.size now ≡ pools.size old
   pub told : pools.told now ≡ pools.told old
   pub reads : pools.reads now ≡ pools.reads old
   pub faults : pools.faults now ≡ pools.faults old
+  pub others : pools.other_calls now ≡ counted_more callers (pools.other_calls old)
+
+pub unused-by : {P : Type 0} (pools : Ghosts P) (g h : Config) (old now : P) → g ≡ h → LeavesPool pools old now → pools.reads now ≡ pools.reads old → pools.faults now ≡ pools.faults old
+    → pools.other_calls now ≡ counted_more h.callers (pools.other_calls old) → IsUnused pools g.callers old now
+unused-by pools g h old now same leaves reads faults others =
+    record { size = leaves.size; told = leaves.told; reads = reads; faults = faults; others = others ∙ ap (λ (x : Config). counted_more x.callers (pools.other_calls old)) (sym same) }
 
 -- just these cells and these blocks, which are this work
 abbrev pub JustThese : Work → List OnHeap → List SyncItem → OfCells

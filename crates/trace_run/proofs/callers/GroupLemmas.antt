@@ -31,7 +31,7 @@ use Rattle.trace_run.specs.dbufs.Objects.{Line}
 use Rattle.trace_run.specs.one_caller.OverShards.{AreNamed}
 use Rattle.trace_run.specs.Tally.{AreAnswered}
 use Rattle.trace_run.specs.callers.Together.{over_callers}
-use Rattle.trace_run.proofs.callers.AbsorbLemmas.{absorbed-leaves, over-sum, sum-of-faults, sum-of-reads}
+use Rattle.trace_run.proofs.callers.AbsorbLemmas.{absorbed-leaves, absorbed-others, over-sum, sum-of-faults, sum-of-reads}
 
 -- ---- lists, place by place
 
@@ -294,6 +294,7 @@ module _ {C P D : Type 0} (cache : Cache) (pools : Ghosts P) (devices : DeviceGh
           };
       reads = λ some. sum-of-reads pools dones old new absorbs (omega (arith, some, long)) ∙ ap (sum_of_counts (pools.reads old)) (sym all_reads);
       faults = λ some. sum-of-faults pools dones old new absorbs (omega (arith, some, long)) ∙ ap (sum_of_counts (pools.faults old)) (sym all_faults);
+      others = absorbed-others pools dones old new absorbs;
       keeps = absorbed-leaves pools dones old new absorbs;
     };
     asked = asked-each 0 olds news rss tried came.replied own (λ k m is. let same : m ≡ k = omega (arith, is) in ap own same);

@@ -187,6 +187,7 @@ module _ {P D : Type 0} (m : Meanings OnHeap) (cache : Cache) (pools : Ghosts P)
         each = λ n lt. subst (λ (ls : List Line). WorkedAt cache pools blocks n (w.forks n) (w.done n) ls had ps kept qs) (sym (are n lt)) (w.each n lt);
         reads = w.reads;
         faults = w.faults;
+        others = w.others;
         keeps = w.keeps;
       }
 

@@ -45,12 +45,12 @@ use Rattle.trace_run.specs.Tally.{AreDeclared}
 use Rattle.trace_run.specs.callers.Beside.{WorksBeside}
 use Rattle.trace_run.specs.callers.DeviceForks.{HaveRead, UsedAtOnce, UsedInGroups}
 use Rattle.trace_run.specs.callers.Group.{AllWorked, HaveWorked, LeavesFront, LeavesPool}
-use Rattle.trace_run.specs.callers.Groups.{AreBetween, AreDone, DidEndLine, DidLinesOfAll, DidLinesAtOnce, ForkFailed, HaveCome, HaveCounted, HaveReached, KeepNothing, MaySync, StepsOn, StoodSo, goes_on, stopped_line}
+use Rattle.trace_run.specs.callers.Groups.{AreBetween, AreDone, DidEndLine, DidLinesOfAll, DidLinesAtOnce, HaveCome, HaveCounted, HaveReached, KeepNothing, MaySync, StepsOn, StoodSo, goes_on, stopped_line}
 use Rattle.trace_run.specs.callers.InOrder.{AreInGroup}
 use Rattle.trace_run.specs.callers.Looking.{HaveLooked}
-use Rattle.trace_run.specs.callers.Together.{BeginsGroup, EndsGroup, GroupLines, IsFirstPlace, OfCells, BetweenGroups, ToldAsBegun, WorkAtOnce, WorkInGroups, between_groups, ends_group, groups_done, groups_of, over_callers, IsCutLast, lines_with_end, with_first}
+use Rattle.trace_run.specs.callers.Together.{BeginsGroup, EndsGroup, GroupLines, IsFirstPlace, OfCells, BetweenGroups, ToldAsBegun, WorkAtOnce, WorkInGroups, between_groups, ends_group, groups_done, groups_of, over_callers, IsCutLast, lines_with_end, with_first, ForkFailed}
 use Rattle.trace_run.specs.callers.WorkLines.{HasFront, calls_of_lines, noted_of_work}
-use Rattle.trace_run.proofs.callers.AbsorbLemmas.{over-few}
+use Rattle.trace_run.proofs.callers.AbsorbLemmas.{leaves-then, over-few}
 use Rattle.trace_run.proofs.callers.BesideLemmas.{fed-idle}
 use Rattle.trace_run.proofs.callers.CallerActLemmas.{line-kind}
 use Rattle.trace_run.proofs.callers.EndLineLemmas.{Halted, IsUnused, Turned, end-halted, end-turned}
@@ -112,18 +112,12 @@ module _ (ls ms : List Line) (callers : ℕ) where
 
 -- ---- the pool
 
-pub leaves-same : {P : Type 0} (pools : Ghosts P) (a : P) → LeavesPool pools a a
-leaves-same pools a = record { size = refl; told = refl; faults = omega arith }
-
-pub leaves-then : {P : Type 0} (pools : Ghosts P) (a b c : P) → LeavesPool pools a b → LeavesPool pools b c → LeavesPool pools a c
-leaves-then pools a b c first second = record { size = second.size ∙ first.size; told = second.told ∙ first.told; faults = omega (arith, first.faults, second.faults) }
-
-pub unused-leaves : {P : Type 0} (pools : Ghosts P) (a b c : P) → IsUnused pools a b → LeavesPool pools b c → LeavesPool pools a c
-unused-leaves pools a b c first second = record { size = second.size ∙ first.size; told = second.told ∙ first.told; faults = omega (arith, first.faults, second.faults) }
+pub unused-leaves : {P : Type 0} (pools : Ghosts P) (callers : ℕ) (a b c : P) → IsUnused pools callers a b → LeavesPool pools b c → LeavesPool pools a c
+unused-leaves pools callers a b c first second = record { size = second.size ∙ first.size; told = second.told ∙ first.told; faults = omega (arith, first.faults, second.faults) }
 
 -- What callers who worked at once did to the pool. It was the same before their forks were made.
 module _ {P : Type 0} (cache : Cache) (pools : Ghosts P) (blocks : List Ptr) (callers : ℕ) (was from to : P) (ms : List Line) (had : List (List KeptBlock)) (ps : List PartyPlace) (kept : List (List KeptBlock)) (xs : List PartyPlace)
-    (unused : IsUnused pools was from) (w : HaveWorked cache pools blocks callers from to (λ n. lines_of_caller n ms) had ps kept xs) (some : 0 < callers) where
+    (unused : IsUnused pools callers was from) (w : HaveWorked cache pools blocks callers from to (λ n. lines_of_caller n ms) had ps kept xs) (some : 0 < callers) where
   pub at-once : (end : Option Line) → WorkAtOnce pools callers (record { lines = ms; end = end }) was to
   at-once end = record {
     forks = w.forks;
@@ -134,6 +128,7 @@ module _ {P : Type 0} (cache : Cache) (pools : Ghosts P) (blocks : List Ptr) (ca
     works = λ n below. record { made = (w.each n below).worked.calls };
     reads = w.reads some ∙ ap (λ (k : ℕ). sum_of_counts k (over_callers callers (λ n. pools.reads (w.done n)))) unused.reads;
     faults = w.faults some ∙ ap (λ (k : ℕ). sum_of_counts k (over_callers callers (λ n. pools.faults (w.done n)))) unused.faults;
+    others = w.others ∙ unused.others;
     keeps = (w.keeps.size ∙ unused.size, w.keeps.told ∙ unused.told);
   }
 
@@ -313,7 +308,7 @@ between-begun cache restored pools devices trace start was whole old new opened 
 
 module _ {P D : Type 0} (cache : Cache) (restored : List Restored) (pools : Ghosts P) (devices : Devices D) (trace : Trace) (start was : BetweenGroups P) (begun : Device D) (from to : P) (a b : Device D) (rs ss : List Reply) (qs : List Op)
     (w : RunWork) (old new : Crew OnHeap) (few : length trace.ops ≤ 1000000) (some_callers : (0 < cache.config.callers) × (cache.config.callers ≤ 16)) (between : AreBetween cache restored pools devices trace start was begun a rs w old)
-    (more : length rs < length trace.ops) (unused : IsUnused pools was.pool from) (did : DidLinesAtOnce dbuf_meanings cache pools devices trace.blocks qs from to a b old new ss) (again : IsIdleFeeder cache new.feeder) (leaves : LeavesPool pools from to)
+    (more : length rs < length trace.ops) (unused : IsUnused pools cache.config.callers was.pool from) (did : DidLinesAtOnce dbuf_meanings cache pools devices trace.blocks qs from to a b old new ss) (again : IsIdleFeeder cache new.feeder) (leaves : LeavesPool pools from to)
     (own : AreInGroup cache.config.callers qs) (inside : length rs + length qs ≤ length trace.ops) (here : take (length qs) (drop (length rs) trace.ops) ≡ qs) where
   abbrev callers : ℕ
   callers = cache.config.callers
@@ -361,7 +356,7 @@ module _ {P D : Type 0} (cache : Cache) (restored : List Restored) (pools : Ghos
   once = at-once cache pools trace.blocks callers was.pool from to ms old.kept.items old.parties.items new.kept.items new.parties.items unused worked some_callers.0
 
   pub now-leaves : LeavesPool pools was.pool to
-  now-leaves = unused-leaves pools was.pool from to unused leaves
+  now-leaves = unused-leaves pools callers was.pool from to unused leaves
 
   from-front : HasFront start.next (pools.told start.pool) (pools.told from)
   from-front = ap (option_map (take start.next)) unused.told ∙ reached.counted.keeps.told
@@ -656,7 +651,7 @@ module _ (trace : Trace) (formed : IsFormed trace) (a b : ℕ) where
 module _ {P D : Type 0} (cache : Cache) (restored : List Restored) (pools : Ghosts P) (devices : Devices D) (trace : Trace) (formed : IsFormed trace) (config : cache.config ≡ trace.config) (start was : BetweenGroups P) (begun : Device D) (from to : P) (a b : Device D)
     (rs ss : List Reply) (w : RunWork) (old new : Crew OnHeap) (first end : ℕ) (bs : List Ptr) (os : List Op) (is_bs : bs ≡ trace.blocks) (is_os : os ≡ trace.ops) (is_first : first ≡ length rs) (le : first ≤ end) (few : end ≤ length os)
     (inside : (k : ℕ) (op : Op) → first ≤ k → k < end → slice_get os k ≡ Some op → ends_group op ≡ false) (between : AreBetween cache restored pools devices trace start was begun a rs w old) (more : length rs < length trace.ops)
-    (unused : IsUnused pools was.pool from) (did : DidLinesAtOnce dbuf_meanings cache pools devices bs (slice_range os first end) from to a b old new ss) (again : IsIdleFeeder cache new.feeder) (leaves : LeavesPool pools from to) where
+    (unused : IsUnused pools cache.config.callers was.pool from) (did : DidLinesAtOnce dbuf_meanings cache pools devices bs (slice_range os first end) from to a b old new ss) (again : IsIdleFeeder cache new.feeder) (leaves : LeavesPool pools from to) where
   abbrev qs : List Op
   qs = slice_range trace.ops (length rs) end
 
@@ -756,7 +751,7 @@ module _ {P D : Type 0} (cache : Cache) (restored : List Restored) (pools : Ghos
 
 -- none of it was begun, since a fork failed
 pub next-forked : {P D : Type 0} (cache : Cache) (restored : List Restored) (pools : Ghosts P) (devices : Devices D) (trace : Trace) (start was : BetweenGroups P) (begun is : Device D) (after : P) (rs : List Reply) (w : RunWork) (crew : Crew OnHeap)
-    → AreBetween cache restored pools devices trace start was begun is rs w crew → length rs < length trace.ops → ForkFailed pools was.pool after → StepsOn cache restored pools devices trace start (between_groups after was.group was.next) begun is rs rs Fork crew
+    → AreBetween cache restored pools devices trace start was begun is rs w crew → length rs < length trace.ops → ForkFailed pools cache.config.callers was.pool after → StepsOn cache restored pools devices trace start (between_groups after was.group was.next) begun is rs rs Fork crew
 next-forked cache restored pools devices trace start was begun is after rs w crew between more failed = (
   w,
   record {
@@ -781,10 +776,10 @@ none-at (o ∷ os) (suc k) op none at = elim (cases_true (is_sync o)) [
 ]
 
 -- the pool tells what it told behind the next group
-pub next-still : {P : Type 0} (pools : Ghosts P) (trace : Trace) (os : List Op) → os ≡ trace.ops → (was from to fin : P) (end : ℕ) (op : Op) → slice_get os end ≡ Some op → IsUnused pools was from → LeavesPool pools from to
+pub next-still : {P : Type 0} (pools : Ghosts P) (callers : ℕ) (trace : Trace) (os : List Op) → os ≡ trace.ops → (was from to fin : P) (end : ℕ) (op : Op) → slice_get os end ≡ Some op → IsUnused pools callers was from → LeavesPool pools from to
     → (is_sync op ≡ false → LeavesPool pools to fin) → has_sync trace.ops ≡ false → LeavesPool pools was fin
-next-still pools trace os is_os was from to fin end op at unused leaves still none =
-    leaves-then pools was to fin (unused-leaves pools was from to unused leaves) (still (none-at os end op (ap has_sync is_os ∙ none) at))
+next-still pools callers trace os is_os was from to fin end op at unused leaves still none =
+    leaves-then pools was to fin (unused-leaves pools callers was from to unused leaves) (still (none-at os end op (ap has_sync is_os ∙ none) at))
 
 -- ---- all steps
 

@@ -46,6 +46,7 @@ module _ {P : Type 0} (pools : Ghosts P) (config : Config) (Said So : OfCells) (
       turns = turned before t work s.answer.cells _ s.answer.turns;
       told = s.answer.told;
       outside = s.answer.outside;
+      others = s.answer.others;
       blocks = s.answer.blocks;
       bytes = s.answer.bytes;
       next_is = s.answer.next_is;
@@ -91,6 +92,7 @@ module _ {P : Type 0} (pools : Ghosts P) (config : Config) (Said So : OfCells) (
       told = f.stops.told;
     };
     outside = f.outside;
+    others = f.others;
   }
   stopped-as before t work group next from after (fault.PoolFull need left) f = record {
     cells = f.cells;
@@ -102,6 +104,7 @@ module _ {P : Type 0} (pools : Ghosts P) (config : Config) (Said So : OfCells) (
     turns = turned before t work f.cells [] f.turns;
     told = f.told;
     outside = f.outside;
+    others = f.others;
   }
   stopped-as before t work group next from after fault.NoMemory f = record { outside = f.outside; stops = stops f.stops }
     where

@@ -148,7 +148,7 @@ items-told len end n i now (x ∷ xs) all = elim (cases_true (x.due.cell == i)) 
 -- ---- lines in sequence
 
 calls-keep : {P : Type 0} (pool : Ghosts P) (cs : List Call) (a b : P) → MakesCalls pool cs a b → KeepsPool pool a b
-calls-keep {P} pool [] a b made = subst (KeepsPool pool a) (sym made) (record { size = refl; told = refl; faults = omega arith })
+calls-keep {P} pool [] a b made = subst (KeepsPool pool a) (sym made) (record { size = refl; told = refl; faults = omega arith; others = refl })
 calls-keep pool (c ∷ cs) a b made = keeps-then pool a made.0 b made.1.keeps (calls-keep pool cs made.0 b made.2)
 
 module _ {P D : Type 0} (pools : Ghosts P) (devices : Devices D) (told_len : (p : P) (bytes : List ℕ) → pools.told p ≡ Some bytes → length bytes ≡ pools.size p) (trace : Trace) (len place : ℕ) (image : List ℕ) where

@@ -135,6 +135,7 @@ device-same devices x = record {
   crash = λ c. (λ left. left, λ left. left);
   time = record { later = omega arith; same = λ t c le. (λ left. left, λ left. left) };
   faults = omega arith;
+  others = refl;
 }
 
 -- and one that was used twice
@@ -155,6 +156,7 @@ device-then devices x y z a b =
             (λ left. (b.time.same t c (omega arith)).0 ((a.time.same t c le).0 left), λ left. (a.time.same t c le).1 ((b.time.same t c (omega arith)).1 left));
       };
       faults = omega arith;
+      others = b.others ∙ a.others;
     }
 
 -- what was asked for a read that was refused

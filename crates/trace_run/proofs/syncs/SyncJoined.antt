@@ -324,6 +324,7 @@ module _ (cache : Cache) (p : PartyPlace) (others : List PartyPlace) (stands : S
           turns = syncs-joined w.cells _ w.turns (done-inside w.cells w.dues w.turns.all w.dirty) news z parts;
           told = w.told;
           outside = w.outside;
+          others = w.others;
           blocks = w.blocks;
           bytes = w.bytes;
           next_is = w.next_is;
@@ -340,6 +341,7 @@ module _ (cache : Cache) (p : PartyPlace) (others : List PartyPlace) (stands : S
             told = f.stops.told;
           };
           outside = f.outside;
+          others = f.others;
         }
         came-joined (Err (fault.PoolFull need left)) other f = record {
           cells = f.cells;
@@ -351,6 +353,7 @@ module _ (cache : Cache) (p : PartyPlace) (others : List PartyPlace) (stands : S
           turns = syncs-joined f.cells [] f.turns tt news z parts;
           told = f.told;
           outside = f.outside;
+          others = f.others;
         }
         came-joined (Err fault.NoMemory) other f = absurd (false≢true (sym other))
 

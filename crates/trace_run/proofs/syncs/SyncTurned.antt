@@ -181,6 +181,7 @@ sync-of pools cache group tick next from to p olds q news (Ok done) fine w = rec
     turns = so;
     told = w.told;
     outside = w.outside;
+    others = w.others;
     blocks = w.blocks;
     bytes = w.bytes;
     next_is = w.next_is;
@@ -202,6 +203,7 @@ sync-of pools cache group tick next from to p olds q news (Err fault.PoolFault) 
       told = f.stops.told;
     };
     outside = f.outside;
+    others = f.others;
   };
 }
 sync-of pools cache group tick next from to p olds q news (Err (fault.PoolFull need left)) fine f = record {
@@ -218,6 +220,7 @@ sync-of pools cache group tick next from to p olds q news (Err (fault.PoolFull n
     turns = so;
     told = f.told;
     outside = f.outside;
+    others = f.others;
   };
 }
 sync-of pools cache group tick next from to p olds q news (Err fault.NoMemory) fine f = absurd (false≢true (sym fine))

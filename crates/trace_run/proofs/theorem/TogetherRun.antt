@@ -55,7 +55,7 @@ use Rattle.trace_run.specs.RunWork.{IsRunWork, RunWork, lines_of_caller, noted_b
 use Rattle.trace_run.specs.callers.DeviceForks.{UsedInGroups}
 use Rattle.trace_run.specs.callers.GroupRun.{HaveClosed, RanTogether}
 use Rattle.trace_run.specs.callers.Groups.{AreDone, EndsLines, HaveCome, IsEndLine, StoodSo, lines_with_stop}
-use Rattle.trace_run.specs.callers.Together.{AreCut, EndsRun, IsCutLast, StoodThen, StopsSo, StopsSync, WorkInGroups, answered_ops, between_groups, faults_told, groups_done, over_callers, reads_of_caller}
+use Rattle.trace_run.specs.callers.Together.{AreCut, EndsRun, ForkFailed, IsCutLast, StoodThen, StopsSo, StopsSync, WorkInGroups, answered_ops, between_groups, faults_told, groups_done, over_callers, reads_of_caller}
 use Rattle.trace_run.specs.callers.WorkLines.{calls_of_lines, effect_with}
 use Rattle.trace_run.proofs.callers.AbsorbLemmas.{over-few}
 use Rattle.trace_run.proofs.callers.CallerActLemmas.{line-kind}
@@ -338,7 +338,7 @@ module _ {P D : Type 0} (cache : Cache) (pools : Ghosts P) (devices : Devices D)
 
       ends : (e : Ending) → EndsLines pools cache trace rs crew.feeder work e d.now after → EndsRun pools trace.config (StoodThen trace closed.cells) trace rs work.lines work.stopped e d.now after
       ends Whole ended = (ended.0, ended.2)
-      ends Fork ended = (ended.0, ended.3.keeps.size, ended.3.keeps.told)
+      ends Fork ended = (ended.0, subst (λ (g : Config). ForkFailed pools g.callers d.now.pool after) config ended.3)
       ends Sync ended = stops-as fault.PoolFault ended
       ends (Full need left) ended = stops-as (fault.PoolFull need left) ended
 

@@ -34,6 +34,7 @@ module _ {P : Type 0} (pools : Ghosts P) where
     pub told : pools.told new ≡ pools.told old
     pub reads : pools.reads new ≡ sum_of_counts (pools.reads old) (pools.reads fork)
     pub faults : pools.faults new ≡ sum_of_counts (pools.faults old) (pools.faults fork)
+    pub others : pools.other_calls new ≡ pools.other_calls old
 
   -- these forks were, one after another
   abbrev pub AbsorbsAll : List P → (old new : P) → Type 0

@@ -24,6 +24,7 @@ module _ {D : Type 0} (devices : Ghosts D) where
     pub told : devices.told fork ≡ None
     pub reads : devices.reads fork ≡ 0
     pub faults : devices.faults fork ≡ 0
+    pub others : devices.other_calls fork ≡ 0
 
   -- The device was asked for a fork once, and this came of it. It counts one fault where it failed, and nothing else.
   pub record ForksOnce (answer : Result D IoFault) (old new : D) : Type 0 where
@@ -31,6 +32,7 @@ module _ {D : Type 0} (devices : Ghosts D) where
     pub keeps : WasOnlyRead devices old new
     pub reads : devices.reads new ≡ devices.reads old
     pub faults : CountsIoFault (devices.faults old) (devices.faults new) answer
+    pub others : devices.other_calls new ≡ sum_of_counts (devices.other_calls old) 1
 
   -- a caller was given this fork; where there is no device, none
   abbrev pub GivesFork : Option D → (old new : Option D) → Type 0
@@ -49,6 +51,7 @@ module _ {D : Type 0} (devices : Ghosts D) where
     pub keeps : WasOnlyRead devices old new
     pub reads : devices.reads new ≡ sum_of_counts (devices.reads old) (devices.reads fork)
     pub faults : devices.faults new ≡ sum_of_counts (devices.faults old) (devices.faults fork)
+    pub others : devices.other_calls new ≡ devices.other_calls old
 
   -- so it was where there is one, and nothing else was done
   abbrev pub TakesForkBack : Option D → (old new : Option D) → Type 0

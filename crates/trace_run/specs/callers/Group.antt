@@ -54,6 +54,7 @@ pub record IsFork {P : Type 0} (pools : Ghosts P) (pool fork : P) : Type 0 where
   pub told : pools.told fork ≡ pools.told pool
   pub reads : pools.reads fork ≡ 0
   pub faults : pools.faults fork ≡ 0
+  pub others : pools.other_calls fork ≡ 0
 
 -- The pool has its length and the bytes that it tells, and its count of faults has not fallen, as far as a count goes: a fork is taken back by
 -- a sum of counts, which ends there.
@@ -116,6 +117,7 @@ pub record HaveWorked {C P : Type 0} (cache : Cache) (pools : Ghosts P) (blocks 
   pub each : (n : ℕ) → n < callers → WorkedAt cache pools blocks n (forks n) (done n) (own n) had ps kept qs
   pub reads : 0 < callers → pools.reads after ≡ sum_of_counts (pools.reads before) (over_callers callers (λ n. pools.reads (done n)))
   pub faults : 0 < callers → pools.faults after ≡ sum_of_counts (pools.faults before) (over_callers callers (λ n. pools.faults (done n)))
+  pub others : pools.other_calls after ≡ pools.other_calls before
   pub keeps : LeavesPool pools before after
 
 -- Callers did the lines of a group, each its own, which have these replies; beside them the feeder did the lines `feed`, which were answered so.

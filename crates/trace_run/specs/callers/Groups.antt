@@ -26,7 +26,6 @@ use Rattle.trace_text.specs.declared.reply.Reply.TheVariants.{Capped, Synced}
 use Rattle.trace_text.specs.declared.trace.Trace.{Trace}
 use Rattle.vdev_io.specs.declared.device.CacheDev.{Ghosts as Devices}
 use Rattle.vdev_io.specs.declared.pool.Pool.{Ghosts}
-use Rattle.vdev_io.specs.Faults.{Rose, last_count}
 use Rattle.trace_run.specs.declared.device.Device.{Device}
 use Rattle.trace_run.specs.declared.groups.Crew.{Crew}
 use Rattle.trace_run.specs.declared.ran.Ending.{Ending}
@@ -35,7 +34,7 @@ use Rattle.trace_run.specs.declared.kept_blocks.KeptBlock.{KeptBlock}
 use Rattle.trace_run.specs.Answers.{AnswersFeed, is_pool_fault}
 use Rattle.trace_run.specs.dbufs.CellEnds.{done_by}
 use Rattle.trace_run.specs.Deeds.{events_of_cell}
-use Rattle.trace_run.specs.callers.Group.{AllWorked, HaveWorked, IsAt, LeavesFront, LeavesPool}
+use Rattle.trace_run.specs.callers.Group.{AllWorked, HaveWorked, IsAt, LeavesFront}
 use Rattle.trace_run.specs.Devices.{lent_in}
 use Rattle.trace_run.specs.FeedSeries.{AreMadeSoFar}
 use Rattle.trace_run.specs.Feeds.{is_feed}
@@ -52,7 +51,7 @@ use Rattle.trace_run.specs.callers.Beside.{FeedsBeside, WorksBeside}
 use Rattle.trace_run.specs.callers.DeviceForks.{UsedInGroups}
 use Rattle.trace_run.specs.callers.Looking.{HaveLooked}
 use Rattle.trace_run.specs.callers.WorkLines.{AnswersLines, AreLinesOf, HasFront, acts_of_work, calls_of_lines, noted_of_work}
-use Rattle.trace_run.specs.callers.Together.{AreCut, BeginsGroup, BetweenGroups, IsCutLast, IsFirstPlace, StoppedAt, StopsSync, WorkInGroups, between_groups, groups_done, over_callers}
+use Rattle.trace_run.specs.callers.Together.{AreCut, BeginsGroup, BetweenGroups, ForkFailed, IsCutLast, IsFirstPlace, StoppedAt, StopsSync, WorkInGroups, between_groups, groups_done, over_callers}
 use Rattle.trace_run.specs.MadeLines.{IsMaker, OwnPasses}
 use mathlib.Core.Option.{some}
 use lib.ListN.{get_elem?}
@@ -214,17 +213,10 @@ pub record DidEndLine {P : Type 0} (cache : Cache) (pools : Ghosts P) (op : Op) 
   pub did : ((c : ℕ) × (op ≡ Cap c) × DidCap cache c from to old new came) ⊎ ((t : ℕ) × (op ≡ Txg t) × DidSync cache pools t from to old new came)
   pub kept : new.kept.items ≡ old.kept.items
 
--- a fork of the pool failed: the pool has counted that, and nothing else has changed but counts
-pub record ForkFailed {P : Type 0} (pools : Ghosts P) (before after : P) : Type 0 where
-  pub keeps : LeavesPool pools before after
-  pub reads : pools.reads before ≤ last_count → pools.reads after ≡ pools.reads before
-  pub faults : pools.faults before < last_count → pools.faults after ≡ pools.faults before + 1
-  pub rose : Rose (pools.faults before) (pools.faults after)
-
 -- How the lines ended, behind the groups that were done, with this party of the feeder: all are answered; or a fork of the pool failed; or a sync stopped, which did this.
 abbrev pub EndsLines : {P : Type 0} → Ghosts P → Cache → Trace → List Reply → PartyPlace → RunWork → Ending → (reached : BetweenGroups P) → (after : P) → Type 0
 EndsLines pools cache trace replies p work Whole reached after = (work.stopped ≡ no_work) × (length replies ≡ length trace.ops) × (after ≡ reached.pool)
-EndsLines pools cache trace replies p work Fork reached after = (work.stopped ≡ no_work) × (length replies < length trace.ops) × BeginsGroup trace.ops (length replies) × ForkFailed pools reached.pool after
+EndsLines pools cache trace replies p work Fork reached after = (work.stopped ≡ no_work) × (length replies < length trace.ops) × BeginsGroup trace.ops (length replies) × ForkFailed pools cache.config.callers reached.pool after
 EndsLines pools cache trace replies p work Sync reached after =
     StopsSync pools cache.config (StoodSo (openings_of trace) cache.config p) trace replies work.lines work.stopped sync_fault.PoolFault reached after
 EndsLines pools cache trace replies p work (Full need left) reached after =

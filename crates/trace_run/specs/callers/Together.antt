@@ -29,7 +29,7 @@ use Rattle.trace_text.specs.declared.rebuilt.Rebuilt.{Rebuilt}
 use Rattle.trace_text.specs.declared.report.Report.{Report}
 use Rattle.trace_text.specs.declared.trace.Trace.{Trace}
 use Rattle.vdev_io.specs.declared.pool.Pool.{Ghosts}
-use Rattle.vdev_io.specs.Faults.{Rose, sum_of_counts}
+use Rattle.vdev_io.specs.Faults.{Rose, counted_more, last_count, sum_of_counts}
 use Rattle.arc_check.specs.Judging.{end_of}
 use Rattle.trace_run.specs.declared.ran.Ending.{Ending}
 use Rattle.trace_run.specs.declared.ran.Ending.TheVariants.{Whole, Fork, Sync, Full}
@@ -144,6 +144,18 @@ StopsSo pool before after trace replies Fork = Rose (pool.faults before) (pool.f
 StopsSo pool before after trace replies Sync = Rose (pool.faults before) (pool.faults after) × StopsAtSync trace replies
 StopsSo pool before after trace replies (Full need left) = StopsAtSync trace replies
 
+-- A fork of the pool for a caller failed, and was not asked for again: those that were made before it were taken back unread, and the pool has counted the fault.
+pub record ForkFailed {P : Type 0} (pool : Ghosts P) (callers : ℕ) (before after : P) : Type 0 where
+  pub size : pool.size after ≡ pool.size before
+  pub told : pool.told after ≡ pool.told before
+  pub reads : pool.reads before ≤ last_count → pool.reads after ≡ pool.reads before
+  pub faults : pool.faults before < last_count → pool.faults after ≡ pool.faults before + 1
+  pub rose : Rose (pool.faults before) (pool.faults after)
+  -- so many forks were made before it
+  pub made : ℕ
+  pub some : made < callers
+  pub others : pool.other_calls after ≡ counted_more (suc made) (pool.other_calls before)
+
 -- the lines of a group, and the line that ends it; the last group may have none
 pub record GroupLines : Type 0 where
   pub lines : List Line
@@ -182,6 +194,8 @@ pub record WorkAtOnce {P : Type 0} (pool : Ghosts P) (callers : ℕ) (group : Gr
   pub works : (n : ℕ) → n < callers → Works pool n group.lines (forks n) (done n)
   pub reads : pool.reads after ≡ sum_of_counts (pool.reads before) (over_callers callers (λ n. pool.reads (done n)))
   pub faults : pool.faults after ≡ sum_of_counts (pool.faults before) (over_callers callers (λ n. pool.faults (done n)))
+  -- a fork was asked for once for each caller, and nothing else
+  pub others : pool.other_calls after ≡ counted_more callers (pool.other_calls before)
   pub keeps : (pool.size after ≡ pool.size before) × (pool.told after ≡ pool.told before)
 
 -- ---- between groups
@@ -250,7 +264,7 @@ module _ {P : Type 0} (pool : Ghosts P) (config : Config) (Cells : OfCells) wher
   -- What the end of the lines did with the pool, behind the groups that were answered: nothing; but a fork may have failed, or a sync stopped, which did this.
   abbrev pub EndsRun : Trace → List Reply → (before : List Line) → Work → Ending → (from : BetweenGroups P) → (after : P) → Type 0
   EndsRun trace replies before work Whole from after = (work ≡ no_work) × (after ≡ from.pool)
-  EndsRun trace replies before work Fork from after = (work ≡ no_work) × (pool.size after ≡ pool.size from.pool) × (pool.told after ≡ pool.told from.pool)
+  EndsRun trace replies before work Fork from after = (work ≡ no_work) × ForkFailed pool config.callers from.pool after
   EndsRun trace replies before work Sync from after = StopsSync trace replies before work sync_fault.PoolFault from after
   EndsRun trace replies before work (Full need left) from after = StopsSync trace replies before work (sync_fault.PoolFull need left) from after
 

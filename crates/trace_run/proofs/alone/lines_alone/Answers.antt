@@ -41,7 +41,7 @@ loop-number-init g c =
         subst (λ (rs : List Reply). AsksLines g.D.CacheDev config.shards c.args.trace.now.blocks (λ shard. now_of config shard c.args.party) (map read_of c.args.kept.now) [] rs [] c.args.device.now c.args.device.now)
             (sym c.new-replies.ensures.items) (refl, refl),
       );
-      keeps = record { size = refl; told = refl; faults = omega arith };
+      keeps = record { size = refl; told = refl; faults = omega arith; others = refl };
       left = device-same g.D.CacheDev c.args.device.now;
     }
 

@@ -10,7 +10,7 @@ pub loop-fork-preserved : goal.loop-fork-preserved
 loop-fork-preserved g c = λ q absorbs.
     let e = c.absorb.ensures in
     c.loop-fork.invariant q (subst (λ (l : List g.row.P.Denot). AbsorbsAll g.P.Pool l c.loop-fork.pool q) (sym c.in-Some.ensures.steps.0)
-    (c.absorb.new.self, record { size = e.size; told = e.told; reads = e.reads; faults = e.faults }, absorbs))
+    (c.absorb.new.self, record { size = e.size; told = e.told; reads = e.reads; faults = e.faults; others = e.others }, absorbs))
 
 pub returns : goal.returns
 returns g c =

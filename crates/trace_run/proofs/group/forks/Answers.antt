@@ -1,13 +1,12 @@
-use Rattle.std.proofs.Common.{◌≡◌, ℕ, ◌+◌, ◌≤◌, [], ◌∷◌, List, length, length-append, refl, sym, ap, ◌∙◌, subst, arith, inl, inr, min}
+use Rattle.std.proofs.Common.{◌≡◌, ℕ, suc, ◌+◌, ◌≤◌, [], ◌∷◌, List, length, length-append, refl, sym, ap, ◌∙◌, subst, arith, inl, inr, min}
 use Rattle.std.proofs.lemmas.Bool.{cases_lt}
 use Rattle.std.specs.Prelude.{Err, IsErrOf, sum_by}
 use Rattle.std.specs.List.{AllByRecursion}
-use Rattle.vdev_io.specs.Faults.{CountsIoFault, CountsOne, Rose, last_count}
+use Rattle.vdev_io.specs.Faults.{CountsIoFault, CountsOne, Rose, counted_more, last_count, sum_of_counts}
 use Rattle.vdev_io.specs.declared.fault.IoFault.{IoFault}
 use Rattle.vdev_io.specs.declared.fault.IoFault.TheVariants.{Failed}
 use Rattle.trace_run.specs.callers.Group.{IsFork}
-use Rattle.trace_run.proofs.callers.AbsorbLemmas.{absorbed-faults, absorbed-leaves, absorbed-reads, forks-moved, fresh-faults, fresh-reads, fresh-then, kept-leaves}
-use Rattle.trace_run.proofs.RunLemmas.{keeps-then}
+use Rattle.trace_run.proofs.callers.AbsorbLemmas.{absorbed-faults, absorbed-leaves, absorbed-others, absorbed-reads, forks-moved, fresh-faults, fresh-reads, fresh-then, leaves-then}
 use Rattle.trace_run.proofs.group.forks.Goals as goal
 
 -- a fork that failed was counted once
@@ -21,22 +20,27 @@ rose-once start before failed later same one least = elim (cases_lt before last_
   | inr high ↦ omega (arith, same, one.full high, high, least)
 ]
 
+-- one count more
+one-more : (before now k : ℕ) → now ≡ counted_more k before → sum_of_counts now 1 ≡ counted_more (k + 1) before
+one-more before now k is = ap (λ (n : ℕ). sum_of_counts n 1) is ∙ ap (λ (n : ℕ). counted_more n before) (let e : suc k ≡ k + 1 = omega arith in e)
+
 pub loop-preserved : goal.loop-preserved
 loop-preserved g c =
     let pools = g.P.Pool in
     let before = c.loop.invariant in
     let made = c.in_default.ensures.made in
     record {
-      keeps = keeps-then pools c.args.pool.now c.loop.pool c.one_fork.new.pool before.keeps c.one_fork.ensures.pool;
+      keeps = leaves-then pools c.args.pool.now c.loop.pool c.one_fork.new.pool before.keeps c.one_fork.ensures.pool;
       reads = c.one_fork.ensures.reads ∙ before.reads;
       unfailed = c.in_default.ensures.faults ∙ before.unfailed;
+      others = c.one_fork.ensures.others ∙ one-more (pools.other_calls c.args.pool.now) (pools.other_calls c.loop.pool) c.loop.counter before.others;
       fresh = fresh-then pools c.args.pool.now c.loop.pool before.keeps c.loop.forks.items made.0 c.one_fork.new.forks.items made.1 before.fresh made.2;
       count = ap length made.1 ∙ (length-append c.loop.forks.items (made.0 ∷ []) ∙ ap (λ (n : ℕ). n + 1) before.count);
     }
 
 pub returns-in-Err-clause-pool : goal.returns-in-Err-clause-pool
 returns-in-Err-clause-pool g c =
-    kept-leaves g.P.Pool c.args.pool.now c.one_fork.new.pool c.absorb_all.new.pool (keeps-then g.P.Pool c.args.pool.now c.loop.pool c.one_fork.new.pool c.loop.invariant.keeps c.one_fork.ensures.pool)
+    leaves-then g.P.Pool c.args.pool.now c.one_fork.new.pool c.absorb_all.new.pool (leaves-then g.P.Pool c.args.pool.now c.loop.pool c.one_fork.new.pool c.loop.invariant.keeps c.one_fork.ensures.pool)
     (absorbed-leaves g.P.Pool c.one_fork.new.forks.items c.one_fork.new.pool c.absorb_all.new.pool c.absorb_all.ensures)
 
 pub returns-in-Err-clause-reads : goal.returns-in-Err-clause-reads
@@ -68,4 +72,12 @@ pub returns-clause-forks : goal.returns-clause-forks
 returns-clause-forks g c = forks-moved g.P.Pool c.args.pool.now c.loop.pool c.loop.invariant.keeps c.loop.forks.items c.loop.invariant.fresh
 
 pub returns-clause-pool : goal.returns-clause-pool
-returns-clause-pool g c = kept-leaves g.P.Pool c.args.pool.now c.loop.pool c.loop.pool c.loop.invariant.keeps (absorbed-leaves g.P.Pool [] c.loop.pool c.loop.pool refl)
+returns-clause-pool g c = leaves-then g.P.Pool c.args.pool.now c.loop.pool c.loop.pool c.loop.invariant.keeps (absorbed-leaves g.P.Pool [] c.loop.pool c.loop.pool refl)
+
+pub returns-in-Err-clause-made : goal.returns-in-Err-clause-made
+returns-in-Err-clause-made g c = (
+    c.loop.counter,
+    omega arith,
+    absorbed-others g.P.Pool c.one_fork.new.forks.items c.one_fork.new.pool c.absorb_all.new.pool c.absorb_all.ensures
+        ∙ (c.one_fork.ensures.others ∙ ap (λ (n : ℕ). sum_of_counts n 1) c.loop.invariant.others),
+  )

@@ -4,7 +4,8 @@ use Rattle.trace_run.specs.callers.Groups.{AreBetween}
 use Rattle.trace_run.specs.callers.Together.{between_groups}
 use Rattle.trace_run.proofs.callers.FrontLemmas.{front-before, front-same, front-then}
 use Rattle.trace_run.proofs.callers.InUse.{in-use-same, in-use-then}
-use Rattle.trace_run.proofs.callers.StepLemmas.{all-stepped, leaves-same, leaves-then, not-stepped, stepped}
+use Rattle.trace_run.proofs.callers.StepLemmas.{all-stepped, not-stepped, stepped}
+use Rattle.trace_run.proofs.callers.AbsorbLemmas.{leaves-same, leaves-then}
 use Rattle.trace_run.proofs.groups.all_groups.Goals as goal
 
 pub loop-alloc-init : goal.loop-alloc-init

@@ -4,7 +4,7 @@ use Rattle.trace_run.specs.one_caller.InTurn.{HaveComeInTurn}
 use Rattle.trace_run.specs.callers.Together.{between_groups}
 use Rattle.trace_run.proofs.callers.FrontLemmas.{front-before, front-same, front-then}
 use Rattle.trace_run.proofs.callers.InUse.{in-use-same, in-use-then}
-use Rattle.trace_run.proofs.callers.StepLemmas.{leaves-same, leaves-then}
+use Rattle.trace_run.proofs.callers.AbsorbLemmas.{leaves-same, leaves-then}
 use Rattle.trace_run.proofs.one_caller.TurnSteps.{all-in-turn, turn-not-stepped, turn-stepped}
 use Rattle.trace_run.proofs.in_turn.all_in_turn.Goals as goal
 

@@ -22,7 +22,7 @@ loop-number-init g c =
       named = c.requires.named;
       number = refl;
       did = subst (λ (rs : List Reply). DidOps g.P.Pool g.D.CacheDev c.args.arcs.now.config c.args.blocks.now [] rs start start) (sym c.new-replies.ensures.items) (ops-none g.P.Pool g.D.CacheDev c.args.arcs.now.config c.args.blocks.now start);
-      keeps = record { size = refl; told = refl; faults = omega arith };
+      keeps = record { size = refl; told = refl; faults = omega arith; others = refl };
       device = device-same g.D.CacheDev c.args.device.now;
     }
 

@@ -26,7 +26,7 @@ returns-in_err-place-clause-answer g c =
     let a = c.in_err-place.ensures.answer in
     rw (p.1, p.2) (stops-here g.P.Pool c.args.arcs.now c.args.group c.args.tick c.args.next c.args.cells.now dues c.args.pool.now c.args.party.now
     c.loop-due.cells c.write_due.new.cells index c.loop-due.place 0 c.loop-due.pool c.write_due.new.pool c.loop-due.party c.write_due.new.party (slice_index_or dues index none) c.loop-due.invariant (drop-next dues index none (omega arith)) c.requires.all
-    a.cell a.news_are a.does.0 c.in_err-place.field-0.0 a.does.1 c.in_err-place.ensures.size c.in_err-place.ensures.reads c.in_err-place.ensures.fault)
+    a.cell a.news_are a.does.0 c.in_err-place.field-0.0 a.does.1 c.in_err-place.ensures.size c.in_err-place.ensures.reads c.in_err-place.ensures.fault c.in_err-place.ensures.failed)
 
 pub overflow_add-place : goal.overflow_add-place
 overflow_add-place g c =
@@ -47,4 +47,4 @@ loop-due-preserved g c =
     subst (λ (n : ℕ). HasWritten g.P.Pool c.args.arcs.now c.args.group c.args.tick c.args.next c.args.cells.now c.write_due.new.cells dues n c.args.pool.now c.write_due.new.pool c.args.party.now c.write_due.new.party (c.loop-due.place + c.in_ok-place.field-0)) next
     (writes-on g.P.Pool c.args.arcs.now c.args.group c.args.tick c.args.next c.args.cells.now dues c.args.pool.now c.args.party.now
     c.loop-due.cells c.write_due.new.cells index c.loop-due.place c.in_ok-place.field-0 c.loop-due.pool c.write_due.new.pool c.loop-due.party c.write_due.new.party (slice_index_or dues index none) c.loop-due.invariant (drop-next dues index none (omega arith)) c.requires.all
-    c.in_ok-place.ensures.answer record { size = c.in_ok-place.ensures.size; reads = c.in_ok-place.ensures.reads; faults = c.in_ok-place.ensures.fault })
+    c.in_ok-place.ensures.answer record { size = c.in_ok-place.ensures.size; reads = c.in_ok-place.ensures.reads; faults = c.in_ok-place.ensures.fault } c.in_ok-place.ensures.wrote)

@@ -15,5 +15,5 @@ returns-in-Some-clause-answer g c =
     read (
       subst (λ (from : Origin). Does m c.args.self.now.config ptr.key (Arrive p.number ptr.key ptr.digest from ∷ []) p c.arrive_read.new.party) f.from c.in-Some.ensures.arrived,
       c.in-Some.ensures.hold,
-      gives_block g.P.Pool ptr c.args.pool.now c.fetch_pool.new.pool c.in-Some.hold.block.value c.in-Ok.fetched.block.value record { size = f.size; told = f.told; faults = f.kept } f.ok f.fault c.in-Some.ensures.block,
+      gives_block g.P.Pool ptr c.args.pool.now c.fetch_pool.new.pool c.in-Some.hold.block.value c.in-Ok.fetched.block.value record { size = f.size; told = f.told; faults = f.kept; others = f.others } f.ok f.fault c.in-Some.ensures.block,
     )

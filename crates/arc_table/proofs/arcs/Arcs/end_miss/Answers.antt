@@ -23,7 +23,7 @@ returns-in-Err-clause-answer g c =
     let now = outside c.fetch.new.pool c.fetch.new.cache in
     subst (λ (x : ReadFault). EndsMiss m g.P.Pool g.D.CacheDev config ptr c.args.found before now p q (Err x)) (sym c.fault.ensures)
     (miss_fails m g.P.Pool g.D.CacheDev config ptr c.args.found before now p q c.in-Err.why e.device
-    record { keeps = record { size = e.size; told = e.told; faults = e.kept }; fails = e.err; counted = e.counted; fault = e.fault; none = e.unread }
+    record { keeps = record { size = e.size; told = e.told; faults = e.kept; others = e.others }; fails = e.err; counted = e.counted; fault = e.fault; none = e.unread }
     (subst (λ (at : FailedAt). Does m config ptr.key (Fail p.number ptr.key at ∷ []) p q) c.failed_at.ensures c.fail_read.ensures))
 
 pub end_cleared-requires-clause-party : goal.end_cleared-requires-clause-party
@@ -50,7 +50,7 @@ returns-in-Some-clause-answer g c =
     let e = c.in-Ok.ensures in
     let f = c.in-Ok.fetched in
     miss_arrives m g.P.Pool g.D.CacheDev c.args.self.now.config c.args.ptr.now c.args.found (outside c.args.pool.now c.args.cache.now) (outside c.fetch.new.pool c.fetch.new.cache) c.args.party.now c.arrive_read.new.party
-    c.in-Some.hold f.block.value f.from c.served_from-from.result c.served_from-from.ensures c.in-Some.ensures.block record { size = e.size; told = e.told; faults = e.kept } e.ok e.fault e.device e.unread
+    c.in-Some.hold f.block.value f.from c.served_from-from.result c.served_from-from.ensures c.in-Some.ensures.block record { size = e.size; told = e.told; faults = e.kept; others = e.others } e.ok e.fault e.device e.unread
     c.in-Some.ensures.arrived c.in-Some.ensures.hold
 
 pub returns-in-None-clause-answer : goal.returns-in-None-clause-answer
