@@ -5,8 +5,6 @@
 #[cfg(test)]
 mod ends;
 #[cfg(test)]
-mod history;
-#[cfg(test)]
 mod kept;
 #[cfg(test)]
 mod memory;
