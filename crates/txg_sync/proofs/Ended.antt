@@ -62,6 +62,7 @@ module _ {P : Type 0} (pool : Ghosts P) (group next : ℕ) (before now : P) (g :
   stops-so Told Besides s = record { cells = s.cells; done = s.done; due = s.due; rest = s.rest; dirty = s.dirty; fits = s.fits; turns = goes s.cells _ _ s.turns; told = s.told }
 
   pub answers-so : (result : Result Synced SyncFault) → AnswersWith pool group next before now g One result → AnswersWith pool group next before now g Two result
+  unfolding stops-so
   answers-so (Ok done) a = record {
     cells = a.cells;
     dues = a.dues;
@@ -145,7 +146,8 @@ module _ {P : Type 0} (pool : Ghosts P) (cache : Cache) (group tick next : ℕ) 
 
     -- or a write stopped
     pub dues-stopped : (why : IoFault) → AnswersDues pool cache group tick next cells nows dues before now p q (Err why) → AnswersWith pool group next before now cache.config InAll (Err (sync_fault_of why))
-    dues-stopped io.Failed a = record { stops = stops-at _ _ a.0; outside = a.1.0; others = a.1.1 }
+    unfolding stops-at
+    dues-stopped io.Failed a = record { stops = stops-at _ _ a.0; outside = a.1; others = a.2 }
     dues-stopped io.NoMemory a = record { outside = a.1; stops = ⊎_elim (λ s. inr (inl (stops-at _ _ s))) (λ s. inr (inr (stops-at _ _ s))) a.0 }
 
   pub dues-may-give : (dues : List Due) (result : Result ℕ IoFault) → AnswersDues pool cache group tick next cells nows dues before now p q result → MayGiveAll cache nows q

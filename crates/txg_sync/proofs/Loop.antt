@@ -281,6 +281,7 @@ module _ {P : Type 0} (pool : Ghosts P) (cache : Cache) (group tick next : ℕ) 
       pub stops-here : (why : IoFault) → RefusesBlock cache.config (item_in group place due.cell due.at (slice_index_or nows due.cell a-cell).value) (pool.told now) (pool.told then) q r why
           → pool.size then ≡ pool.size now → pool.reads then ≡ pool.reads now → CountsIoFault {T = ℕ} (pool.faults now) (pool.faults then) (Err why)
           → (why ≡ io.Failed → pool.other_calls then ≡ sum_of_counts (pool.other_calls now) 1) → AnswersDues pool cache group tick next cells news dues before then p r (Err why)
+      unfolding stopped
       stops-here io.Failed f size reads counts asked = (
         stopped (λ x old. TellsTorn x old (pool.told then)) (λ x. Same) (none-stays f.0) (none-grows f.0) f.0 f.1,
         record { size = size ∙ h.outside.size; reads = reads ∙ h.outside.reads; faults = subst (λ (n : ℕ). CountsOne n (pool.faults then)) h.outside.faults counts },

@@ -1,5 +1,6 @@
-use Rattle.std.proofs.Common.{◌≡◌, ℕ, suc, ◌+◌, List, slice_index_or, subst, arith}
+use Rattle.std.proofs.Common.{◌≡◌, ℕ, suc, ◌+◌, List, Err, ap, slice_index_or, subst, arith}
 use Rattle.std.proofs.lemmas.Result.{err_from_is_err_and}
+use Rattle.vdev_io.specs.declared.fault.IoFault.{IoFault}
 use Rattle.txg_sync.specs.declared.due.Due.{Due}
 use Rattle.txg_sync.proofs.Gathering.{drop-next}
 use Rattle.txg_sync.proofs.Loop.{HasWritten, begins-writing, cell-here, place-most, stops-here, writes-on}
@@ -26,7 +27,7 @@ returns-in_err-place-clause-answer g c =
     let a = c.in_err-place.ensures.answer in
     rw (p.1, p.2) (stops-here g.P.Pool c.args.arcs.now c.args.group c.args.tick c.args.next c.args.cells.now dues c.args.pool.now c.args.party.now
     c.loop-due.cells c.write_due.new.cells index c.loop-due.place 0 c.loop-due.pool c.write_due.new.pool c.loop-due.party c.write_due.new.party (slice_index_or dues index none) c.loop-due.invariant (drop-next dues index none (omega arith)) c.requires.all
-    a.cell a.news_are a.does.0 c.in_err-place.field-0.0 a.does.1 c.in_err-place.ensures.size c.in_err-place.ensures.reads c.in_err-place.ensures.fault c.in_err-place.ensures.failed)
+    a.cell a.news_are a.does.0 c.in_err-place.field-0.0 a.does.1 c.in_err-place.ensures.size c.in_err-place.ensures.reads c.in_err-place.ensures.fault (λ is. c.in_err-place.ensures.failed (ap (λ (why : IoFault). Err why) is)))
 
 pub overflow_add-place : goal.overflow_add-place
 overflow_add-place g c =
