@@ -76,8 +76,8 @@ returns-clause-pool g c = leaves-then g.P.Pool c.args.pool.now c.loop.pool c.loo
 
 pub returns-in-Err-clause-made : goal.returns-in-Err-clause-made
 returns-in-Err-clause-made g c = (
-    c.loop.counter,
-    omega arith,
-    absorbed-others g.P.Pool c.one_fork.new.forks.items c.one_fork.new.pool c.absorb_all.new.pool c.absorb_all.ensures
-        ∙ (c.one_fork.ensures.others ∙ ap (λ (n : ℕ). sum_of_counts n 1) c.loop.invariant.others),
-  )
+  c.loop.counter,
+  omega arith,
+  absorbed-others g.P.Pool c.one_fork.new.forks.items c.one_fork.new.pool c.absorb_all.new.pool c.absorb_all.ensures
+      ∙ (c.one_fork.ensures.others ∙ ap (λ (n : ℕ). sum_of_counts n 1) c.loop.invariant.others),
+)
