@@ -5,13 +5,11 @@ use Rattle.std.proofs.Common.{inl, inr, refl, sym, ap, subst, ◌∙◌, arith}
 use Rattle.std.proofs.lemmas.Bool.{false≢true}
 use Rattle.std.proofs.lemmas.List.{append-nil}
 use Rattle.std.specs.List.{AllByRecursion}
-use Rattle.vdev_io.specs.Calls.{DeviceCall}
 use Rattle.l2_log.specs.Rules.{log_len}
 use Rattle.l2_log.specs.LogBytes.{IsLogBlock}
 use Rattle.l2_log.specs.HeaderBytes.{IsHeader}
 use Rattle.l2_log.specs.declared.fault.LogFault.{LogFault}
 use Rattle.l2_log.specs.Values.{same_header_of_bytes, same_log_block_of_bytes}
-use Rattle.l2_log.specs.declared.entry.LogEntry.{LogEntry}
 use Rattle.l2_log.specs.declared.header.DevHeader.{DevHeader}
 use Rattle.l2_log.specs.declared.log_block.LogBlock.{LogBlock}
 use Rattle.l2_log.specs.declared.pointer.LogPtr.{LogPtr}
@@ -25,19 +23,18 @@ use Rattle.l2_dev.specs.declared.stop.Stop.{Stop}
 use Rattle.l2_dev.specs.declared.stop.Stop.TheVariants as stop
 use Rattle.l2_dev.specs.Chain.{Visit, IsHeld, IsPassed, IsPlaced, IsChain, IsLinked, numbers_in, log_range, bytes_at, pointer_behind, ring_len}
 use Rattle.l2_dev.proofs.ChainLaws.{begins_with, linked_next}
-use Rattle.l2_dev.specs.Restoring.{IsHeaderOf, IsRebuilt, IsRefused, first_sector, found_in, firsts, restored_of, restored_from}
-use Rattle.l2_dev.specs.Standing.{Candidate, Kept, written_of, block_range, IsCandidate, IsStanding, IsLeftBy, AnyOf, restored_by, leading, staying}
+use Rattle.l2_dev.specs.Restoring.{IsHeaderOf, IsRefused, first_sector, found_in, firsts, restored_of, restored_from}
+use Rattle.l2_dev.specs.Standing.{Candidate, Kept, written_of, block_range, IsCandidate, IsStanding, IsLeftBy, AnyOf, restored_by, leading}
 use Rattle.l2_dev.proofs.StandingLaws.{keeps, block_stays, leading_all, standing_fits}
 use Rattle.l2_dev.proofs.ListLaws.{all_right, all_weaker}
 use Rattle.l2_dev.specs.Cursor.{CursorState, numbers_from}
-use Rattle.l2_dev.specs.Planned.{HasPlanned, HasPushed, HasSettled, IsForgotten, IsHeaderWith}
-use Rattle.l2_dev.specs.Promise.{Promise, KeepsPromise, IsBacked}
-use Rattle.l2_dev.specs.PromiseLaws.{left_by, with_block, IsHeaderFrom}
+use Rattle.l2_dev.specs.Planned.{IsHeaderWith}
+use Rattle.l2_dev.specs.Promise.{Promise, IsBacked}
+use Rattle.l2_dev.specs.PromiseLaws.{IsHeaderFrom}
 use Rattle.l2_dev.proofs.PromiseLaws.{same_plan}
 use Rattle.l2_dev.proofs.RebuildLaws.{not_refused}
-use Rattle.l2_dev.specs.Calls.{LeavesWith, IsCommitBlock, forgotten, with_put}
-use Rattle.l2_dev.specs.Starting.{IsStartOf, opening}
-use Rattle.l2_dev.specs.Rebuilding.{IsOpened, IsStarted}
+use Rattle.l2_dev.specs.Calls.{LeavesWith, IsCommitBlock}
+use Rattle.l2_dev.specs.Starting.{opening}
 use Rattle.l2_dev.specs.Ends.{IsDropped, EndsBehind, EndsAt, AreMade, AllEnd, IsMade, HasCollision}
 use Rattle.l2_dev.specs.EndLaws.{BeginEnds, CommitEnds, CrashesAreMade, MoreCollides, PutEnds, StartEnds}
 

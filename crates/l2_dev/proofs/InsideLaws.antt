@@ -1,23 +1,17 @@
 -- A crash at any moment of a begin, a put or a commit leaves an image that these calls made, and a rebuild of it finds no more than
 -- one of the headers restores, unless two contents have one digest.
-use Rattle.std.specs.Prelude.{◌≡◌, ◌≢◌, ℕ, ◌<◌, ◌⊎◌, List, [], ◌∷◌, ◌++◌, Bool, Option, Some}
-use Rattle.std.proofs.Common.{inl, inr, sym, subst, ◌∙◌}
+use Rattle.std.specs.Prelude.{◌≡◌, ◌≢◌, ℕ, ◌⊎◌, List, [], ◌∷◌, Bool, Option, Some}
+use Rattle.std.proofs.Common.{inl, inr, sym, ◌∙◌}
 use Rattle.std.specs.List.{AllByRecursion}
 use Rattle.l2_log.specs.declared.log_block.LogBlock.{LogBlock}
-use Rattle.l2_ring.specs.Ring.{last_lap}
 use Rattle.arc_core.specs.declared.served.Restored.{Restored}
 use Rattle.l2_dev.specs.declared.stop.Stop.{Stop}
 use Rattle.l2_dev.specs.declared.stop.Stop.TheVariants as stop
-use Rattle.l2_dev.specs.Chain.{Visit}
 use Rattle.l2_dev.specs.Restoring.{IsRebuilt}
-use Rattle.l2_dev.specs.Standing.{Candidate, IsCandidate, IsLeftBy, Rebuilds, AnyOf, restored_by, leading, staying}
+use Rattle.l2_dev.specs.Standing.{Candidate, IsCandidate, IsLeftBy, Rebuilds, AnyOf, restored_by}
 use Rattle.l2_dev.proofs.RebuildLaws.{any_weaker}
-use Rattle.l2_dev.specs.Cursor.{CursorState, numbers_from}
-use Rattle.l2_dev.specs.Planned.{HasPlanned, IsHeaderWith}
-use Rattle.l2_dev.specs.Promise.{Promise, KeepsPromise, LeftAmong, LeavesOnlyWith}
-use Rattle.l2_dev.specs.PromiseLaws.{IsHeaderFrom}
-use Rattle.l2_dev.specs.Calls.{LeavesWith, IsCommitBlock}
-use Rattle.l2_dev.specs.Ends.{EndsAt, AllEnd, IsMade, HasCollision}
+use Rattle.l2_dev.specs.Promise.{LeftAmong, LeavesOnlyWith}
+use Rattle.l2_dev.specs.Ends.{EndsAt, HasCollision}
 use Rattle.l2_dev.proofs.EndLaws.{all_ends, begin_ends, commit_header_ends, made_among, more_collides}
 use Rattle.l2_dev.specs.InsideLaws.{AreFoundSince, BeginCrashes, CommitCrashes, PutCrashes}
 

@@ -8,9 +8,8 @@ use Rattle.arc_core.specs.declared.served.Restored.{Restored}
 use Rattle.l2_dev.specs.declared.stop.Stop.{Stop}
 use Rattle.l2_dev.specs.declared.stop.Stop.TheVariants as stop
 use Rattle.l2_dev.specs.Restoring.{IsRebuilt, firsts, restored_of}
-use Rattle.l2_dev.specs.Standing.{Candidate, Kept, written_of, IsLeftBy, Rebuilds, AnyOf, restored_by}
-use Rattle.l2_dev.specs.Cursor.{CursorState}
-use Rattle.l2_dev.specs.Promise.{Promise, KeepsPromise, IsOf, LeftAmong}
+use Rattle.l2_dev.specs.Standing.{Candidate, Kept, written_of}
+use Rattle.l2_dev.specs.Promise.{Promise, IsOf, LeftAmong}
 use Rattle.l2_dev.proofs.StepLaws.{left_among}
 use Rattle.l2_dev.specs.NewestLaws.{NewestIsRestored}
 

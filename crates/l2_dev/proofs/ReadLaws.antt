@@ -1,12 +1,10 @@
 -- What a caller who reads the device, forks it or takes a fork back leaves of a promise: all of it.
 use Rattle.std.specs.Prelude.{◌≡◌, ℕ, List, Bool, IsTrue, Option}
 use Rattle.std.proofs.Common.{[], ◌∷◌, None, Some, sym, ap, subst, ◌∙◌}
-use Rattle.std.specs.List.{AllByRecursion}
 use Rattle.vdev_io.specs.declared.device.CacheDev.{Ghosts}
-use Rattle.vdev_io.specs.Calls.{Call, Asked, Read, DeviceCall, IsToldAfter, LeavesAfter, MakesDeviceCalls}
+use Rattle.vdev_io.specs.Calls.{Call, Asked, Read, IsToldAfter, LeavesAfter}
 use Rattle.vdev_io.specs.Device.{LeavesSame}
-use Rattle.l2_dev.specs.Cursor.{CursorState}
-use Rattle.l2_dev.specs.Promise.{Promise, KeepsPromise}
+use Rattle.l2_dev.specs.Promise.{KeepsPromise}
 use Rattle.l2_dev.specs.ReadLaws.{CallsKeepPromises, ReadsKeepPromises}
 
 pub reads_keep : {D : Type 0} (tells : D → Option (List ℕ)) (has_sectors : D → Bool) (leaves : D → List ℕ → Type 0) → ReadsKeepPromises tells has_sectors leaves

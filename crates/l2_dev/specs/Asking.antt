@@ -1,7 +1,7 @@
 -- Which calls of the device below a start, a begin, a put and a commit make, one after another, and how each was answered.
-use Rattle.std.specs.Prelude.{◌≡◌, ℕ, ◌⊎◌, List, [], ◌∷◌, ◌++◌, map, Option, None, Some, Result, Ok, Err, IsErrOf, IfOk}
+use Rattle.std.specs.Prelude.{◌≡◌, ℕ, ◌⊎◌, List, [], ◌∷◌, ◌++◌, map, Option, Some, Result, Ok, Err, IsErrOf, IfOk}
 use Rattle.vdev_io.specs.declared.device.CacheDev.{Ghosts}
-use Rattle.vdev_io.specs.Calls.{Call, Gave, Failed, Asked, Read, Write, Flush, DeviceCall, answered, MakesAll, MakesUpTo, MakesAsked, MakesDeviceCalls}
+use Rattle.vdev_io.specs.Calls.{Call, Gave, Failed, Asked, Read, Write, Flush, DeviceCall, answered, MakesAll, MakesUpTo, MakesAsked}
 use Rattle.l2_log.specs.Rules.{header_len, log_len}
 use Rattle.l2_log.specs.HeaderBytes.{IsHeader}
 use Rattle.l2_log.specs.declared.pointer.LogPtr.{LogPtr}

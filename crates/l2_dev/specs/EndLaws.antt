@@ -1,7 +1,6 @@
 -- That each call leaves the log blocks of every header with an end behind them, and that a rebuild which finds more has met two
 -- contents of one digest.
-use Rattle.std.specs.Prelude.{◌≡◌, ◌≢◌, ℕ, ◌+◌, ◌*◌, ◌<◌, ◌≤◌, ◌⊎◌, List, [], ◌∷◌, ◌++◌, Bool, Option}
-use Rattle.std.proofs.Common.{◌∙◌}
+use Rattle.std.specs.Prelude.{◌≡◌, ◌≢◌, ℕ, ◌<◌, ◌⊎◌, List, [], ◌∷◌, ◌++◌, Bool, Option}
 use Rattle.vdev_io.specs.Calls.{DeviceCall}
 use Rattle.l2_log.specs.declared.entry.LogEntry.{LogEntry}
 use Rattle.l2_log.specs.declared.log_block.LogBlock.{LogBlock}

@@ -1,7 +1,6 @@
 -- A crash at any moment of a begin, a put or a commit leaves an image that these calls made, and a rebuild of it finds no more than
 -- one of the headers restores, unless two contents have one digest.
-use Rattle.std.specs.Prelude.{◌≡◌, ◌≢◌, ℕ, ◌<◌, ◌⊎◌, List, [], ◌∷◌, ◌++◌, Bool, Option}
-use Rattle.std.proofs.Common.{◌∙◌}
+use Rattle.std.specs.Prelude.{◌≡◌, ◌≢◌, ℕ, ◌<◌, ◌⊎◌, List, ◌∷◌, ◌++◌, Bool, Option}
 use Rattle.l2_log.specs.declared.log_block.LogBlock.{LogBlock}
 use Rattle.l2_ring.specs.Ring.{last_lap}
 use Rattle.arc_core.specs.declared.served.Restored.{Restored}

@@ -1,6 +1,5 @@
 -- That a rebuild restores the newest live entry of each key, where every header that a crash may leave was written with what is live now.
-use Rattle.std.specs.Prelude.{◌≡◌, ◌≢◌, ℕ, ◌++◌, List, [], ◌∷◌, map, reverse, Bool, Option}
-use Rattle.std.proofs.Common.{◌∙◌}
+use Rattle.std.specs.Prelude.{◌≡◌, ◌≢◌, ℕ, ◌++◌, List, map, reverse, Bool, Option}
 use Rattle.std.specs.List.{AllByRecursion}
 use Rattle.arc_core.specs.declared.served.Restored.{Restored}
 use Rattle.l2_dev.specs.declared.stop.Stop.{Stop}

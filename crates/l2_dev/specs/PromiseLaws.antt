@@ -1,6 +1,5 @@
 -- What a plan and a commit make of what is promised of a device.
-use Rattle.std.specs.Prelude.{◌≡◌, ◌+◌, ◌<◌, ◌≤◌, List, [], ◌∷◌, ◌++◌}
-use Rattle.std.proofs.Common.{◌∙◌}
+use Rattle.std.specs.Prelude.{◌≡◌, List, [], ◌∷◌, ◌++◌}
 use Rattle.l2_log.specs.declared.header.DevHeader.{DevHeader}
 use Rattle.l2_ring.specs.declared.plan.Plan.{Plan}
 use Rattle.l2_dev.specs.Chain.{Visit, numbers_in}

@@ -1,6 +1,5 @@
 -- What a caller who reads the device, forks it or takes a fork back leaves of a promise: all of it.
 use Rattle.std.specs.Prelude.{◌≡◌, ℕ, List, Bool, Option}
-use Rattle.std.proofs.Common.{[], ◌∷◌, ◌∙◌}
 use Rattle.std.specs.List.{AllByRecursion}
 use Rattle.vdev_io.specs.declared.device.CacheDev.{Ghosts}
 use Rattle.vdev_io.specs.Calls.{Read, DeviceCall, MakesDeviceCalls}

@@ -1,5 +1,5 @@
-use Rattle.std.proofs.Common.{ℕ, List, [], ◌∷◌, Some, refl, ap, sym, subst, ◌∙◌}
-use Rattle.vdev_io.specs.Calls.{Gave, Failed, Read, DeviceCall, answered, MakesDeviceCalls}
+use Rattle.std.proofs.Common.{ℕ, List, refl, ap, sym, subst, ◌∙◌}
+use Rattle.vdev_io.specs.Calls.{DeviceCall, MakesDeviceCalls}
 use Rattle.std.proofs.lemmas.Result.{err_from_is_err_and}
 use Rattle.l2_dev.specs.Chain.{bytes_at}
 use Rattle.l2_dev.proofs.Walks.{visited, refused, refused_all, misfit, block_reads}
