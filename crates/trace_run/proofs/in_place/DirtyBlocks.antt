@@ -18,7 +18,7 @@ use Rattle.dbuf_state.specs.declared.event.CellEvent.{CellEvent}
 use Rattle.dbuf_state.specs.declared.event.CellEvent.TheVariants.{Get, Put, Patch, Pin, Unpin, Load, Evict, Synced, End}
 use Rattle.dbuf_state.specs.declared.oid.Oid.{Oid}
 use Rattle.dbuf_state.specs.declared.state.Mapped.{Mapped}
-use Rattle.dbuf_state.specs.declared.state.Mapped.TheVariants.{Clean, Dirty}
+use Rattle.dbuf_state.specs.declared.state.Mapped.TheVariants.{Clean}
 use Rattle.dbuf_state.specs.declared.state.Mapping.{Mapping}
 use Rattle.dbuf_state.proofs.OutlineLemmas.{cell-is-in-outline, outline-is-told}
 use Rattle.dbuf_cells.specs.Turns.{OnHeap}
