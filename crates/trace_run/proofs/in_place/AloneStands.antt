@@ -42,7 +42,7 @@ use Rattle.trace_run.proofs.in_place.SyncedBlocks.{IsReadableBlock, items-readab
 
 -- ---- what a caller's line notes is no sync's
 
-abbrev AreNoSyncs : List CellEvent → Type 0
+abbrev pub AreNoSyncs : List CellEvent → Type 0
 AreNoSyncs = AllByRecursion (λ e. is_synced e ≡ false)
 
 loads-no-syncs : (n : ℕ) (at : Oid) (brought : Brought) → AreNoSyncs (loads_of n at brought)
@@ -55,7 +55,7 @@ evicts-no-syncs n [] = tt
 evicts-no-syncs n (x ∷ xs) = (refl, evicts-no-syncs n xs)
 
 -- of each cell
-abbrev NotesNoSyncs : Work → Type 0
+abbrev pub NotesNoSyncs : Work → Type 0
 NotesNoSyncs work = (i : ℕ) → AreNoSyncs (events_of_cell i work.noted)
 
 in-no-syncs : (i j : ℕ) (es : List CellEvent) → AreNoSyncs es → AreNoSyncs (events_of_cell j (noted_in i es))
@@ -85,7 +85,7 @@ reply-no-syncs g n own o work (replies.Capped c) un acts = absurd acts
 none-no-syncs : (work : Work) → work ≡ no_work → NotesNoSyncs work
 none-no-syncs work none i = subst (λ (w : Work). AreNoSyncs (events_of_cell i w.noted)) (sym none) tt
 
-op-no-syncs : (g : Config) (n : ℕ) (op : Op) (o : Outline) (work : Work) (reply : Reply) → ActsFor g n (own_event op) o work reply → NotesNoSyncs work
+pub op-no-syncs : (g : Config) (n : ℕ) (op : Op) (o : Outline) (work : Work) (reply : Reply) → ActsFor g n (own_event op) o work reply → NotesNoSyncs work
 op-no-syncs g n (ops.Get m t at w) o work reply acts = reply-no-syncs g n (record { at = at; event = events.Get m at }) o work reply refl acts
 op-no-syncs g n (ops.Put m t at size fill) o work reply acts = reply-no-syncs g n (record { at = at; event = events.Put m at size fill }) o work reply refl acts
 op-no-syncs g n (ops.Patch m t at from bytes) o work reply acts = reply-no-syncs g n (record { at = at; event = events.Patch m at from bytes }) o work reply refl acts
@@ -147,7 +147,7 @@ items-told len end n i now (x ∷ xs) all = elim (cases_true (x.due.cell == i)) 
 
 -- ---- lines in sequence
 
-calls-keep : {P : Type 0} (pool : Ghosts P) (cs : List Call) (a b : P) → MakesCalls pool cs a b → KeepsPool pool a b
+pub calls-keep : {P : Type 0} (pool : Ghosts P) (cs : List Call) (a b : P) → MakesCalls pool cs a b → KeepsPool pool a b
 calls-keep {P} pool [] a b made = subst (KeepsPool pool a) (sym made) (record { size = refl; told = refl; faults = omega arith; others = refl })
 calls-keep pool (c ∷ cs) a b made = keeps-then pool a made.0 b made.1.keeps (calls-keep pool cs made.0 b made.2)
 
@@ -250,7 +250,7 @@ module _ {P D : Type 0} (pools : Ghosts P) (devices : Devices D) (told_len : (p 
   other-fine (ops.Pin n t at) reply work feeds from to f does = absurd does
   other-fine (ops.Unpin n at) reply work feeds from to f does = absurd does
 
-  line-fine : (by : Option ℕ) (l : Line) (feeds : List FeedDone) (from to : BetweenLines P D) → StandsFine from → DoesAnyLine pools devices trace by l feeds from to → StandsFine to
+  pub line-fine : (by : Option ℕ) (l : Line) (feeds : List FeedDone) (from to : BetweenLines P D) → StandsFine from → DoesAnyLine pools devices trace by l feeds from to → StandsFine to
   line-fine (Some n) l feeds from to f does = own-fine l from to f does.1
   line-fine None l feeds from to f does = other-fine l.op l.reply l.work feeds from to f does
 

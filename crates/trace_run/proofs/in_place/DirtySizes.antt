@@ -167,7 +167,7 @@ since-within c sound at most front since split puts has =
 
 -- ---- none stands twice
 
-abbrev names : List OutlineDbuf → List Oid
+abbrev pub names : List OutlineDbuf → List Oid
 names ds = map outline.dbuf_oid ds
 
 names-changed : (b : Oid) (f : OutlineDbuf → OutlineDbuf) → ((d : OutlineDbuf) → (f d).at ≡ d.at) → (ds : List OutlineDbuf) → names (outline.changed b f ds) ≡ names ds
@@ -213,7 +213,7 @@ distinct-effect ds (Evict n b) once = subst AreDistinct (sym (names-changed b _ 
 distinct-effect ds (Synced n b ptr) once = subst AreDistinct (sym (names-changed b _ (λ d. refl) ds)) once
 distinct-effect ds (End n) once = subst AreDistinct (sym (names-ended ds)) once
 
-distinct-all : (o : Outline) (es : List CellEvent) → AreDistinct (names o.dbufs) → AreDistinct (names (after_all o es).dbufs)
+pub distinct-all : (o : Outline) (es : List CellEvent) → AreDistinct (names o.dbufs) → AreDistinct (names (after_all o es).dbufs)
 distinct-all o [] once = once
 distinct-all o (e ∷ es) once =
     distinct-all (after o e) es (subst AreDistinct (sym (names-touched (o.events + 1) (use_of e) (outline.effect o.dbufs e))) (distinct-effect o.dbufs e once))
@@ -221,7 +221,7 @@ distinct-all o (e ∷ es) once =
 abbrev pub mapping_oid : Mapping → Oid
 mapping_oid m = m.at
 
-names-opened : (ms : List Mapping) → names (map outline_dbuf (map opened ms)) ≡ map mapping_oid ms
+pub names-opened : (ms : List Mapping) → names (map outline_dbuf (map opened ms)) ≡ map mapping_oid ms
 names-opened [] = refl
 names-opened (m ∷ ms) = ap (λ (xs : List Oid). m.at ∷ xs) (names-opened ms)
 

@@ -216,7 +216,7 @@ none-on ptr s len valid = of_access (access_of s ptr)
     of_access access.Miss = of_entry (entry_of ptr.key s)
 
 -- what a read names that the device did not serve
-named-pool : (a : Access) (e : Effect) → NamesSource a e → (CameFromDevice e → ⊥) → NamesServed (source_of a false) e
+pub named-pool : (a : Access) (e : Effect) → NamesSource a e → (CameFromDevice e → ⊥) → NamesServed (source_of a false) e
 named-pool access.Hit (Answered from) named other = named
 named-pool (access.Past kept) (Answered from) named other = named
 named-pool access.Miss (Answered from) named other = elim named [

@@ -45,7 +45,7 @@ zero-test n is = grind (arith, nat_tests)
 other-test : (n : ℕ) → (n ≡ 0 → ⊥) → (n == 0) ≡ false
 other-test n is = grind (arith, nat_tests)
 
-less-test : (m n : ℕ) → m < n → nat_lt m n ≡ true
+pub less-test : (m n : ℕ) → m < n → nat_lt m n ≡ true
 less-test m n lt = grind (arith, nat_tests)
 
 pub least-test : (m n : ℕ) → n ≤ m → nat_lt m n ≡ false
@@ -68,7 +68,7 @@ valid-key len key valid =
     let birth : (key.birth == 0) ≡ false = other-test key.birth (λ e. absurd (omega (arith, e, valid.formed.born))) in
     rw (zero-test (key.offset % sector) valid.formed.aligned, size-test key.size valid.formed.sized, least-test len (key_end key) valid.inside, birth) refl
 
-first-key : (len : ℕ) (key : Key) (why : KeyFault) → IsFirstKeyFault len key why → key_fault len key ≡ Some why
+pub first-key : (len : ℕ) (key : Key) (why : KeyFault) → IsFirstKeyFault len key why → key_fault len key ≡ Some why
 first-key len key fault.Unaligned fails = rw (other-test (key.offset % sector) fails) refl
 first-key len key fault.Size fails = rw (zero-test (key.offset % sector) fails.0, size-not key.size fails.1) refl
 first-key len key (fault.OutOfPool end most) fails =
@@ -86,13 +86,13 @@ IsNext (first ∷ calls) call = first ≡ call
 pub of-test : (bytes : List ℕ) (ptr : Ptr) → IsOf bytes ptr → digest_eq (sha256_of bytes) ptr.digest ≡ true
 of-test bytes ptr one = (bytes_eq-Decides (sha256_of bytes).0 ptr.digest.0).1 (ap (λ (d : Digest). d.0) one.digest)
 
-accepted : (image : List ℕ) (ptr : Ptr) (from : Served) (call : Call) → (IsFromPool from → IsOf (range_of image ptr.key) ptr) → IsNext (calls_from from) call → refused_from image ptr from call ≡ None
+pub accepted : (image : List ℕ) (ptr : Ptr) (from : Served) (call : Call) → (IsFromPool from → IsOf (range_of image ptr.key) ptr) → IsNext (calls_from from) call → refused_from image ptr from call ≡ None
 accepted image ptr served.Hit call one next = refl
 accepted image ptr served.L2 call one next = refl
 accepted image ptr served.Pool call one next = rw (sym next, of-test (range_of image ptr.key) ptr (one tt)) refl
 accepted image ptr served.Past call one next = rw (sym next, of-test (range_of image ptr.key) ptr (one tt)) refl
 
-failed : (image : List ℕ) (ptr : Ptr) (from : Served) (call : Call) → IsFromPool from → Failed ≡ call → refused_from image ptr from call ≡ Some refusal.PoolFault
+pub failed : (image : List ℕ) (ptr : Ptr) (from : Served) (call : Call) → IsFromPool from → Failed ≡ call → refused_from image ptr from call ≡ Some refusal.PoolFault
 failed image ptr served.Hit call asks next = absurd asks
 failed image ptr served.L2 call asks next = absurd asks
 failed image ptr served.Pool call asks next = rw (sym next) refl
@@ -104,7 +104,7 @@ differs-test image ptr found is other = elim (cases_true (digest_eq (sha256_of (
   | inr differs ↦ differs
 ]
 
-mismatched : (image : List ℕ) (ptr : Ptr) (from : Served) (call : Call) (found : Digest) → IsFromPool from → Gave ≡ call → found ≡ sha256_of (range_of image ptr.key) → found ≢ ptr.digest
+pub mismatched : (image : List ℕ) (ptr : Ptr) (from : Served) (call : Call) (found : Digest) → IsFromPool from → Gave ≡ call → found ≡ sha256_of (range_of image ptr.key) → found ≢ ptr.digest
     → refused_from image ptr from call ≡ Some (refusal.Mismatch found)
 mismatched image ptr served.Hit call found asks next is other = absurd asks
 mismatched image ptr served.L2 call found asks next is other = absurd asks

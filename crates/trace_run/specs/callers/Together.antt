@@ -144,14 +144,14 @@ StopsSo pool before after trace replies Fork = Rose (pool.faults before) (pool.f
 StopsSo pool before after trace replies Sync = Rose (pool.faults before) (pool.faults after) × StopsAtSync trace replies
 StopsSo pool before after trace replies (Full need left) = StopsAtSync trace replies
 
--- A fork of the pool for a caller failed, and was not asked for again: those that were made before it were taken back unread, and the pool has counted the fault.
+-- A fork of the pool for a caller failed: those that were made were taken back unread, and the pool has counted the fault. One fork more was asked for than were made, and no more than there are callers.
 pub record ForkFailed {P : Type 0} (pool : Ghosts P) (callers : ℕ) (before after : P) : Type 0 where
   pub size : pool.size after ≡ pool.size before
   pub told : pool.told after ≡ pool.told before
   pub reads : pool.reads before ≤ last_count → pool.reads after ≡ pool.reads before
   pub faults : pool.faults before < last_count → pool.faults after ≡ pool.faults before + 1
   pub rose : Rose (pool.faults before) (pool.faults after)
-  -- so many forks were made before it
+  -- so many forks were made
   pub made : ℕ
   pub some : made < callers
   pub others : pool.other_calls after ≡ counted_more (suc made) (pool.other_calls before)
