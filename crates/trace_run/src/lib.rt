@@ -32,5 +32,6 @@ mod words;
 mod zero_pool;
 
 pub use laws::{nothing_in_place_is_refused, traces_in_place_are_done};
+pub use ran::Ending;
 pub use status::{Outcome, Status};
 pub use top::run;

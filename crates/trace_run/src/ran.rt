@@ -15,7 +15,7 @@ use trace_text::{Ends, Histories, History, Rebuilt, Replies, Reply, Report, Shar
 
 /// How the lines of a trace ended.
 #[derive(Clone, Copy)]
-pub(crate) enum Ending {
+pub enum Ending {
     /// All are done.
     Whole,
     /// A fork of the pool failed as a group of lines began.
