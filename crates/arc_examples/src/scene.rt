@@ -105,24 +105,6 @@ pub fn opened_pair(alloc: Global, config: &Config, blocks: u64) -> Result<Pair, 
     })
 }
 
-/// The shards of a cache of two callers at its end, once both and the feeder are back.
-pub fn close_pair(alloc: Global, pair: Pair) -> Result<Closed<Plain>, NoMemory>
-    requires callers { pair.arcs.config.callers ≡ 2 }
-    requires one { IsReady pair.arcs pair.one.party × (pair.one.party.number ≡ 0) }
-    requires two { IsReady pair.arcs pair.two.party × (pair.two.party.number ≡ 1) }
-    requires feeder { IsReady pair.arcs pair.feeder.party × (pair.feeder.party.number ≡ 2) }
-    ensures { IfOk result (λ closed. length closed.shards ≡ pair.arcs.config.shards) }
-{
-    let Pair {
-        arcs,
-        feeder,
-        one,
-        two,
-    } = pair;
-    let parties = vec![in alloc; one.party, two.party, feeder.party]?;
-    arcs.close(parties)
-}
-
 /// A new cache of four callers over a pool of so many blocks.
 pub fn opened(alloc: Global, config: &Config, blocks: u64) -> Result<Scene, NoMemory>
     requires valid { IsConfig config.now }

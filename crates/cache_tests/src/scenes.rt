@@ -1,14 +1,10 @@
-//! Rows of calls on a cache of two callers that keeps 4,096 bytes, with ample memory.
+//! Callers that meet in a cache of two callers that keeps 4,096 bytes, with ample memory.
 ghost use Rattle.std.specs.Prelude.{◌≡◌, IfOk};
 ghost use Rattle.arc_examples.specs.Ready.{IsNew, IsReady};
 
-mod feeds;
-mod hands;
 mod joins;
 mod looks;
 mod picks;
-mod reads;
-mod resizes;
 
 use arc_core::{Bounds, Config};
 use arc_examples::{Pair, SIZE, opened_pair, run_soak};
@@ -28,13 +24,6 @@ const TWO: Config = Config {
         write_max: 8_388_608,
         headroom: 2,
     },
-};
-
-// The key of the first block of 2,048 bytes.
-const FIRST: Key = Key {
-    offset: 0,
-    size: 2048,
-    birth: 1,
 };
 
 // The pointer of the block of this number, among blocks of 2,048 zeros.

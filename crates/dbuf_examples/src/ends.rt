@@ -1,10 +1,9 @@
-//! Rows of calls whose events and ends are compared: gets over a full dbuf cache, a block that its caller holds too, and a row of every call in which
-//! some call of the pool may fail.
+//! A row of every call in which some call of the pool may fail, whose events and end are compared.
 ghost use Rattle.std.specs.Prelude.{◌≡◌};
 ghost use Rattle.dbuf_examples.specs.Mapped.{IsOne};
 
-use crate::rows::{NEW, patches, shows, try_sync};
-use crate::scene::{end, oid_of, ptr_of};
+use crate::rows::{NEW, patches, try_sync};
+use crate::scene::{end, oid_of};
 use arc_table::{Closed, Party};
 use blk_ptr::NoMemory;
 use dbuf_cells::{Cells, HeapCell, end_cells, get, hold, put, unhold};
@@ -24,63 +23,6 @@ pub struct Answered {
     pub calls: [Result<(), DbufFault>; 4],
     /// The sync behind these.
     pub sync: Result<Synced, SyncFault>,
-}
-
-/// Gets of two blocks, and of the first again, with empty windows; dbufs keep one of them.
-pub fn three_gets<R: Wait>(
-    arcs: &Cells,
-    rt: &R,
-    one: &mut Party<HeapCell>,
-    pool: &mut MemPool,
-) -> bool
-    requires { IsOne arcs.now 0 one.old }
-    ensures { IsOne arcs.now 0 one.new }
-{
-    let w = Window { at: 0, len: 0 };
-    let first = shows(arcs, rt, one, oid_of(0), w, 1, pool, &[]);
-    let second = shows(arcs, rt, one, oid_of(1), w, 2, pool, &[]);
-    let again = shows(arcs, rt, one, oid_of(0), w, 3, pool, &[]);
-    first && second && again
-}
-
-/// A block is got, patched and got again. Between the two the pool's block is read by itself, and where the caller held it before, it holds it still.
-pub fn private_block<R: Wait>(
-    alloc: Global,
-    arcs: &Cells,
-    rt: &R,
-    one: &mut Party<HeapCell>,
-    pool: &mut MemPool,
-    first: u64,
-) -> bool
-    requires { IsOne arcs.now 0 one.old }
-    ensures { IsOne arcs.now 0 one.new }
-{
-    let at = oid_of(0);
-    let second = first.saturating_add(1);
-    let third = first.saturating_add(2);
-    let fourth = first.saturating_add(3);
-    let w = Window { at: 0, len: 1 };
-    let got = shows(arcs, rt, one, at, w, first, pool, &[0]);
-    let patched = patches(alloc, arcs, rt, one, at, 0, &[0xff], second, pool).is_ok();
-    let read = reads(arcs, rt, one, third, pool);
-    let w = Window { at: 0, len: 2 };
-    let again = shows(arcs, rt, one, at, w, fourth, pool, &[0xff, 0]);
-    got && patched && read && again
-}
-
-/// Reads the first block of the pool, and keeps it: no call gives it back.
-pub fn reads<R: Wait>(
-    arcs: &Cells,
-    rt: &R,
-    one: &mut Party<HeapCell>,
-    tick: u64,
-    pool: &mut MemPool,
-) -> bool
-    requires { IsOne arcs.now 0 one.old }
-    ensures { IsOne arcs.now 0 one.new }
-{
-    arcs.read(rt, one, &ptr_of(0), tick, pool, &mut NoCache::new())
-        .is_ok()
 }
 
 // The first two of these bytes.

@@ -8,8 +8,8 @@ mod rows;
 mod scene;
 mod soak;
 
-pub use ends::{Answered, end_all, every_call, private_block, reads, three_gets};
+pub use ends::{Answered, end_all, every_call};
 pub use plain_map::Answer;
-pub use rows::{NEW, all_calls, bad_names, patched_block, written_block, written_in_two};
+pub use rows::{NEW, all_calls, written_in_two};
 pub use scene::{Crowd, SIZE, Scene, Worker, end, oid_of, opened, opened_crowd, ptr_of};
 pub use soak::run_soak;

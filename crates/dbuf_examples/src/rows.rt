@@ -152,37 +152,6 @@ pub fn all_calls<R: Wait>(
     got && held && patched && dropped && put && synced && again && ended
 }
 
-/// A block is put, read and synced into a pool that has just its size; a patch that ends behind it is refused.
-pub fn written_block<R: Wait>(
-    alloc: Global,
-    arcs: &Cells,
-    rt: &R,
-    one: &mut Party<HeapCell>,
-    feeder: &mut Party<HeapCell>,
-    pool: &mut MemPool,
-    answer: Result<Synced, SyncFault>,
-) -> bool
-    requires one { IsOne arcs.now 0 one.old }
-    requires feeder { IsOne arcs.now 1 feeder.old }
-    requires callers { arcs.now.config.callers ≡ 1 }
-    ensures one { IsOne arcs.now 0 one.new }
-    ensures feeder { IsOne arcs.now 1 feeder.new }
-{
-    let put = put(alloc, arcs, rt, one, NEW, 512, 0xab).is_ok();
-    let w = Window { at: 0, len: 2 };
-    let got = shows(arcs, rt, one, NEW, w, 2, pool, &[0xab, 0xab]);
-    let past = patches(alloc, arcs, rt, one, NEW, 511, &[1, 2], 3, pool);
-    let refused = past
-        == Err(DbufFault::Range {
-            end: 513,
-            size: 512,
-        });
-    let synced = syncs(alloc, arcs, rt, feeder, 4, pool, 0, answer);
-    let w = Window { at: 511, len: 1 };
-    let again = shows(arcs, rt, one, NEW, w, 5, pool, &[0xab]);
-    put && got && refused && synced && again
-}
-
 /// The write of the second of two blocks fails; the next sync, which begins behind the first, writes it.
 pub fn written_in_two<R: Wait>(
     alloc: Global,
@@ -209,41 +178,4 @@ pub fn written_in_two<R: Wait>(
     });
     let synced = syncs(alloc, arcs, rt, feeder, 4, pool, 512, answer);
     high && low && failed && synced && byte_at(pool, 512) == Some(2)
-}
-
-/// A clean block is read, changed, and read again; what the pool has stays.
-pub fn patched_block<R: Wait>(
-    alloc: Global,
-    arcs: &Cells,
-    rt: &R,
-    one: &mut Party<HeapCell>,
-    pool: &mut MemPool,
-) -> bool
-    requires { IsOne arcs.now 0 one.old }
-    ensures { IsOne arcs.now 0 one.new }
-{
-    let at = oid_of(1);
-    let w = Window { at: 0, len: 1 };
-    let got = shows(arcs, rt, one, at, w, 1, pool, &[1]);
-    let patched = patches(alloc, arcs, rt, one, at, 0, &[0xff], 2, pool).is_ok();
-    let w = Window { at: 0, len: 2 };
-    let again = shows(arcs, rt, one, at, w, 4, pool, &[0xff, 1]);
-    got && patched && again && byte_at(pool, 512) == Some(1)
-}
-
-/// A pin that nobody has, and a block that nothing maps, are refused by name.
-pub fn bad_names<R: Wait>(
-    arcs: &Cells,
-    rt: &R,
-    one: &mut Party<HeapCell>,
-    pool: &mut MemPool,
-) -> bool
-    requires { IsOne arcs.now 0 one.old }
-    ensures { IsOne arcs.now 0 one.new }
-{
-    let no_pin = unhold(arcs, rt, one, NEW) == Err(DbufFault::NoPin(NEW));
-    let w = Window { at: 0, len: 0 };
-    let got = get(arcs, rt, one, NEW, w, 1, pool, &mut NoCache::new());
-    let no_block = matches!(got, Err(DbufFault::NoBlock(named)) if named == NEW);
-    no_pin && no_block
 }

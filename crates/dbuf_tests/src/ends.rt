@@ -1,13 +1,10 @@
 //! Rows of calls on dbufs with the events of shards that they made, and what a cache ends with.
-use crate::rows::{NARROW, WIDE};
+use crate::rows::WIDE;
 use arc_core::{Event, FailedAt, Origin, ReadFault, Shard};
 use arc_table::Closed;
-use blk_ptr::{Digest, Key, State, digest_of};
+use blk_ptr::{Digest, Key, digest_of};
 use dbuf_cells::HeapCell;
-use dbuf_examples::{
-    Answered, Scene, end_all, every_call, oid_of, opened, private_block, ptr_of, reads, three_gets,
-    written_block,
-};
+use dbuf_examples::{Answered, Scene, end_all, every_call, oid_of, opened, ptr_of};
 use dbuf_state::DbufFault;
 use std::alloc::Global;
 use std::sync::Wait;
@@ -93,131 +90,6 @@ fn has_events(closed: &Closed<HeapCell>, events: &[Event]) -> bool {
         .all(|shard| has_history(shard, events))
 }
 
-// Whether each shard ends with so many bytes in this state.
-fn ends_with(closed: &Closed<HeapCell>, state: State, bytes: u128) -> bool {
-    closed
-        .shards()
-        .iter()
-        .all(|shard| shard.size(state) == bytes)
-}
-
-#[test]
-fn a_full_dbuf_cache_evicts_and_loads_again(rt: HostRuntime) -> Result<(), Fail> {
-    let alloc = rt.alloc();
-    let Scene {
-        arcs,
-        mut one,
-        feeder,
-        mut pool,
-    } = opened(alloc, &NARROW, 2, 1024, &[]).ok().ok_or("memory")?;
-    assert!(rt; three_gets(&arcs, &rt, &mut one, &mut pool));
-    let closed = end_all(alloc, &rt, arcs, one, feeder).ok().ok_or("memory")?;
-    let [miss_a, arrive_a, hand_a] = load(0, 1);
-    let [miss_b, arrive_b, hand_b] = load(1, 2);
-    let hit = Event::Hit {
-        n: 0,
-        key: key_at(0),
-        t: 3,
-    };
-    let events = [
-        miss_a,
-        arrive_a,
-        hand_a,
-        miss_b,
-        arrive_b,
-        hand_b,
-        dropped(0),
-        hit,
-        hand_a,
-        dropped(512),
-        dropped(0),
-    ];
-    assert!(rt; has_events(&closed, &events));
-    assert!(rt; ends_with(&closed, State::Mru, 512) && ends_with(&closed, State::Mfu, 512));
-    Ok(())
-}
-
-#[test]
-fn a_patched_block_is_private(rt: HostRuntime) -> Result<(), Fail> {
-    let alloc = rt.alloc();
-    let Scene {
-        arcs,
-        mut one,
-        feeder,
-        mut pool,
-    } = opened(alloc, &WIDE, 1, 512, &[]).ok().ok_or("memory")?;
-    assert!(rt; private_block(alloc, &arcs, &rt, &mut one, &mut pool, 1));
-    let closed = end_all(alloc, &rt, arcs, one, feeder).ok().ok_or("memory")?;
-    let [miss, arrive, hand] = load(0, 1);
-    let release = Event::Release {
-        n: CELL,
-        key: key_at(0),
-        sole: true,
-    };
-    let [again, arrived, _] = load(0, 3);
-    assert!(rt; has_events(&closed, &[miss, arrive, hand, release, again, arrived]));
-    Ok(())
-}
-
-#[test]
-fn a_block_that_is_held_stays_cached(rt: HostRuntime) -> Result<(), Fail> {
-    let alloc = rt.alloc();
-    let Scene {
-        arcs,
-        mut one,
-        feeder,
-        mut pool,
-    } = opened(alloc, &WIDE, 1, 512, &[]).ok().ok_or("memory")?;
-    assert!(rt; reads(&arcs, &rt, &mut one, 1, &mut pool));
-    assert!(rt; private_block(alloc, &arcs, &rt, &mut one, &mut pool, 2));
-    let closed = end_all(alloc, &rt, arcs, one, feeder).ok().ok_or("memory")?;
-    let [miss, arrive, hand] = load(0, 1);
-    let hit = |t: u64| Event::Hit {
-        n: 0,
-        key: key_at(0),
-        t,
-    };
-    let release = Event::Release {
-        n: CELL,
-        key: key_at(0),
-        sole: false,
-    };
-    assert!(rt; has_events(&closed, &[miss, arrive, hit(2), hand, release, hit(4)]));
-    Ok(())
-}
-
-#[test]
-fn a_synced_block_is_inserted_and_dropped_at_the_end(rt: HostRuntime) -> Result<(), Fail> {
-    let alloc = rt.alloc();
-    let Scene {
-        arcs,
-        mut one,
-        mut feeder,
-        mut pool,
-    } = opened(alloc, &NARROW, 0, 512, &[]).ok().ok_or("memory")?;
-    let done = Synced {
-        blocks: 1,
-        bytes: 512,
-        next: 512,
-    };
-    assert!(rt;
-        written_block(
-            alloc,
-            &arcs,
-            &rt,
-            &mut one,
-            &mut feeder,
-            &mut pool,
-            Ok(done)
-        )
-    );
-    let closed = end_all(alloc, &rt, arcs, one, feeder).ok().ok_or("memory")?;
-    let events = [inserted(0, digest_of(&[0xab; 512])), dropped(0)];
-    assert!(rt; has_events(&closed, &events));
-    assert!(rt; ends_with(&closed, State::Mru, 512) && ends_with(&closed, State::Mfu, 0));
-    Ok(())
-}
-
 // What every call answers, and what the cache ends with, where these calls of the pool fail.
 pub(crate) fn every_call_of<R: Wait>(
     alloc: Global,
@@ -260,31 +132,6 @@ const SHOWN: [Result<[u8; 2], DbufFault>; 4] = [
     Ok([9, 0]),
     Ok([0xab, 0xab]),
 ];
-
-#[test]
-fn every_call_goes_well(rt: HostRuntime) -> Result<(), Fail> {
-    let (answered, closed) = every_call_of(rt.alloc(), &rt, &[]).ok_or("memory")?;
-    assert!(rt; answered.gets == SHOWN && answered.calls == [Ok(()); 4] && answered.sync == BOTH);
-    let [miss_b, arrive_b, hand_b] = load(1, 1);
-    let [miss_a, arrive_a, hand_a] = load(0, 2);
-    let release = released();
-    let events = [
-        miss_b,
-        arrive_b,
-        hand_b,
-        miss_a,
-        arrive_a,
-        hand_a,
-        release,
-        inserted(1024, patched_digest()),
-        inserted(1536, digest_of(&[0xab; 512])),
-        dropped(1024),
-        dropped(512),
-        dropped(1536),
-    ];
-    assert!(rt; has_events(&closed, &events));
-    Ok(())
-}
 
 // The patch gives the clean block's hold up, which is the only one.
 fn released() -> Event {

@@ -7,7 +7,7 @@ mod scene;
 mod soak;
 
 pub use blocks::{Blocks, KEYS, SIZE, bytes_of, ptr_of};
-pub use reading::{ReadBack, blocks_back, fed_blocks, read_back, read_back_over};
+pub use reading::{blocks_back, fed_blocks};
 pub use scene::{
     FeedScene, closed, config_of_one, fed, fed_one_by_one, memory, opened, places, read, read_all,
     restored, zeros_of,

@@ -17,12 +17,12 @@ use std::sync::Wait;
 use vdev_io::{CacheDev, MemPool};
 
 /// Where a read's bytes came from, and these bytes.
-#[derive(Debug, Drop)]
-pub struct ReadBack {
+#[derive(Drop)]
+struct ReadBack {
     /// The cache, the device or the pool.
-    pub from: Served,
+    from: Served,
     /// The block's bytes.
-    pub bytes: Vec<u8>,
+    bytes: Vec<u8>,
 }
 
 /// Gets a block, and tells where its bytes came from.
@@ -56,7 +56,7 @@ fn give_back<R: Wait>(rt: &R, arcs: &Arcs<Plain>, party: &mut Party<Plain>, hold
 }
 
 /// Reads a block, and gives it back. None where the read is refused, or memory for its bytes.
-pub fn read_back<R: Wait, D: CacheDev>(
+fn read_back<R: Wait, D: CacheDev>(
     rt: &R,
     alloc: Global,
     scene: &mut FeedScene<D>,
@@ -67,33 +67,6 @@ pub fn read_back<R: Wait, D: CacheDev>(
     ensures { IsScene scene.new.arcs scene.new.feeder scene.new.one (D.size scene.new.l2.dev) scene.new.l2.cursor }
 {
     let device = scene.l2.device();
-    let (hold, from) = get(
-        rt,
-        &scene.arcs,
-        &mut scene.one,
-        ptr,
-        tick,
-        &mut scene.pool,
-        device,
-    )?;
-    let bytes = hold.block().bytes().to_vec(alloc);
-    give_back(rt, &scene.arcs, &mut scene.one, hold);
-    let bytes = bytes.ok()?;
-    Some(ReadBack { from, bytes })
-}
-
-/// Reads a block where this device stands in the place of the scene's, and gives it back. None where the read is refused, or memory for its bytes.
-pub fn read_back_over<R: Wait, D: CacheDev, E: CacheDev>(
-    rt: &R,
-    alloc: Global,
-    scene: &mut FeedScene<D>,
-    ptr: &Ptr,
-    tick: u64,
-    device: &mut E,
-) -> Option<ReadBack>
-    requires { IsScene scene.old.arcs scene.old.feeder scene.old.one (D.size scene.old.l2.dev) scene.old.l2.cursor }
-    ensures { IsScene scene.new.arcs scene.new.feeder scene.new.one (D.size scene.new.l2.dev) scene.new.l2.cursor }
-{
     let (hold, from) = get(
         rt,
         &scene.arcs,

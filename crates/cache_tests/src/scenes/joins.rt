@@ -4,13 +4,12 @@ ghost use Rattle.std.proofs.lemmas.List.{length-replicate};
 ghost use Rattle.std.specs.Prelude.{◌≡◌, Some, replicate};
 ghost use Rattle.std.specs.Thread.{IsSync};
 ghost use Rattle.vdev_io.specs.MemoryLaws.{some_has_len};
-ghost use Rattle.arc_examples.specs.Ready.{IsReady};
+ghost use Rattle.arc_examples.specs.Ready.{IsReady, IsReadyAs};
 
-use super::reads::served;
 use super::{big, opened};
-use arc_core::Served;
+use arc_core::{ReadFault, Served};
 use arc_examples::{Pair, Plain};
-use arc_table::{Arcs, Party};
+use arc_table::{Arcs, Party, Read};
 use std::alloc::Global;
 use std::sync::Wait;
 use std::sync::atomic::AtomicU64;
@@ -83,6 +82,36 @@ impl Pool for Slow<'_> {
     ghost told_len = { λ pool image told. some_has_len (replicate pool.len 0) image told ∙ length-replicate pool.len 0 };
 }
 
+// Reads the first block; a hold stays with the party.
+fn read_of<R: Wait>(
+    rt: &R,
+    arcs: &Arcs<Plain>,
+    party: &mut Party<Plain>,
+    pool: &mut Slow,
+) -> Result<Read, ReadFault>
+    requires { IsReady arcs.now party.old }
+    ensures { IsReadyAs arcs.now party.old party.new }
+{
+    arcs.read(rt, party, &big(0), 1, pool, &mut NoCache::new())
+}
+
+// Where the bytes of such a read come from, where it gives a hold.
+fn served<R: Wait>(
+    rt: &R,
+    arcs: &Arcs<Plain>,
+    party: &mut Party<Plain>,
+    pool: &mut Slow,
+) -> Option<Served>
+    requires { IsReady arcs.now party.old }
+    ensures { IsReadyAs arcs.now party.old party.new }
+{
+    match read_of(rt, arcs, party, pool) {
+        Ok(Read::Held(_, served)) => Some(served),
+        Ok(Read::Past { block: _, kept: _ }) => None,
+        Err(_) => None,
+    }
+}
+
 // A caller reads the first block: what it is answered, and how often it read its own pool.
 fn reads_of<R: Wait>(
     rt: &R,
@@ -98,14 +127,7 @@ fn reads_of<R: Wait>(
         reads: 0,
         other_calls: 0,
     };
-    let answer = served(
-        rt,
-        arcs,
-        &mut party,
-        &big(0),
-        &mut pool,
-        &mut NoCache::new(),
-    );
+    let answer = served(rt, arcs, &mut party, &mut pool);
     (answer, pool.reads)
 }
 

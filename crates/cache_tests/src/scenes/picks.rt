@@ -1,35 +1,15 @@
-//! Blocks that the feeder picks, and how a pick is settled.
-ghost use Rattle.std.specs.Prelude.{◌≡◌, ℕ, ◌<◌, [], IfOk, IfSome};
-ghost use mathlib.Core.Option.{some};
-ghost use lib.ListN.{get_elem?};
-ghost use Rattle.arc_table.specs.feeder.Feeding.{IsFeeder, IsPicked};
-ghost use Rattle.arc_table.specs.declared.picks.Picked.{Picked};
+//! A pick beside another party that looks at a bucket.
+ghost use Rattle.std.specs.Prelude.{◌≡◌, ◌<◌, []};
+ghost use Rattle.arc_table.specs.feeder.Feeding.{IsFeeder};
 ghost use Rattle.arc_examples.specs.Ready.{IsReady, IsReadyAs};
 
-use super::reads::{device_of, served};
-use super::{TWO, big};
-use arc_core::{Bounds, Config, Served, Why};
-use arc_examples::{Caller, Plain, opened_pair, read_one};
+use super::TWO;
+use arc_examples::{Plain, opened_pair, read_one};
 use arc_table::{Arcs, Look, Party, Picked};
 use blk_ptr::{Key, NoMemory, Ptr, digest_of};
 use std::alloc::Global;
 use std::sync::Wait;
-use vdev_io::{MemCache, MemPool};
-
-// Two callers, one shard and one cell, where a feed may take the bytes of one block.
-const ONE_FITS: Config = Config {
-    callers: 2,
-    shards: 1,
-    buckets: 16,
-    cells: 1,
-    c: 4096,
-    mintime: 0,
-    dbuf_bytes: 4096,
-    bounds: Bounds {
-        write_max: 2048,
-        headroom: 2,
-    },
-};
+use vdev_io::MemPool;
 
 // A pool of 4,096 bytes of this value.
 fn pool_of(alloc: Global, byte: u8) -> Result<MemPool, NoMemory> {
@@ -88,8 +68,6 @@ fn picked<R: Wait>(
     requires feeder { IsFeeder arcs.now feeder.old }
     requires shard { 0 < arcs.now.config.shards }
     requires new { feeder.old.own.ledger.picked ≡ [] }
-    ensures ready { IsReadyAs arcs.now feeder.old feeder.new }
-    ensures picked { IfOk result (λ out. (j : ℕ) (x : Picked) → get_elem? out.items j ≡ some x → IsPicked arcs.now.config feeder.new x.key) }
 {
     let mut out = Vec::new(alloc);
     arcs.pick(rt, feeder, 0, &mut out)?;
@@ -118,109 +96,11 @@ fn picked_behind_a_look<R: Wait>(
     picks
 }
 
-// The first key that was picked.
-fn first_of(picks: &[Picked]) -> Option<Key>
-    ensures { IfSome result (λ k. (x : Picked) × (get_elem? picks.now 0 ≡ some x) × (k ≡ x.key)) }
-{
-    let first = picks.first()?;
-    Some(first.key)
-}
-
-// A picked key was written at a place: whether it has it.
-fn set_one<R: Wait>(rt: &R, arcs: &Arcs<Plain>, feeder: &mut Party<Plain>, key: Key) -> bool
-    requires ready { IsReady arcs.now feeder.old }
-    requires feeder { IsFeeder arcs.now feeder.old }
-    requires picked { IsPicked arcs.now.config feeder.old key }
-    ensures { IsReadyAs arcs.now feeder.old feeder.new }
-{
-    arcs.set(rt, feeder, key, 4096)
-}
-
-// A picked key is left, since the device failed.
-fn leave_one<R: Wait>(rt: &R, arcs: &Arcs<Plain>, feeder: &mut Party<Plain>, key: Key)
-    requires ready { IsReady arcs.now feeder.old }
-    requires feeder { IsFeeder arcs.now feeder.old }
-    requires picked { IsPicked arcs.now.config feeder.old key }
-    ensures { IsReadyAs arcs.now feeder.old feeder.new }
-{
-    arcs.leave(rt, feeder, key, Why::Device);
-}
-
-// The pick of the key is settled: it was written at a place, or it is left. Whether the key has the place.
-fn settle<R: Wait>(
-    rt: &R,
-    arcs: &Arcs<Plain>,
-    feeder: &mut Party<Plain>,
-    key: Key,
-    written: bool,
-) -> bool
-    requires ready { IsReady arcs.now feeder.old }
-    requires feeder { IsFeeder arcs.now feeder.old }
-    requires picked { IsPicked arcs.now.config feeder.old key }
-    ensures { IsReadyAs arcs.now feeder.old feeder.new }
-{
-    if written {
-        return set_one(rt, arcs, feeder, key);
-    }
-    leave_one(rt, arcs, feeder, key);
-    false
-}
-
-// Two other blocks are read, so that the first is evicted, and then the first one, over a device that has its bytes at the place: where
-// they come from.
-fn read_again<R: Wait>(
-    rt: &R,
-    arcs: &Arcs<Plain>,
-    one: &mut Caller,
-    pool: &mut MemPool,
-    device: &mut MemCache,
-) -> Option<Served>
-    requires { IsReady arcs.now one.old.party }
-{
-    let _ = read_one(rt, arcs, &mut one.party, &mut one.pool, &big(2), 4);
-    let _ = read_one(rt, arcs, &mut one.party, &mut one.pool, &big(3), 5);
-    served(rt, arcs, &mut one.party, &ptrs().0, pool, device)
-}
-
-// What was picked, whether the first key has a place, and where its bytes come from once it was evicted.
-#[derive(Drop)]
-struct Told {
-    picks: Vec<Picked>,
-    set: bool,
-    again: Option<Served>,
-}
-
-// Two blocks are read, one is picked, which is as much as a feed may take, and the pick is settled.
-fn row(rt: &impl Wait, alloc: Global, written: bool) -> Result<Told, NoMemory> {
-    let mut pair = opened_pair(alloc, &ONE_FITS, 16)?;
-    let mut pools = (pool_of(alloc, 1)?, pool_of(alloc, 2)?);
-    let mut device = device_of(alloc, 1)?;
-    let _ = read_both(rt, &pair.arcs, &mut pair.one.party, &mut pools);
-    let picks = picked(rt, alloc, &pair.arcs, &mut pair.feeder.party)?;
-    let Some(key) = first_of(&picks) else {
-        return Err(NoMemory);
-    };
-    let set = settle(rt, &pair.arcs, &mut pair.feeder.party, key, written);
-    let again = read_again(rt, &pair.arcs, &mut pair.one, &mut pools.0, &mut device);
-    Ok(Told { picks, set, again })
-}
-
 // Whether this block alone was picked, with its bytes, which are all of this value.
 fn is_only(picks: &[Picked], ptr: &Ptr, byte: u8) -> bool {
     match picks {
         [picked] => picked.key == ptr.key && picked.block.bytes() == [byte; 2048].as_slice(),
         _ => false,
-    }
-}
-
-#[test]
-fn a_block_with_a_place_is_read_from_the_device_once_it_is_evicted(rt: HostRuntime) {
-    for (written, from) in [(true, Served::L2), (false, Served::Pool)] {
-        let Ok(told) = row(&rt, rt.alloc(), written) else {
-            panic!(rt; "memory")
-        };
-        assert!(rt; is_only(&told.picks, &ptrs().0, 1));
-        assert!(rt; told.set == written && told.again == Some(from));
     }
 }
 
