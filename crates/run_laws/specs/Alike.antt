@@ -1,0 +1,323 @@
+-- Two runs of one trace by one caller, over the same bytes, of which the same calls failed: they come to the same (arc_read, dmu_read, dmu_write, spa_sync and l2arc_feed_thread, for a single thread).
+use Rattle.std.specs.Prelude.{◌≡◌, ◌≢◌, ◌⊎◌, ℕ, true, false, List, [], ◌∷◌, ◌++◌, length, map, Option, None, Some, slice_get}
+use Rattle.blk_ptr.specs.declared.ptr.Ptr.{Ptr}
+use Rattle.blk_ptr.specs.Ptr.{IsOf}
+use Rattle.arc_core.specs.PlainShard.{PlainShard}
+use Rattle.arc_core.specs.declared.served.Served.{Served}
+use Rattle.arc_core.specs.declared.served.Served.TheVariants as served
+use Rattle.arc_table.specs.Ended.{Ended}
+use Rattle.arc_table.specs.Fronts.{StartsWith}
+use Rattle.arc_table.specs.Geometry.{IsCell}
+use Rattle.dbuf_cells.specs.Places.{cell_of}
+use Rattle.dbuf_cells.specs.Turns.{OnHeap}
+use Rattle.dbuf_state.specs.Dbufs.{window_of}
+use Rattle.dbuf_state.specs.History.{Collide, Leads}
+use Rattle.dbuf_state.specs.Objects.{PlainCell, opening_cell}
+use Rattle.dbuf_state.specs.Outline.{mapped_at, outline_after}
+use Rattle.dbuf_state.specs.declared.event.CellEvent.{CellEvent}
+use Rattle.dbuf_state.specs.declared.state.Mapped.TheVariants.{Clean}
+use Rattle.l2_dev.specs.Cursor.{CursorState}
+use Rattle.l2_dev.specs.declared.report.FeedStop.TheVariants as stop
+use Rattle.l2_feed.specs.Plain.{answers_of, bare}
+use Rattle.l2_feed.specs.Shape.{NoneRefused}
+use Rattle.vdev_io.specs.Calls.{Call, Failed, Gave}
+use Rattle.vdev_io.specs.declared.device.CacheDev.{Ghosts as Devices}
+use Rattle.vdev_io.specs.declared.pool.Pool.{Ghosts}
+use Rattle.trace_text.specs.Grammar.{IsFormed}
+use Rattle.trace_text.specs.declared.op.Op.{Op}
+use Rattle.trace_text.specs.declared.op.Op.TheVariants as ops
+use Rattle.trace_text.specs.declared.reply.Reply.{Reply}
+use Rattle.trace_text.specs.declared.reply.Reply.TheVariants as replies
+use Rattle.trace_text.specs.declared.report.Report.{Report}
+use Rattle.trace_text.specs.declared.trace.Trace.{Trace}
+use Rattle.trace_run.specs.declared.ran.Ending.{Ending}
+use Rattle.trace_run.specs.declared.ran.Ending.TheVariants.{Fork, Full, Sync, Whole}
+use Rattle.trace_run.specs.declared.status.Status.{Status}
+use Rattle.trace_run.specs.Bounded.{device_len, with_bound}
+use Rattle.trace_run.specs.Devices.{usable}
+use Rattle.trace_run.specs.Effects.{calls_of, effect_of}
+use Rattle.trace_run.specs.FeedSeries.{GoOn}
+use Rattle.trace_run.specs.Feeds.{FeedDone}
+use Rattle.trace_run.specs.Lines.{caller_of, has_further, shard_of_line}
+use Rattle.trace_run.specs.Openings.{opening_map}
+use Rattle.trace_run.specs.Outcome.{HasRun, IsReport}
+use Rattle.trace_run.specs.Restores.{found_keys}
+use Rattle.trace_run.specs.States.{Handed}
+use Rattle.trace_run.specs.callers.Together.{between_groups}
+use Rattle.trace_run.specs.callers.WorkLines.{AsksBrought, effect_with}
+use Rattle.trace_run.specs.dbufs.ObjectLines.{OnObject, on_object}
+use Rattle.trace_run.specs.dbufs.Objects.{Brought, Line, Loaded, Nothing, Refused, Work}
+use Rattle.trace_run.specs.one_caller.Asking.{AsksLine}
+use Rattle.trace_run.specs.one_caller.InTurn.{RunsInTurn}
+use Rattle.trace_run.specs.one_caller.Lent.{told_lent}
+use Rattle.trace_run.specs.one_caller.Sequence.{AreInSequence, BetweenLines, DoesAnyLine, DoesOwn, IfLent, NotFromDevice, begins_so, shard_behind}
+
+-- ---- which calls failed
+
+-- as far as both rows go they are the same
+abbrev pub AreAlikeSoFar : {X : Type 0} → (xs ys : List X) → Type 0
+AreAlikeSoFar [] ys = Unit {0}
+AreAlikeSoFar (x ∷ xs) [] = Unit {0}
+AreAlikeSoFar (x ∷ xs) (y ∷ ys) = (x ≡ y) × AreAlikeSoFar xs ys
+
+-- the writes of a sync that was done: one of each block that it noted
+abbrev pub writes_of : Op → Work → List Call
+writes_of (ops.Txg t) work = map (λ note. Gave) work.noted
+writes_of (ops.Read n t x window) work = []
+writes_of (ops.Hold n t x) work = []
+writes_of (ops.Drop n x) work = []
+writes_of (ops.Get n t at window) work = []
+writes_of (ops.Put n t at size fill) work = []
+writes_of (ops.Patch n t at start bytes) work = []
+writes_of (ops.Pin n t at) work = []
+writes_of (ops.Unpin n at) work = []
+writes_of ops.Feed work = []
+writes_of (ops.Cap c) work = []
+
+-- how the pool answered the calls of a line, and of all lines, in their order
+abbrev pub pool_answers_to : Line → List Call
+pool_answers_to l = calls_of (effect_with l.work.brought l.reply) ++ writes_of l.op l.work
+
+abbrev pub pool_answers : List Line → List Call
+pool_answers [] = []
+pool_answers (l ∷ ls) = pool_answers_to l ++ pool_answers ls
+
+-- and those of the sync that stopped: it wrote the blocks that it noted, and the next write failed; or there was no room, and it wrote none
+abbrev pub answers_at_stop : Ending → Work → List Call
+answers_at_stop Whole stopped = []
+answers_at_stop Fork stopped = []
+answers_at_stop Sync stopped = map (λ note. Gave) stopped.noted ++ Failed ∷ []
+answers_at_stop (Full need left) stopped = []
+
+-- how the device answered the calls of these feeds
+abbrev pub feed_answers : List FeedDone → List Call
+feed_answers [] = []
+feed_answers (feed ∷ feeds) = answers_of feed.calls ++ feed_answers feeds
+
+-- where a device was lent, what is named of its answers; where none was, none
+abbrev pub lent_answers : {D : Type 0} (none : Type 0) (asks : D → D → Type 0) (calls : (old new : D) → asks old new → List Call) (old new : Option D) → IfLent none asks old new → List Call
+lent_answers none asks calls None None did = []
+lent_answers none asks calls None (Some new) did = []
+lent_answers none asks calls (Some old) None did = []
+lent_answers none asks calls (Some old) (Some new) did = calls old new did
+
+module _ {D : Type 0} (devices : Devices D) where
+  -- What the device tells behind a line that fed it: a write that fails leaves any bytes in its range.
+  abbrev pub left_behind : List FeedDone → (behind : Option D) → List (Option (List ℕ))
+  left_behind [] behind = []
+  left_behind (feed ∷ feeds) behind = told_lent devices behind ∷ []
+
+module _ {P D : Type 0} (pools : Ghosts P) (devices : Devices D) (trace : Trace) where
+  -- to the read that brings a block
+  abbrev pub bringing_answers : (s : ℕ → PlainShard) (brought : Brought) (reply : Reply) (old new : D) → AsksBrought devices trace.config s brought reply old new → List Call
+  bringing_answers s Nothing reply old new asks = []
+  bringing_answers s (Loaded ptr from) reply old new asks = asks.0
+  bringing_answers s (Refused ptr) reply old new asks = asks.0
+
+  -- to a line of the caller
+  abbrev pub own_answers : (on : Option OnObject) (l : Line) (from to : BetweenLines P D) → DoesOwn pools devices trace on l from to → List Call
+  own_answers None l from to does = lent_answers (NotFromDevice (effect_of l.reply))
+      (λ old new. (calls : List Call) × AsksLine devices trace.blocks (shard_behind trace.config from.shards (shard_of_line trace.config.shards trace.blocks l.op)) l.op l.reply calls old new)
+      (λ old new asks. asks.0) from.device to.device does.asks
+  own_answers (Some on) l from to does = lent_answers (NotFromDevice (effect_with l.work.brought l.reply)) (AsksBrought devices trace.config (shard_behind trace.config from.shards) l.work.brought l.reply)
+      (bringing_answers (shard_behind trace.config from.shards) l.work.brought l.reply) from.device to.device does.asks
+
+  -- to any line, with its feeds
+  abbrev pub device_answers_to : (by : Option ℕ) (l : Line) (here : List FeedDone) (from to : BetweenLines P D) → DoesAnyLine pools devices trace by l here from to → List Call
+  device_answers_to (Some n) l here from to does = own_answers (on_object l.op) l from to does.1.did
+  device_answers_to None l here from to does = feed_answers here
+
+  abbrev pub device_answers : (ls : List Line) (feeds : List FeedDone) (from to : BetweenLines P D) → AreInSequence pools devices trace ls feeds from to → List Call
+  device_answers [] feeds from to did = []
+  device_answers (l ∷ ls) feeds from to did = device_answers_to (caller_of l.op) l did.1 from did.0 did.4 ++ device_answers ls did.2 did.0 to did.5
+
+  -- behind each line that fed it
+  abbrev pub left_by_feeds : (ls : List Line) (feeds : List FeedDone) (from to : BetweenLines P D) → AreInSequence pools devices trace ls feeds from to → List (Option (List ℕ))
+  left_by_feeds [] feeds from to did = []
+  left_by_feeds (l ∷ ls) feeds from to did = left_behind devices did.1 did.0.device ++ left_by_feeds ls did.2 did.0 to did.5
+
+  -- ---- what stands between two lines is alike
+
+  -- both tell the same bytes, or there is none
+  abbrev pub AreDevicesAlike : (one other : Option D) → Type 0
+  AreDevicesAlike None None = Unit {0}
+  AreDevicesAlike None (Some other) = ⊥
+  AreDevicesAlike (Some one) None = ⊥
+  AreDevicesAlike (Some one) (Some other) = (devices.size other ≡ devices.size one) × ((image : List ℕ) × (devices.told one ≡ Some image) × (devices.told other ≡ Some image))
+
+  -- The pools tell the same bytes, and so do the devices; the next sync writes the same group, from the same place; the same was done to each shard and to each cell; and the same reads are kept. What
+  -- pool and device have counted may differ.
+  pub record AreAlike (one other : BetweenLines P D) : Type 0 where
+    pub image : List ℕ
+    pub told : pools.told one.outside.pool ≡ Some image
+    pub other_told : pools.told other.outside.pool ≡ Some image
+    pub group : other.outside.group ≡ one.outside.group
+    pub next : other.outside.next ≡ one.outside.next
+    pub device : AreDevicesAlike one.device other.device
+    pub shards : (shard : ℕ) → other.shards shard ≡ one.shards shard
+    pub cells : (i : ℕ) → IsCell trace.config i → other.cells i ≡ one.cells i
+    pub kept : other.kept ≡ one.kept
+
+-- the next feed finds the same ring
+pub record AreCursorsAlike (one other : CursorState) : Type 0 where
+  pub ring : bare other.ring ≡ bare one.ring
+
+-- the first does; or there is none, since no device was started
+abbrev pub AreFirstAlike : (one other : Option CursorState) → Type 0
+AreFirstAlike None None = Unit {0}
+AreFirstAlike None (Some other) = ⊥
+AreFirstAlike (Some one) None = ⊥
+AreFirstAlike (Some one) (Some other) = AreCursorsAlike one other
+
+-- the feeds of a run went on from this cursor; where no device was started there was none
+abbrev pub GoOnFrom : Option CursorState → List FeedDone → Type 0
+GoOnFrom None feeds = feeds ≡ []
+GoOnFrom (Some first) feeds = (last : CursorState) × GoOn feeds first last
+
+-- ---- where two runs may part
+
+-- two contents of one pointer, so of one digest
+pub record TwoContents (ptr : Ptr) : Type 0 where
+  pub one : List ℕ
+  pub other : List ℕ
+  pub of : IsOf one ptr
+  pub other_of : IsOf other ptr
+  pub differ : one ≢ other
+
+-- the reply to this line shows these bytes, as those of the pointer; the line is on the block of the pointer, or on an Oid that has it behind a front of its cell's history
+abbrev pub Shows : Trace → (closed : List OnHeap) → Op → Ptr → (bytes : List ℕ) → Reply → Type 0
+Shows trace closed (ops.Read n t x window) ptr bytes reply = (slice_get trace.blocks x ≡ Some ptr) × ((from : Served) × (reply ≡ replies.Read from ptr.digest (window_of window bytes)))
+Shows trace closed (ops.Get n t at window) ptr bytes reply =
+    (cell : OnHeap) × (front : List CellEvent) × (slice_get closed (cell_of trace.config.cells at) ≡ Some cell) × StartsWith cell.value.history front
+    × (mapped_at at (outline_after trace.config.dbuf_bytes (opening_map trace (cell_of trace.config.cells at)) front) ≡ Some (Clean ptr)) × (reply ≡ replies.Got (length bytes) (window_of window bytes))
+Shows trace closed (ops.Hold n t x) ptr bytes reply = ⊥
+Shows trace closed (ops.Drop n x) ptr bytes reply = ⊥
+Shows trace closed (ops.Put n t at size fill) ptr bytes reply = ⊥
+Shows trace closed (ops.Patch n t at start patched) ptr bytes reply = ⊥
+Shows trace closed (ops.Pin n t at) ptr bytes reply = ⊥
+Shows trace closed (ops.Unpin n at) ptr bytes reply = ⊥
+Shows trace closed ops.Feed ptr bytes reply = ⊥
+Shows trace closed (ops.Txg t) ptr bytes reply = ⊥
+Shows trace closed (ops.Cap c) ptr bytes reply = ⊥
+
+-- One line is answered by both, with different bytes, which are two contents of one digest.
+pub record ShowsTwo (trace : Trace) (lines others : List Line) (closed closed_other : List OnHeap) : Type 0 where
+  pub place : ℕ
+  pub line : Line
+  pub other : Line
+  pub at : slice_get lines place ≡ Some line
+  pub other_at : slice_get others place ≡ Some other
+  pub same : other.op ≡ line.op
+  pub ptr : Ptr
+  pub contents : TwoContents ptr
+  pub shown : Shows trace closed line.op ptr contents.one line.reply
+  pub other_shown : Shows trace closed_other other.op ptr contents.other other.reply
+  pub differ : other.reply ≢ line.reply
+
+-- A cell has come by one history to two states: patches of clean blocks began from two contents of one digest.
+pub record ReplaysTwo (trace : Trace) (closed closed_other : List OnHeap) : Type 0 where
+  pub i : ℕ
+  pub cell : OnHeap
+  pub other : OnHeap
+  pub at : slice_get closed i ≡ Some cell
+  pub other_at : slice_get closed_other i ≡ Some other
+  pub front : List CellEvent
+  pub begins : StartsWith cell.value.history front
+  pub other_begins : StartsWith other.value.history front
+  pub bases : List (List ℕ)
+  pub other_bases : List (List ℕ)
+  pub state : PlainCell
+  pub other_state : PlainCell
+  pub leads : Leads (opening_cell trace.config.dbuf_bytes (opening_map trace i)) front bases state
+  pub other_leads : Leads (opening_cell trace.config.dbuf_bytes (opening_map trace i)) front other_bases other_state
+  pub collide : Collide bases other_bases
+
+-- memory was refused for one of these feeds, or for taking a place in it
+pub record WantsMemory (feeds : List FeedDone) : Type 0 where
+  pub place : ℕ
+  pub feed : FeedDone
+  pub at : slice_get feeds place ≡ Some feed
+  pub wants : (feed.report.end ≡ stop.NoMemory) ⊎ (¬ NoneRefused feed.acts)
+
+-- the block of one of these lines on objects was read past the cache
+pub record ReadsPast (lines : List Line) : Type 0 where
+  pub place : ℕ
+  pub line : Line
+  pub at : slice_get lines place ≡ Some line
+  pub ptr : Ptr
+  pub past : line.work.brought ≡ Loaded ptr served.Past
+
+-- ---- the law
+
+-- A run of one caller that came to a report, whose lines were done in sequence; its feeds went on from the cursor that the start of its device found.
+pub record OneRun {P D : Type 0} (pools : Ghosts P) (devices : Devices D) (trace : Trace) : Type 0 where
+  pub before : P
+  pub after : P
+  pub lent : Option D
+  pub back : Option D
+  pub ending : Ending
+  pub closed : Ended OnHeap
+  pub report : Report
+  pub run : HasRun pools devices before after lent back trace ending closed report
+  pub in_turn : RunsInTurn pools devices before after lent back run.run.place trace ending run.work run.run.explained.owner closed.cells report
+  pub first : Option CursorState
+  pub fed : GoOnFrom first run.work.feeds
+  pub whole : report.short ≡ false
+
+module _ {P D : Type 0} (pools : Ghosts P) (devices : Devices D) (trace : Trace) where
+  -- how a run began, and how its calls were answered, in their order
+  abbrev pub begun : OneRun pools devices trace → BetweenLines P D
+  begun run = begins_so trace.config (found_keys run.report.rebuilt) (between_groups run.before 1 run.run.run.place) run.lent
+
+  abbrev pub pool_row : OneRun pools devices trace → List Call
+  pool_row run = pool_answers run.run.work.lines ++ answers_at_stop run.ending run.run.work.stopped
+
+  abbrev pub device_row : OneRun pools devices trace → List Call
+  device_row run = device_answers pools devices trace run.run.work.lines run.run.work.feeds (begun run) run.in_turn.reached run.in_turn.lines
+
+  -- what its device told behind each line that fed it
+  abbrev pub left_row : OneRun pools devices trace → List (Option (List ℕ))
+  left_row run = left_by_feeds pools devices trace run.run.work.lines run.run.work.feeds (begun run) run.in_turn.reached run.in_turn.lines
+
+module _ {P D : Type 0} (pools : Ghosts P) (devices : Devices D) (trace : Trace) (one other : OneRun pools devices trace) where
+  -- both began over the same bytes, and found the same on the device
+  pub record BeginAlike : Type 0 where
+    pub image : List ℕ
+    pub told : pools.told one.before ≡ Some image
+    pub other_told : pools.told other.before ≡ Some image
+    pub device : AreDevicesAlike pools devices trace one.lent other.lent
+    pub found : other.report.rebuilt ≡ one.report.rebuilt
+    pub cursors : AreFirstAlike one.first other.first
+
+  -- As far as both made calls the same ones failed; and behind each feed the device tells the same.
+  pub record FailAlike : Type 0 where
+    pub pool : AreAlikeSoFar (pool_row pools devices trace one) (pool_row pools devices trace other)
+    pub device : AreAlikeSoFar (device_row pools devices trace one) (device_row pools devices trace other)
+    pub left : AreAlikeSoFar (left_row pools devices trace one) (left_row pools devices trace other)
+
+  -- the same report, so the same replies and histories of shards, the same end of the lines, and the same histories of cells
+  pub record ComeToTheSame : Type 0 where
+    pub report : other.report ≡ one.report
+    pub ending : other.ending ≡ one.ending
+    pub cells : (i : ℕ) (cell there : OnHeap) → slice_get one.closed.cells i ≡ Some cell → slice_get other.closed.cells i ≡ Some there → there.value.history ≡ cell.value.history
+
+  -- Two contents of one digest are in hand, which a reply shows or a patch began from; or a feed wanted memory; or a line on an object was read past the cache.
+  pub data MayPart : Type 0 where
+    shows : ShowsTwo trace one.run.work.lines other.run.work.lines one.closed.cells other.closed.cells → MayPart
+    replays : ReplaysTwo trace one.closed.cells other.closed.cells → MayPart
+    memory : WantsMemory one.run.work.feeds ⊎ WantsMemory other.run.work.feeds → MayPart
+    past : ReadsPast one.run.work.lines ⊎ ReadsPast other.run.work.lines → MayPart
+
+-- Two runs of one trace with one caller, over a pool and a device that tell the same bytes, of which the same calls failed, come to the same; but for these cases.
+abbrev pub RunsAreAlike : {P D : Type 0} → Ghosts P → Devices D → Type 0
+RunsAreAlike pools devices = (trace : Trace) (one other : OneRun pools devices trace) → IsFormed trace → trace.config.callers ≡ 1
+    → BeginAlike pools devices trace one other → FailAlike pools devices trace one other → ComeToTheSame pools devices trace one other ⊎ MayPart pools devices trace one other
+
+-- ---- the runs that `run` tells of
+
+-- Each report with one caller, of a trace that has a line on an object, a sync or a feed, is of such a run: of the pool and the device that were handed in, of the trace with the bound of a feed that the device
+-- gives. (A report of any other trace of one caller is a plain function of what its calls were answered: `plain_report`.)
+abbrev pub ReportsAreRuns : {P D : Type 0} → Ghosts P → Devices D → Type 0
+ReportsAreRuns {P} {D} pool device = (before after : Handed P D) (answer : Status) (closed : Ended OnHeap) (report : Report) (r : IsReport pool device before after answer closed report)
+    → r.trace.config.callers ≡ 1 → has_further r.trace.ops ≡ true → (run : OneRun pool device (with_bound r.trace (device_len device.size before.cache)))
+    × (run.before ≡ before.pool) × (run.lent ≡ usable device r.started) × (run.first ≡ r.first) × (run.ending ≡ r.ending) × (run.closed ≡ closed) × (run.report ≡ report)
