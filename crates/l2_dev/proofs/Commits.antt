@@ -9,7 +9,7 @@ use Rattle.vdev_io.specs.Device.{IsTorn, IsWritten, put}
 use Rattle.vdev_io.proofs.CallLemmas.{asked_behind}
 use Rattle.blk_ptr.specs.Ptr.{sha256_of}
 use Rattle.l2_log.specs.Rules.{log_len, header_len}
-use Rattle.l2_log.specs.HeaderBytes.{IsHeader}
+use Rattle.l2_log.specs.HeaderBytes.{IsHeader, SpellsHeader}
 use Rattle.l2_log.specs.LogBytes.{IsLogBlock}
 use Rattle.l2_log.specs.declared.entry.LogEntry.{LogEntry}
 use Rattle.l2_log.specs.declared.header.DevHeader.{DevHeader}
@@ -65,6 +65,7 @@ reserved_upheld old new p f up =
 pub block_of_reserved : (old new : CursorState) (bytes : List ℕ) (ptr : LogPtr) (block : LogBlock) → IsReserved old new → IsBlockOf new bytes ptr block → IsBlockOf old bytes ptr block
 block_of_reserved old new bytes ptr block r of = record {
   bytes_of = of.bytes_of;
+  are_bytes = of.are_bytes;
   version = of.version;
   lap = of.lap ∙ r.lap;
   prev = of.prev ∙ r.second;
@@ -77,6 +78,7 @@ block_of_reserved old new bytes ptr block r of = record {
 pub block_to_reserved : (old new : CursorState) (bytes : List ℕ) (ptr : LogPtr) (block : LogBlock) → IsReserved old new → IsBlockOf old bytes ptr block → IsBlockOf new bytes ptr block
 block_to_reserved old new bytes ptr block r of = record {
   bytes_of = of.bytes_of;
+  are_bytes = of.are_bytes;
   version = of.version;
   lap = of.lap ∙ sym r.lap;
   prev = of.prev ∙ sym r.second;
@@ -438,7 +440,7 @@ module _ {D : Type 0} (device : Ghosts D) where
 
   -- and then the header's write and its flush
   pub header_asks : {T : Type 0} (old mid new : D) (cursor : CursorState) (ptr : LogPtr) (header : DevHeader) (result : Result T DevErr) → LogAsks device cursor old mid (let r : Result LogPtr DevErr = Ok ptr in r)
-      → IsHeaderWith cursor ptr header → (sector : List ℕ) → IsHeader sector header → MakesAsked device (header_calls sector) mid new result → CommitAsks device cursor old new result
+      → IsHeaderWith cursor ptr header → (sector : List ℕ) → SpellsHeader sector header → MakesAsked device (header_calls sector) mid new result → CommitAsks device cursor old new result
   header_asks old mid new cursor ptr header result l with sector is made = (
     l.0,
     l.1,

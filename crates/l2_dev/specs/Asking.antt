@@ -3,7 +3,7 @@ use Rattle.std.specs.Prelude.{◌≡◌, ℕ, ◌⊎◌, List, [], ◌∷◌, �
 use Rattle.vdev_io.specs.declared.device.CacheDev.{Ghosts}
 use Rattle.vdev_io.specs.Calls.{Call, Gave, Failed, Asked, Read, Write, Flush, DeviceCall, answered, MakesAll, MakesUpTo, MakesAsked}
 use Rattle.l2_log.specs.Rules.{header_len, log_len}
-use Rattle.l2_log.specs.HeaderBytes.{IsHeader}
+use Rattle.l2_log.specs.HeaderBytes.{SpellsHeader}
 use Rattle.l2_log.specs.declared.pointer.LogPtr.{LogPtr}
 use Rattle.l2_log.specs.declared.log_block.LogBlock.{LogBlock}
 use Rattle.l2_log.specs.declared.header.DevHeader.{DevHeader}
@@ -35,7 +35,7 @@ AsksFor device all refused old new (Err NoMemory) = MakesAll device refused old 
 
 -- a begin writes the header with the numbers and pointers of the cursor, and flushes
 abbrev pub BeginAsks : {D T E : Type 0} → Ghosts D → CursorState → (old new : D) → Result T E → Type 0
-BeginAsks device after old new result = (sector : List ℕ) × (header : DevHeader) × IsHeader sector header × IsHeaderFrom after header × MakesAsked device (header_calls sector) old new result
+BeginAsks device after old new result = (sector : List ℕ) × (header : DevHeader) × SpellsHeader sector header × IsHeaderFrom after header × MakesAsked device (header_calls sector) old new result
 
 -- the log block of the pending entries is written at the hand, and flushed; at Ok this is the pointer to it
 abbrev pub LogAsks : {D E : Type 0} → Ghosts D → CursorState → (old new : D) → Result LogPtr E → Type 0
@@ -47,7 +47,7 @@ LogAsks device cursor old new result = (bytes : List ℕ) × (block : LogBlock) 
 abbrev pub CommitAsks : {D T : Type 0} → Ghosts D → CursorState → (old new : D) → Result T DevErr → Type 0
 CommitAsks device cursor old new result = (bytes : List ℕ) × (block : LogBlock) × (ptr : LogPtr) × IsBlockOf cursor bytes ptr block
     × ((IsErrOf result DevFault × MakesUpTo device (log_calls cursor.ring.hand bytes) old new)
-    ⊎ ((sector : List ℕ) × (header : DevHeader) × IsHeader sector header × IsHeaderWith cursor ptr header
+    ⊎ ((sector : List ℕ) × (header : DevHeader) × SpellsHeader sector header × IsHeaderWith cursor ptr header
     × MakesAsked device (log_calls cursor.ring.hand bytes ++ header_calls sector) old new result))
 
 -- the log block of a pointer is read

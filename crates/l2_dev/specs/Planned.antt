@@ -4,6 +4,7 @@ use Rattle.std.specs.Prelude.{◌≡◌, ℕ, ◌+◌, List, [], ◌∷◌, ◌+
 use Rattle.std.specs.List.{filter}
 use Rattle.blk_ptr.specs.Ptr.{sha256_of}
 use Rattle.l2_log.specs.Rules.{log_len}
+use Rattle.l2_log.specs.Bytes.{AreBytes}
 use Rattle.l2_log.specs.LogBytes.{IsLogBlock}
 use Rattle.l2_log.specs.declared.header.DevHeader.{DevHeader}
 use Rattle.l2_log.specs.declared.pointer.LogPtr.{LogPtr}
@@ -34,9 +35,10 @@ pub record IsHeaderWith (cursor : CursorState) (ptr : LogPtr) (header : DevHeade
   pub second : header.second ≡ cursor.newest
   pub version : header.version ≡ 2
 
--- these bytes are the log block of the pending entries, and this is the pointer to it at the hand
+-- these bytes are the one spelling of the log block of the pending entries, and this is the pointer to it at the hand
 pub record IsBlockOf (cursor : CursorState) (bytes : List ℕ) (ptr : LogPtr) (block : LogBlock) : Type 0 where
   pub bytes_of : IsLogBlock bytes block
+  pub are_bytes : AreBytes bytes
   pub version : block.version ≡ 2
   pub lap : block.lap ≡ cursor.ring.lap
   pub prev : block.prev ≡ cursor.second

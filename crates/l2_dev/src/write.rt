@@ -3,7 +3,7 @@ ghost use Rattle.std.specs.Prelude.{◌≡◌, ◌+◌, ◌≤◌, ◌∷◌, []
 ghost use Rattle.vdev_io.specs.Faults.{HasCause};
 ghost use Rattle.vdev_io.specs.Calls.{Flush, MakesAsked, Write};
 ghost use Rattle.vdev_io.specs.Device.{put, IsWritten};
-ghost use Rattle.l2_log.specs.HeaderBytes.{IsHeader};
+ghost use Rattle.l2_log.specs.HeaderBytes.{SpellsHeader};
 ghost use Rattle.l2_log.specs.Rules.{header_len};
 ghost use Rattle.l2_dev.specs.Asking.{header_calls};
 ghost use Rattle.l2_dev.specs.Steps.{Wrote, HasFlushed, HeaderWritten};
@@ -48,7 +48,7 @@ pub(crate) fn write_header<D: CacheDev>(dev: &mut D, header: &DevHeader) -> Resu
     ensures written { HeaderWritten D.told D.has_sectors D.may_leave D.moment D.left_since header.now dev.old dev.new result }
     ensures size { D.size dev.new ≡ D.size dev.old }
     ensures cause { HasCause (D.faults dev.old) (D.faults dev.new) result }
-    ensures calls { (sector : List ℕ) × IsHeader sector header.now × MakesAsked D.CacheDev (header_calls sector) dev.old dev.new result }
+    ensures calls { (sector : List ℕ) × SpellsHeader sector header.now × MakesAsked D.CacheDev (header_calls sector) dev.old dev.new result }
 {
     let mut sector = [0; HEADER_LEN];
     header.write(&mut sector);

@@ -7,7 +7,7 @@ use Rattle.vdev_io.specs.Calls.{Asked, DeviceCall, Failed, Gave, MakesAll, Makes
 use Rattle.vdev_io.proofs.CallLemmas.{all_behind, calls_behind, up_to_behind, up_to_wider}
 use Rattle.arc_table.specs.declared.picks.Picked.{Picked as Block}
 use Rattle.l2_log.specs.Rules.{log_len}
-use Rattle.l2_log.specs.HeaderBytes.{IsHeader}
+use Rattle.l2_log.specs.HeaderBytes.{SpellsHeader}
 use Rattle.l2_log.specs.declared.header.DevHeader.{DevHeader}
 use Rattle.l2_log.specs.declared.log_block.LogBlock.{LogBlock}
 use Rattle.l2_log.specs.declared.pointer.LogPtr.{LogPtr}
@@ -126,7 +126,7 @@ module _ {D : Type 0} (device : Ghosts D) where
     asks_log bytes block ptr is = record { ptr = ptr; log = log_is run old now bytes ptr block put is; asked_are = refl }
 
     asks_run : (bytes : List ℕ) (block : LogBlock) (ptr : LogPtr) → IsBlockOf now bytes ptr block
-        → (whole : (sector : List ℕ) × (header : DevHeader) × IsHeader sector header × IsHeaderWith now ptr header) → AsksRun old run ((asked ++ logs bytes) ++ header_calls whole.0)
+        → (whole : (sector : List ℕ) × (header : DevHeader) × SpellsHeader sector header × IsHeaderWith now ptr header) → AsksRun old run ((asked ++ logs bytes) ++ header_calls whole.0)
     asks_run bytes block ptr is whole = record {
       front = asked ++ logs bytes;
       log = asks_log bytes block ptr is;
@@ -244,7 +244,7 @@ module _ {D : Type 0} (device : Ghosts D) where
 -- ---- how the calls of a feed were answered
 
 -- each was done, or the last one failed, as the end says
-abbrev AnsweredSo : FeedStop → List DeviceCall → Type 0
+abbrev pub AnsweredSo : FeedStop → List DeviceCall → Type 0
 AnsweredSo stop.Done calls = (asked : List Asked) × (calls ≡ all_gave asked)
 AnsweredSo stop.DevFault calls = (done : List Asked) × (failed : Asked) × (calls ≡ all_gave done ++ answered Failed failed ∷ [])
 AnsweredSo stop.NoMemory calls = (asked : List Asked) × (calls ≡ all_gave asked)
@@ -284,7 +284,7 @@ shard_answered shard old new acts calls end (inr (inr f)) = go f.written f.asks
     go (inl w) asks = batch_answered w.begun f.blocks w.ran.count end calls asks
     go (inr u) asks = none_answered end calls (inr u.ended) asks
 
-fed_answered : (shard count : ℕ) (old new : CursorState) (acts : List Act) (calls : List DeviceCall) (end : FeedStop) → AreFed shard count old new acts calls end → AnsweredSo end calls
+pub fed_answered : (shard count : ℕ) (old new : CursorState) (acts : List Act) (calls : List DeviceCall) (end : FeedStop) → AreFed shard count old new acts calls end → AnsweredSo end calls
 fed_answered shard zero old new acts calls end fed = none_answered end calls (inl fed.2) fed.3
 fed_answered shard (suc n) old new acts calls end (inl ends) = shard_answered shard old new acts calls end ends.1
 fed_answered shard (suc n) old new acts calls end (inr (first, more, between, front, behind, is, asked, one, rest)) =

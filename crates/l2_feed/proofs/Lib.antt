@@ -21,6 +21,8 @@ pub mod Telling
 pub mod Blocks
 pub mod Alone
 pub mod Plain
+pub mod Spelled
+pub mod Alike
 pub mod Whole
 pub mod Ends
 pub mod Between

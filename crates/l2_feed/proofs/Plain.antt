@@ -93,7 +93,7 @@ some_many cursor run asked (inl is) = let n = ap length is in let p = puts_many 
 some_many cursor run asked (inr (inl log)) = let n = log_many cursor run asked log in omega arith
 some_many cursor run asked (inr (inr r)) = let n = run_many cursor run asked r in omega arith
 
-answers_two : (a b : List DeviceCall) (later : List Call) → answers_of (a ++ b) ++ later ≡ answers_of a ++ (answers_of b ++ later)
+pub answers_two : (a b : List DeviceCall) (later : List Call) → answers_of (a ++ b) ++ later ≡ answers_of a ++ (answers_of b ++ later)
 answers_two a b later = ap (λ (l : List Call). l ++ later) (map-append (λ (c : DeviceCall). c.answer) a b) ∙ append_assoc (answers_of a) (answers_of b) later
 
 -- ---- acts
@@ -103,7 +103,7 @@ module _ (g : Config) (n : ℕ) where
   after_two s [] b = refl
   after_two s (x ∷ a) b = after_two (shards_after g n s x) a b
 
-  of_two : (s : ℕ → PlainShard) (a b : List Act) → AreOfShards g n s (a ++ b) → AreOfShards g n s a × AreOfShards g n (all_after g n s a) b
+  pub of_two : (s : ℕ → PlainShard) (a b : List Act) → AreOfShards g n s (a ++ b) → AreOfShards g n s a × AreOfShards g n (all_after g n s a) b
   of_two s [] b are = (tt, are)
   of_two s (x ∷ a) b are = let r = of_two (shards_after g n s x) a b are.1 in ((are.0, r.0), r.1)
 
@@ -189,7 +189,7 @@ entries_are : (lap place : ℕ) (bs : List Block) → entries_of lap place (pick
 entries_are lap place [] = refl
 entries_are lap place (b ∷ bs) = ap (λ (ws : List Written). record { live = record { key = b.key; place = place; digest = Some (sha256_of b.block.value) }; lap = lap } ∷ ws) (entries_are lap (place + b.key.size) bs)
 
-plan_is : (ring : RingState) (k : ℕ) (plan : Plan) → IsPlanFor ring k plan → plan ≡ plan_for (bare ring) k
+pub plan_is : (ring : RingState) (k : ℕ) (plan : Plan) → IsPlanFor ring k plan → plan ≡ plan_for (bare ring) k
 plan_is ring k plan is = elim (cases_lt ring.end (ring.hand + k)) [
   | inl far ↦ rw (lt-leb (ring.hand + k) ring.end far) (is.wrapped far)
   | inr near ↦ let le : ring.hand + k ≤ ring.end = omega arith in rw (le-leb (ring.hand + k) ring.end le) (is.straight le)
@@ -376,7 +376,7 @@ module _ (g : Config) (n : ℕ) where
 
 -- ---- one shard, and all of them
 
-none_two : (a b : List Act) → NoneRefused (a ++ b) → NoneRefused a × NoneRefused b
+pub none_two : (a b : List Act) → NoneRefused (a ++ b) → NoneRefused a × NoneRefused b
 none_two [] b none = (tt, none)
 none_two (x ∷ a) b none = let r = none_two a b none.1 in ((none.0, r.0), r.1)
 
@@ -391,7 +391,7 @@ module _ (g : Config) (n : ℕ) where
       ∙ sym (append_assoc (map (λ (e : Event). (shard_of_act g x, e)) (events_of n x)) (told_of g n a) (told_of g n b))
 
   -- what is fed, by its acts
-  abbrev fed_as : (ℕ → PlainShard) → RingState → List Call → FeedStop → List Act → PlainFed
+  abbrev pub fed_as : (ℕ → PlainShard) → RingState → List Call → FeedStop → List Act → PlainFed
   fed_as s ring later end acts = record { events = told_of g n acts; at = record { shards = all_after g n s acts; ring = bare ring; answers = later }; end = end }
 
   -- the shard with these events, and then the batch of these picks
@@ -436,7 +436,7 @@ module _ (g : Config) (n : ℕ) where
             (some_batch f.blocks record { shards = shards_after g n s (Picked shard f.blocks); ring = bare old.ring; answers = answers_of calls ++ later } f.some ∙ batch_is g n w ended (shards_after g n s (Picked shard f.blocks)) all.1 unrefused later calls asks)
             ∙ ap (fed_as s new.ring later end) (sym f.acts_are)))
 
-    shard_fed : FedShard shard old new acts calls end → end ≢ stop.NoMemory → NoneRefused acts → AreOfShards g n s acts → shard_from g n shard st ≡ fed_as s new.ring later end acts
+    pub shard_fed : FedShard shard old new acts calls end → end ≢ stop.NoMemory → NoneRefused acts → AreOfShards g n s acts → shard_from g n shard st ≡ fed_as s new.ring later end acts
     shard_fed (inl f) ended none of = none_fed f.0 f.1 f.2 f.3 of
     shard_fed (inr (inl f)) ended none of = absurd (ended f.2)
     shard_fed (inr (inr f)) ended none of = batch_fed f ended none of

@@ -171,6 +171,7 @@ log_is run old now bytes ptr block so b = record {
   bytes = bytes;
   block = block;
   written = b.bytes_of;
+  are_bytes = b.are_bytes;
   version = b.version;
   lap = b.lap ∙ so.lap;
   prev = b.prev ∙ so.second;

@@ -3,7 +3,7 @@ use Rattle.std.specs.Prelude.{◌≡◌, ◌⊎◌, ℕ, zero, suc, ◌+◌, ◌
 use Rattle.vdev_io.specs.Calls.{Asked, DeviceCall, Failed, Gave, Write, answered}
 use Rattle.arc_table.specs.declared.picks.Picked.{Picked as Block}
 use Rattle.l2_log.specs.Rules.{log_len}
-use Rattle.l2_log.specs.HeaderBytes.{IsHeader}
+use Rattle.l2_log.specs.HeaderBytes.{SpellsHeader}
 use Rattle.l2_log.specs.declared.header.DevHeader.{DevHeader}
 use Rattle.l2_log.specs.declared.pointer.LogPtr.{LogPtr}
 use Rattle.l2_ring.specs.Ring.{numbers_of, with_hand}
@@ -71,7 +71,7 @@ pub record AsksRun (cursor : CursorState) (run : List Block) (asked : List Asked
   pub log : AsksLog cursor run front
   pub sector : List ℕ
   pub header : DevHeader
-  pub is : IsHeader sector header
+  pub is : SpellsHeader sector header
   pub names : NamesLog cursor (cursor.ring.hand + (bytes_of run + log_len)) log.ptr header
   pub asked_are : asked ≡ front ++ header_calls sector
 
@@ -120,7 +120,7 @@ pub record RunsCalls (old : CursorState) (blocks : List Block) (count : ℕ) (en
 pub record AsksHeader (cursor : CursorState) (asked : List Asked) : Type 0 where
   pub sector : List ℕ
   pub header : DevHeader
-  pub is : IsHeader sector header
+  pub is : SpellsHeader sector header
   pub from : IsHeaderFrom cursor header
   pub asked_are : asked ≡ header_calls sector
 

@@ -8,6 +8,7 @@ pub mod Places
 pub mod Told
 pub mod Alone
 pub mod Plain
+pub mod Alike
 pub mod Crashes
 pub mod Fed
 pub mod Ends

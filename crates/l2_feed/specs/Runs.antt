@@ -8,6 +8,7 @@ use Rattle.arc_core.specs.declared.event.Why.TheVariants as why
 use Rattle.arc_table.specs.declared.picks.Picked.{Picked as Block}
 use Rattle.l2_log.specs.declared.log_block.LogBlock.{LogBlock}
 use Rattle.l2_log.specs.declared.pointer.LogPtr.{LogPtr}
+use Rattle.l2_log.specs.Bytes.{AreBytes}
 use Rattle.l2_log.specs.LogBytes.{IsLogBlock}
 use Rattle.l2_log.specs.Rules.{log_len, most_with}
 use Rattle.l2_ring.specs.declared.live.Live.{Live}
@@ -47,6 +48,7 @@ pub record IsLogOf (number at : ℕ) (second : Option LogPtr) (run : List Block)
   pub bytes : List ℕ
   pub block : LogBlock
   pub written : IsLogBlock bytes block
+  pub are_bytes : AreBytes bytes
   pub version : block.version ≡ 2
   pub lap : block.lap ≡ number
   pub prev : block.prev ≡ second

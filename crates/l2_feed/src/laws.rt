@@ -1,4 +1,5 @@
 //! Laws of feeds that no single clause states: each is the contract of a function with nothing to do.
+ghost use Rattle.l2_feed.specs.Alike.{FeedsComeToOne};
 ghost use Rattle.l2_feed.specs.Ends.{DoneIsWhole, LeavesForItsEnd, NewestStay, TakesFewLaps};
 
 use arc_core::Keeps;
@@ -20,4 +21,10 @@ pub fn feeds_take_few_laps()
 /// that were done a crash restores each such key at its place (`newest_is_restored` of `l2_dev`).
 pub fn newest_places_stay<C: Keeps, D: CacheDev>()
     ensures { NewestStay C.Keeps D.CacheDev }
+{}
+
+/// Two feeds of the same shards, over rings that are alike, whose calls of the device were answered the same and for which memory was refused nowhere,
+/// leave alike rings, and where no call failed, they asked the device for the same, byte by byte; or two contents of one digest were picked.
+pub fn feeds_come_to_one()
+    ensures { FeedsComeToOne }
 {}

@@ -10,7 +10,7 @@ mod series;
 mod settle;
 
 pub use feeding::feed;
-pub use laws::{ends_tell_of_acts, feeds_take_few_laps, newest_places_stay};
+pub use laws::{ends_tell_of_acts, feeds_come_to_one, feeds_take_few_laps, newest_places_stay};
 pub use series::{
     crashes_keep_live, crashes_restore_places, feeds_in_turn, feeds_make_their_events,
     places_go_between_feeds, restored_places_are_newest,

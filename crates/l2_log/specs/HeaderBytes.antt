@@ -1,7 +1,7 @@
 -- The 512 bytes of a device header, place by place.
 use Rattle.std.specs.Prelude.{◌≡◌, ◌≢◌, ℕ, ◌≤◌, List, take, length}
 use Rattle.blk_ptr.specs.Ptr.{sha256_of}
-use Rattle.l2_log.specs.Bytes.{word, digest_at, IsZeroIn, AreZero}
+use Rattle.l2_log.specs.Bytes.{word, digest_at, IsZeroIn, AreBytes, AreZero}
 use Rattle.l2_log.specs.Rules.{header_magic, header_len, ring_start, most_with, has_digests, IsVersion, IsRingEnd, IsRingPlace}
 use Rattle.l2_log.specs.Places.{IsFirstBroken}
 use Rattle.l2_log.specs.PointerBytes.{IsPointerOrNone, PointerRule}
@@ -30,6 +30,11 @@ pub record IsHeader (bytes : List ℕ) (header : DevHeader) : Type 0 where
   pub second : IsPointerOrNone bytes 192 header.second
   pub zeros_behind : AreZero 256 480 bytes
   pub sealed : IsSealed bytes
+
+-- these are bytes, and this header: the one spelling of it
+pub record SpellsHeader (bytes : List ℕ) (header : DevHeader) : Type 0 where
+  pub are_bytes : AreBytes bytes
+  pub is : IsHeader bytes header
 
 -- what the number at place k must be
 pub record NumberRule (bytes : List ℕ) (k : ℕ) : Type 0 where

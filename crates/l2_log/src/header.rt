@@ -94,6 +94,7 @@ impl DevHeader {
     /// Writes the one spelling of this header.
     pub fn write(&self, out: &mut [u8; 512])
         ensures spelled { IsHeader out.new self.now }
+        ensures bytes { AreBytes out.new }
         ensures only { (bytes : List ℕ) → AreBytes bytes → IsHeader bytes self.now → bytes ≡ out.new }
     {
         clear(out);

@@ -145,6 +145,7 @@ impl LogBlock {
     pub fn write(&self, out: &mut [u8]) -> LogPtr
         requires { length out.old ≡ log_len }
         ensures spelled { IsLogBlock out.new self.now }
+        ensures bytes { AreBytes out.new }
         ensures only { (bytes : List ℕ) → AreBytes bytes → IsLogBlock bytes self.now → bytes ≡ out.new }
         ensures place { result.place ≡ 0 }
         ensures count { result.count ≡ length self.now.entries }

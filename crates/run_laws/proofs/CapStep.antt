@@ -1,5 +1,5 @@
 -- A line `cap` of two runs that stand alike: each shard has the new capacity, the next group begins, and they stand alike again.
-use Rattle.std.proofs.Common.{◌≡◌, ℕ, suc, List, [], Option, None, refl, sym, ap, ◌∙◌, subst}
+use Rattle.std.proofs.Common.{◌≡◌, ℕ, suc, List, [], length, Option, None, refl, sym, ap, ◌∙◌, subst}
 use Rattle.vdev_io.specs.declared.device.CacheDev.{Ghosts as Devices}
 use Rattle.vdev_io.specs.declared.pool.Pool.{Ghosts}
 use Rattle.trace_text.specs.declared.op.Op.TheVariants as ops
@@ -48,4 +48,5 @@ module _ {P D : Type 0} (pools : Ghosts P) (devices : Devices D) (trace : Trace)
         pool = λ h. pool_answers_to (line_of (ops.Cap c) (same h) (work h));
         device = ap feed_answers feeds;
         left = ap (λ (fs : List FeedDone). left_behind devices fs other_to.device) other_did.0 ∙ sym (ap (λ (fs : List FeedDone). left_behind devices fs to.device) did.0);
+        many = ap (λ (fs : List FeedDone). length fs) (other_did.0 ∙ sym did.0);
       }

@@ -1,4 +1,5 @@
--- Two feeds of the same shards and the same ring, of which the same calls failed: they make the same events, leave the same ring and have the same report (l2arc_feed_thread for a single thread).
+-- Two feeds of the same shards over alike cursors, of which the same calls failed: they make the same events, leave alike cursors and have the same report, and where no call failed they asked the device for the same; or they picked two
+-- contents of one digest (l2arc_feed_thread for a single thread).
 use Rattle.std.proofs.Common.{◌≡◌, ◌≢◌, ◌⊎◌, ◌==◌, ℕ, true, false, if◌then◌else◌, List, [], ◌∷◌, ◌++◌, map, refl, sym, ap, ◌∙◌, inl, inr, append-nil}
 use Rattle.std.proofs.lemmas.Bool.{cases_Bool}
 use Rattle.arc_core.specs.declared.config.Config.{Config}
@@ -10,13 +11,15 @@ use Rattle.l2_dev.specs.declared.report.FeedReport.{FeedReport}
 use Rattle.l2_dev.specs.declared.report.FeedStop.{FeedStop}
 use Rattle.l2_dev.specs.declared.report.FeedStop.TheVariants as stop
 use Rattle.l2_feed.specs.Acts.{Act, Absent, Cleared, Left, Picked, Placed, Refused, Unpicked}
+use Rattle.l2_feed.specs.Alike.{AreCursorsAlike, PicksTwo, has_failed}
 use Rattle.l2_feed.specs.Alone.{events_at}
 use Rattle.l2_feed.specs.Plain.{IsPlainFeed, PlainFed, all_after, answers_of, bare, fed_of, report_of, told_of}
 use Rattle.l2_feed.specs.Shape.{IsRefusal, NoneRefused}
 use Rattle.l2_feed.specs.Told.{events_of, shard_of_act}
-use Rattle.trace_run.specs.Feeds.{FeedDone}
+use Rattle.l2_feed.proofs.Alike.{come_to_one}
+use Rattle.trace_run.specs.Feeds.{FeedDone, IsFeedOf}
 use Rattle.trace_run.specs.one_caller.Sequence.{IsFeedHere}
-use Rattle.run_laws.specs.Alike.{AreAlikeSoFar, WantsMemory}
+use Rattle.run_laws.specs.Alike.{AreAlikeSoFar, FeedsPickTwo, WantsMemory}
 use Rattle.run_laws.proofs.Rows.{so-far-longer}
 
 -- ---- the events of a feed, shard by shard
@@ -140,16 +143,31 @@ plain-known feed = elim (end-known feed.report.end) [
 ]
 
 -- two feeds of one trace's line `feed`
-abbrev pub AreFedAlike : Config → (feed fed : FeedDone) → Type 0
-AreFedAlike g feed fed = AreUsedAlike g g.callers feed.acts fed.acts feed.calls fed.calls feed.after.ring fed.after.ring feed.report fed.report
+pub record AreFedAlike (g : Config) (feed fed : FeedDone) : Type 0 where
+  pub used : AreUsedAlike g g.callers feed.acts fed.acts feed.calls fed.calls feed.after.ring fed.after.ring feed.report fed.report
+  pub cursors : AreCursorsAlike feed.after fed.after
+  pub calls : has_failed (answers_of feed.calls) ≡ false → fed.calls ≡ feed.calls
 
-pub feeds-alike : (g : Config) (s : ℕ → PlainShard) (feed fed : FeedDone) → IsFeedHere g s feed → IsFeedHere g s fed → bare fed.before.ring ≡ bare feed.before.ring → AreAlikeSoFar (answers_of feed.calls) (answers_of fed.calls)
-    → AreFedAlike g feed fed ⊎ (WantsMemory (feed ∷ []) ⊎ WantsMemory (fed ∷ []))
-feeds-alike g s feed fed one other rings alike = elim (plain-known feed) [
-  | inl wants ↦ inr (inl wants)
+-- both are the plain one, so what they wrote is one too; or they picked two contents of one digest
+plain-alike : (g : Config) (s : ℕ → PlainShard) (feed fed : FeedDone) → IsFeedHere g s feed → IsFeedHere g s fed → IsFeedOf g.shards feed → IsFeedOf g.shards fed → AreCursorsAlike feed.before fed.before
+    → AreAlikeSoFar (answers_of feed.calls) (answers_of fed.calls) → (feed.report.end ≢ stop.NoMemory) × NoneRefused feed.acts → (fed.report.end ≢ stop.NoMemory) × NoneRefused fed.acts → AreFedAlike g feed fed ⊎ PicksTwo feed.acts fed.acts
+plain-alike g s feed fed one other shape other_shape cursors alike plain other_plain =
+    let used = used-alike g g.callers s feed.before.ring fed.before.ring feed.after.ring fed.after.ring feed.acts fed.acts feed.calls fed.calls feed.report fed.report cursors.ring (one.plain plain.0 plain.1) (other.plain other_plain.0 other_plain.1) alike in
+    elim (come_to_one g g.callers s feed.before feed.after fed.before fed.after feed.acts fed.acts feed.calls fed.calls feed.report.end fed.report.end shape.fed other_shape.fed one.of_shards other.of_shards
+    plain.0 other_plain.0 plain.1 other_plain.1 cursors used.answers) [
+      | inl come ↦ inl (record { used = used; cursors = come.cursors; calls = come.asked })
+      | inr two ↦ inr two
+    ]
+
+pub feeds-alike : (g : Config) (s : ℕ → PlainShard) (feed fed : FeedDone) → IsFeedHere g s feed → IsFeedHere g s fed → IsFeedOf g.shards feed → IsFeedOf g.shards fed → AreCursorsAlike feed.before fed.before
+    → AreAlikeSoFar (answers_of feed.calls) (answers_of fed.calls) → AreFedAlike g feed fed ⊎ (FeedsPickTwo (feed ∷ []) (fed ∷ []) ⊎ (WantsMemory (feed ∷ []) ⊎ WantsMemory (fed ∷ [])))
+feeds-alike g s feed fed one other shape other_shape cursors alike = elim (plain-known feed) [
+  | inl wants ↦ inr (inr (inl wants))
   | inr plain ↦ elim (plain-known fed) [
-    | inl wants ↦ inr (inr wants)
-    | inr other_plain ↦ inl (used-alike g g.callers s feed.before.ring fed.before.ring feed.after.ring fed.after.ring feed.acts fed.acts feed.calls fed.calls feed.report fed.report rings
-        (one.plain plain.0 plain.1) (other.plain other_plain.0 other_plain.1) alike)
+    | inl wants ↦ inr (inr (inr wants))
+    | inr other_plain ↦ elim (plain-alike g s feed fed one other shape other_shape cursors alike plain other_plain) [
+      | inl same ↦ inl same
+      | inr two ↦ inr (inl (record { place = 0; feed = feed; other = fed; at = refl; other_at = refl; picks = two }))
+    ]
   ]
 ]

@@ -1,10 +1,13 @@
 -- All lines of two runs of one trace: as far as both go each line comes to the same in both, and what stands between two lines is alike; or the runs part at a line.
-use Rattle.std.proofs.Common.{◌≡◌, ℕ, zero, suc, List, [], ◌∷◌, ◌++◌, length, Option, None, Some, refl, sym, ap, ◌∙◌, subst, inl, inr, append_assoc, append-nil}
+use Rattle.std.proofs.Common.{◌≡◌, ℕ, zero, suc, List, [], ◌∷◌, ◌++◌, length, Option, None, Some, refl, sym, ap, ◌∙◌, subst, inl, inr, arith, append_assoc, append-nil}
 use Rattle.std.specs.Prelude.{◌⊎◌, slice_get}
+use Rattle.std.specs.List.{AllByRecursion}
 use Rattle.arc_table.specs.Fronts.{StartsWith}
 use Rattle.arc_table.specs.Geometry.{IsCell}
 use Rattle.dbuf_state.specs.declared.event.CellEvent.{CellEvent}
 use Rattle.l2_dev.specs.Cursor.{CursorState}
+use Rattle.l2_dev.proofs.ListLaws.{all_left, all_right}
+use Rattle.l2_feed.specs.Alike.{AreCursorsAlike}
 use Rattle.vdev_io.specs.Calls.{Call}
 use Rattle.vdev_io.specs.declared.device.CacheDev.{Ghosts as Devices}
 use Rattle.vdev_io.specs.declared.pool.Pool.{Ghosts}
@@ -13,12 +16,12 @@ use Rattle.trace_text.specs.declared.op.Op.TheVariants as ops
 use Rattle.trace_text.specs.declared.reply.Reply.{Reply}
 use Rattle.trace_text.specs.declared.trace.Trace.{Trace}
 use Rattle.trace_run.specs.FeedSeries.{GoOn}
-use Rattle.trace_run.specs.Feeds.{FeedDone}
+use Rattle.trace_run.specs.Feeds.{FeedDone, IsFeedOf}
 use Rattle.trace_run.specs.Lines.{caller_of}
 use Rattle.trace_run.specs.dbufs.ObjectLines.{OnObject, on_object}
 use Rattle.trace_run.specs.dbufs.Objects.{Line, Work, ops_of, replies_of}
 use Rattle.trace_run.specs.one_caller.Sequence.{AreInSequence, BetweenLines, DoesAnyLine, DoesOther, DoesOwn}
-use Rattle.run_laws.specs.Alike.{AreAlike, AreAlikeSoFar, AreCursorsAlike, AreDevicesAlike, WantsMemory, device_answers, device_answers_to, left_behind, left_by_feeds, pool_answers, pool_answers_to}
+use Rattle.run_laws.specs.Alike.{AreAlike, AreAlikeSoFar, AreDevicesAlike, FeedsPickTwo, WantsMemory, device_answers, device_answers_to, left_behind, left_by_feeds, pool_answers, pool_answers_to}
 use Rattle.run_laws.proofs.Facts.{OfEachLine}
 use Rattle.run_laws.proofs.Rows.{so-far-front, so-far-rest, so-far-sym}
 use Rattle.run_laws.proofs.Steps.{PartsAt, StepAlike}
@@ -58,9 +61,21 @@ go-on-cut (feed ∷ here) behind a b on = let r = go-on-cut here behind feed.aft
 pub starts-on : {X : Type 0} (xs ys zs : List X) → StartsWith zs ys → StartsWith ys xs → StartsWith zs xs
 starts-on {X} xs ys zs more first = (first.0 ++ more.0, more.1 ∙ (ap (λ (l : List X). l ++ more.0) first.1 ∙ append_assoc xs first.0 more.0))
 
-get-right : (xs ys : List FeedDone) (k : ℕ) (x : FeedDone) → slice_get ys k ≡ Some x → (j : ℕ) × (slice_get (xs ++ ys) j ≡ Some x)
-get-right [] ys k x at = (k, at)
-get-right (y ∷ xs) ys k x at = let r = get-right xs ys k x at in (suc r.0, r.1)
+-- the place of a feed behind these
+abbrev behind_at : List FeedDone → ℕ → ℕ
+behind_at [] k = k
+behind_at (y ∷ xs) k = suc (behind_at xs k)
+
+get-behind : (xs ys : List FeedDone) (k : ℕ) (x : FeedDone) → slice_get ys k ≡ Some x → slice_get (xs ++ ys) (behind_at xs k) ≡ Some x
+get-behind [] ys k x at = at
+get-behind (y ∷ xs) ys k x at = get-behind xs ys k x at
+
+-- it is one behind as many
+behind-same : (xs ys : List FeedDone) (k : ℕ) → length ys ≡ length xs → behind_at ys k ≡ behind_at xs k
+behind-same [] [] k many = refl
+behind-same [] (y ∷ ys) k many = absurd (omega (arith, many))
+behind-same (x ∷ xs) [] k many = absurd (omega (arith, many))
+behind-same (x ∷ xs) (y ∷ ys) k many = ap (λ (n : ℕ). suc n) (behind-same xs ys k (omega (arith, many)))
 
 get-left : (xs ys : List FeedDone) (k : ℕ) (x : FeedDone) → slice_get xs k ≡ Some x → slice_get (xs ++ ys) k ≡ Some x
 get-left [] ys k x at = absurd (let clash : ◌≡◌ {A = Option FeedDone} None (Some x) = at in cc)
@@ -72,7 +87,28 @@ wants-here : (fs here behind : List FeedDone) → fs ≡ here ++ behind → Want
 wants-here fs here behind are w = subst WantsMemory (sym are) (record { place = w.place; feed = w.feed; at = get-left here behind w.place w.feed w.at; wants = w.wants })
 
 wants-behind : (fs here behind : List FeedDone) → fs ≡ here ++ behind → WantsMemory behind → WantsMemory fs
-wants-behind fs here behind are w = let r = get-right here behind w.place w.feed w.at in subst WantsMemory (sym are) (record { place = r.0; feed = w.feed; at = r.1; wants = w.wants })
+wants-behind fs here behind are w = subst WantsMemory (sym are) (record { place = behind_at here w.place; feed = w.feed; at = get-behind here behind w.place w.feed w.at; wants = w.wants })
+
+-- one of all feeds picked two contents where one of those here did, or one of those behind as many
+picks-here : (fs here behind es there far : List FeedDone) → fs ≡ here ++ behind → es ≡ there ++ far → FeedsPickTwo here there → FeedsPickTwo fs es
+picks-here fs here behind es there far are others p = subst (λ (z : List FeedDone × List FeedDone). FeedsPickTwo z.0 z.1) (λ i. (sym are i, sym others i)) (record {
+  place = p.place;
+  feed = p.feed;
+  other = p.other;
+  at = get-left here behind p.place p.feed p.at;
+  other_at = get-left there far p.place p.other p.other_at;
+  picks = p.picks;
+})
+
+picks-behind : (fs here behind es there far : List FeedDone) → fs ≡ here ++ behind → es ≡ there ++ far → length there ≡ length here → FeedsPickTwo behind far → FeedsPickTwo fs es
+picks-behind fs here behind es there far are others many p = subst (λ (z : List FeedDone × List FeedDone). FeedsPickTwo z.0 z.1) (λ i. (sym are i, sym others i)) (record {
+  place = behind_at here p.place;
+  feed = p.feed;
+  other = p.other;
+  at = get-behind here behind p.place p.feed p.at;
+  other_at = subst (λ (k : ℕ). slice_get (there ++ far) k ≡ Some p.other) (behind-same here there p.place many) (get-behind there far p.place p.other p.other_at);
+  picks = p.picks;
+})
 
 module _ {P D : Type 0} (pools : Ghosts P) (devices : Devices D) (trace : Trace) where
   -- ---- what was done to a cell stays done
@@ -148,10 +184,11 @@ module _ {P D : Type 0} (pools : Ghosts P) (devices : Devices D) (trace : Trace)
     pub parts : PartsAt pools devices trace cells line other here there
     pub wants : WantsMemory here → WantsMemory fs
     pub other_wants : WantsMemory there → WantsMemory es
+    pub picked : FeedsPickTwo here there → FeedsPickTwo fs es
 
-  parts-more : (l m : Line) (ls ms : List Line) (fs es here there behind far : List FeedDone) → fs ≡ here ++ behind → es ≡ there ++ far → (to other_to : BetweenLines P D)
+  parts-more : (l m : Line) (ls ms : List Line) (fs es here there behind far : List FeedDone) → fs ≡ here ++ behind → es ≡ there ++ far → length there ≡ length here → (to other_to : BetweenLines P D)
       → PartsSomewhere ls ms behind far to other_to → PartsSomewhere (l ∷ ls) (m ∷ ms) fs es to other_to
-  parts-more l m ls ms fs es here there behind far are others to other_to p = record {
+  parts-more l m ls ms fs es here there behind far are others many to other_to p = record {
     place = suc p.place;
     line = p.line;
     other = p.other;
@@ -166,6 +203,7 @@ module _ {P D : Type 0} (pools : Ghosts P) (devices : Devices D) (trace : Trace)
     parts = p.parts;
     wants = λ w. wants-behind fs here behind are (p.wants w);
     other_wants = λ w. wants-behind es there far others (p.other_wants w);
+    picked = λ w. picks-behind fs here behind es there far are others many (p.picked w);
   }
 
   -- ---- one line
@@ -179,6 +217,8 @@ module _ {P D : Type 0} (pools : Ghosts P) (devices : Devices D) (trace : Trace)
       pub other_holds : Holds m other other_to
       pub feeds : GoOn here a b
       pub other_feeds : GoOn there c d
+      pub shapes : AllByRecursion (IsFeedOf trace.config.shards) here
+      pub other_shapes : AllByRecursion (IsFeedOf trace.config.shards) there
       pub cursors : AreCursorsAlike a c
       pub pool : AreAlikeSoFar (pool_answers_to l) (pool_answers_to m)
       pub device : AreAlikeSoFar (device_answers_to pools devices trace (caller_of l.op) l here from to did) (device_answers_to pools devices trace (caller_of m.op) m there other other_to other_did)
@@ -208,6 +248,8 @@ module _ {P D : Type 0} (pools : Ghosts P) (devices : Devices D) (trace : Trace)
       pub other_holds : OfEachLine pools devices trace Holds ms es other other_to other_did
       pub feeds : GoOn fs a b
       pub other_feeds : GoOn es c d
+      pub shapes : AllByRecursion (IsFeedOf trace.config.shards) fs
+      pub other_shapes : AllByRecursion (IsFeedOf trace.config.shards) es
       pub cursors : AreCursorsAlike a c
       pub pool : AreAlikeSoFar (pool_answers ls ++ us) (pool_answers ms ++ vs)
       pub device : AreAlikeSoFar (device_answers pools devices trace ls fs from to did) (device_answers pools devices trace ms es other other_to other_did)
@@ -238,12 +280,12 @@ module _ {P D : Type 0} (pools : Ghosts P) (devices : Devices D) (trace : Trace)
     further-more l m ls ms to other_to us vs g =
         record { line = g.line; at = g.at; here = g.here; from = g.from; next = g.next; does = g.does; holds = g.holds; then = g.then; rest = g.rest; pool = g.pool; begins = g.begins }
 
-    come-more : (l m : Line) (ls ms : List Line) (fs es here there behind far : List FeedDone) → fs ≡ here ++ behind → es ≡ there ++ far → (to other_to : BetweenLines P D) (us vs : List Call) → m.reply ≡ l.reply
+    come-more : (l m : Line) (ls ms : List Line) (fs es here there behind far : List FeedDone) → fs ≡ here ++ behind → es ≡ there ++ far → length there ≡ length here → (to other_to : BetweenLines P D) (us vs : List Call) → m.reply ≡ l.reply
         → ComeTo ls ms behind far to other_to us vs → ComeTo (l ∷ ls) (m ∷ ms) fs es to other_to us vs
-    come-more l m ls ms fs es here there behind far are others to other_to us vs reply (together t) = together (record { then = t.then; replies = λ i. reply i ∷ t.replies i; pool = t.pool })
-    come-more l m ls ms fs es here there behind far are others to other_to us vs reply (other_further g) = other_further (further-more l m ls ms to other_to us vs g)
-    come-more l m ls ms fs es here there behind far are others to other_to us vs reply (one_further g) = one_further (further-more m l ms ls other_to to vs us g)
-    come-more l m ls ms fs es here there behind far are others to other_to us vs reply (parted p) = parted (parts-more l m ls ms fs es here there behind far are others to other_to p)
+    come-more l m ls ms fs es here there behind far are others many to other_to us vs reply (together t) = together (record { then = t.then; replies = λ i. reply i ∷ t.replies i; pool = t.pool })
+    come-more l m ls ms fs es here there behind far are others many to other_to us vs reply (other_further g) = other_further (further-more l m ls ms to other_to us vs g)
+    come-more l m ls ms fs es here there behind far are others many to other_to us vs reply (one_further g) = one_further (further-more m l ms ls other_to to vs us g)
+    come-more l m ls ms fs es here there behind far are others many to other_to us vs reply (parted p) = parted (parts-more l m ls ms fs es here there behind far are others many to other_to p)
 
     -- the lines of one are done, and those of the other are not
     further-here : (m : Line) (ms : List Line) (es : List FeedDone) (to other other_to : BetweenLines P D) (other_did : AreInSequence pools devices trace (m ∷ ms) es other other_to) (us vs : List Call)
@@ -282,6 +324,8 @@ module _ {P D : Type 0} (pools : Ghosts P) (devices : Devices D) (trace : Trace)
         other_holds = both.other_holds.0;
         feeds = cut.1;
         other_feeds = other_cut.1;
+        shapes = all_left (IsFeedOf trace.config.shards) did.1 did.2 (subst (AllByRecursion (IsFeedOf trace.config.shards)) did.3 both.shapes);
+        other_shapes = all_left (IsFeedOf trace.config.shards) other_did.1 other_did.2 (subst (AllByRecursion (IsFeedOf trace.config.shards)) other_did.3 both.other_shapes);
         cursors = both.cursors;
         pool = so-far-front (pool_answers_to l) (pool_answers ls ++ us) (pool_answers_to m) (pool_answers ms ++ vs) pool-rows;
         device = so-far-front (device_answers_to pools devices trace (caller_of l.op) l did.1 from did.0 did.4) _ (device_answers_to pools devices trace (caller_of m.op) m other_did.1 other other_did.0 other_did.4) _ both.device;
@@ -297,6 +341,8 @@ module _ {P D : Type 0} (pools : Ghosts P) (devices : Devices D) (trace : Trace)
         other_holds = both.other_holds.1;
         feeds = cut.2;
         other_feeds = other_cut.2;
+        shapes = all_right (IsFeedOf trace.config.shards) did.1 did.2 (subst (AllByRecursion (IsFeedOf trace.config.shards)) did.3 both.shapes);
+        other_shapes = all_right (IsFeedOf trace.config.shards) other_did.1 other_did.2 (subst (AllByRecursion (IsFeedOf trace.config.shards)) other_did.3 both.other_shapes);
         cursors = cursors;
         pool = so-far-rest (pool_answers_to l) (pool_answers ls ++ us) (pool_answers_to m) (pool_answers ms ++ vs) s.pool pool-rows;
         device = so-far-rest (device_answers_to pools devices trace (caller_of l.op) l did.1 from did.0 did.4) _ (device_answers_to pools devices trace (caller_of m.op) m other_did.1 other other_did.0 other_did.4) _ s.device both.device;
@@ -319,6 +365,7 @@ module _ {P D : Type 0} (pools : Ghosts P) (devices : Devices D) (trace : Trace)
         parts = p;
         wants = wants-here fs did.1 did.2 did.3;
         other_wants = wants-here es other_did.1 other_did.2 other_did.3;
+        picked = picks-here fs did.1 did.2 es other_did.1 other_did.2 did.3 other_did.3;
       }
 
     module _ (steps : (kind : Kind) → StepsAlike kind) where
@@ -345,7 +392,7 @@ module _ {P D : Type 0} (pools : Ghosts P) (devices : Devices D) (trace : Trace)
       lines-alike (l ∷ ls) (m ∷ ms) fs es from to other other_to did other_did us vs a b c d both =
           elim (step l m (sym both.same.0) did.1 other_did.1 from did.0 other other_did.0 did.4 other_did.4 a (cut l m ls ms fs es from to other other_to did other_did us vs a b c d both).0 c (other_cut l m ls ms fs es from to other other_to did other_did us vs a b c d both).0
           (both-do l m ls ms fs es from to other other_to did other_did us vs a b c d both)) [
-            | inl s ↦ come-more l m ls ms fs es did.1 other_did.1 did.2 other_did.2 did.3 other_did.3 to other_to us vs s.0.reply
+            | inl s ↦ come-more l m ls ms fs es did.1 other_did.1 did.2 other_did.2 did.3 other_did.3 s.0.many to other_to us vs s.0.reply
                 (lines-alike ls ms did.2 other_did.2 did.0 to other_did.0 other_to did.5 other_did.5 us vs (cut l m ls ms fs es from to other other_to did other_did us vs a b c d both).0 b (other_cut l m ls ms fs es from to other other_to did other_did us vs a b c d both).0 d
                 (both-go-on l m ls ms fs es from to other other_to did other_did us vs a b c d both s.0 s.1))
             | inr p ↦ parted (parts-here l m ls ms fs es from to other other_to did other_did us vs a b c d both p)

@@ -327,6 +327,7 @@ module _ {P D : Type 0} (pools : Ghosts P) (devices : Devices D) (pool_len : (p 
           pool = pool-then op own t r q w v from to other other_to both came.0 same;
           device = (device-then op own t r q w v from to other other_to both came.0 same).0;
           left = none-left here there to.device other_to.device line.0 other_line.0;
+          many = ap (λ (fs : List FeedDone). length fs) (other_line.0 ∙ sym line.0);
         })
         | inr parts ↦ inr parts
       ]
@@ -348,6 +349,7 @@ module _ {P D : Type 0} (pools : Ghosts P) (devices : Devices D) (pool_len : (p 
         pool = pool-then op own t r q w v from to other other_to both came.0 same;
         device = (device-then op own t r q w v from to other other_to both came.0 same).0;
         left = none-left here there to.device other_to.device line.0 other_line.0;
+        many = ap (λ (fs : List FeedDone). length fs) (other_line.0 ∙ sym line.0);
       })
   object-step (ops.Pin n t at) on r q w v here there from to other other_to line other_line b =
       let op : Op = ops.Pin n t at in
@@ -367,6 +369,7 @@ module _ {P D : Type 0} (pools : Ghosts P) (devices : Devices D) (pool_len : (p 
         pool = pool-then op own t r q w v from to other other_to both came.0 same;
         device = (device-then op own t r q w v from to other other_to both came.0 same).0;
         left = none-left here there to.device other_to.device line.0 other_line.0;
+        many = ap (λ (fs : List FeedDone). length fs) (other_line.0 ∙ sym line.0);
       })
   object-step (ops.Put n t at size fill) on r q w v here there from to other other_to line other_line b =
       let op : Op = ops.Put n t at size fill in
@@ -384,6 +387,7 @@ module _ {P D : Type 0} (pools : Ghosts P) (devices : Devices D) (pool_len : (p 
         pool = pool-then op own 0 r q w v from to other other_to both brings same;
         device = (device-then op own 0 r q w v from to other other_to both brings same).0;
         left = none-left here there to.device other_to.device line.0 other_line.0;
+        many = ap (λ (fs : List FeedDone). length fs) (other_line.0 ∙ sym line.0);
       })
   object-step (ops.Unpin n at) on r q w v here there from to other other_to line other_line b =
       let op : Op = ops.Unpin n at in
@@ -401,6 +405,7 @@ module _ {P D : Type 0} (pools : Ghosts P) (devices : Devices D) (pool_len : (p 
         pool = pool-then op own 0 r q w v from to other other_to both brings same;
         device = (device-then op own 0 r q w v from to other other_to both brings same).0;
         left = none-left here there to.device other_to.device line.0 other_line.0;
+        many = ap (λ (fs : List FeedDone). length fs) (other_line.0 ∙ sym line.0);
       })
   object-step (ops.Read n t x window) on r q w v here there from to other other_to line other_line b = absurd on
   object-step (ops.Hold n t x) on r q w v here there from to other other_to line other_line b = absurd on

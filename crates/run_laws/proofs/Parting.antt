@@ -24,9 +24,9 @@ use Rattle.trace_run.specs.dbufs.Objects.{Work}
 use Rattle.trace_run.specs.one_caller.Sequence.{BetweenLines, EndsThere}
 use Rattle.trace_run.proofs.callers.GroupLists.{slice-there}
 use Rattle.trace_run.proofs.deeds.OperatesDone.{cell-there}
-use Rattle.run_laws.specs.Alike.{MayPart, OneRun, Shows, TwoContents, memory as may_memory, replays as may_replay, shows as may_show}
+use Rattle.run_laws.specs.Alike.{MayPart, OneRun, Shows, TwoContents, memory as may_memory, picks as may_pick, replays as may_replay, shows as may_show}
 use Rattle.run_laws.proofs.LinesAlike.{PartsSomewhere, starts-on}
-use Rattle.run_laws.proofs.Steps.{PartsAt, ShowsHere, memory, replays, shows}
+use Rattle.run_laws.proofs.Steps.{PartsAt, ShowsHere, memory, picks, replays, shows}
 
 module _ {P D : Type 0} (pools : Ghosts P) (devices : Devices D) (trace : Trace) where
   -- a sync that stopped has noted its blocks behind all that was done to a cell
@@ -125,6 +125,7 @@ module _ {P D : Type 0} (pools : Ghosts P) (devices : Devices D) (trace : Trace)
       part-here : PartsAt pools devices trace p.cells p.line p.other p.here p.there → MayPart pools devices trace one other
       part-here (shows ptr two shown other_shown differ) = shows-part ptr two shown other_shown differ
       part-here (replays i is_cell xs ys a b leads other_leads collide) = replays-part p.cells (record { one_had = p.begins; other_had = p.other_begins }) i is_cell xs ys a b leads other_leads collide
+      part-here (picks two) = may_pick (p.picked two)
       part-here (memory (inl wants)) = may_memory (inl (p.wants wants))
       part-here (memory (inr wants)) = may_memory (inr (p.other_wants wants))
 

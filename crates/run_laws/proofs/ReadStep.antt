@@ -212,6 +212,7 @@ module _ {P D : Type 0} (pools : Ghosts P) (devices : Devices D) (pool_len : (p 
               pool = pool-same op r q w v d.work e.work same;
               device = asked.0;
               left = none-left here there to.device other_to.device did.0 other_did.0;
+              many = ap (λ (fs : List FeedDone). length fs) (other_did.0 ∙ sym did.0);
             })
         | inr shows ↦ inr (PartsAt.shows shows.0 shows.2.two (shows.1, (shows.2.from, shows.2.shown)) (shows.1, (shows.2.other_from, shows.2.other_shown)) shows.2.differ)
       ]
@@ -228,6 +229,7 @@ module _ {P D : Type 0} (pools : Ghosts P) (devices : Devices D) (pool_len : (p 
         pool = pool-same op r q w v d.work e.work same;
         device = asked.0;
         left = none-left here there to.device other_to.device did.0 other_did.0;
+        many = ap (λ (fs : List FeedDone). length fs) (other_did.0 ∙ sym did.0);
       })
   block-step (ops.Drop n x) on r q w v here there from to other other_to did other_did alike pool rows =
       let op : Op = ops.Drop n x in
@@ -242,5 +244,6 @@ module _ {P D : Type 0} (pools : Ghosts P) (devices : Devices D) (pool_len : (p 
         pool = pool-same op r q w v d.work e.work same;
         device = asked.0;
         left = none-left here there to.device other_to.device did.0 other_did.0;
+        many = ap (λ (fs : List FeedDone). length fs) (other_did.0 ∙ sym did.0);
       })
   block-step other on r q w v here there from to other_from other_to did other_did alike pool rows = absurd on

@@ -8,6 +8,7 @@ use Rattle.arc_table.specs.Ended.{Ended}
 use Rattle.arc_table.specs.Fronts.{StartsWith}
 use Rattle.dbuf_cells.specs.Turns.{OnHeap}
 use Rattle.l2_dev.specs.Cursor.{CursorState}
+use Rattle.l2_feed.specs.Alike.{AreCursorsAlike}
 use Rattle.vdev_io.specs.Calls.{Call}
 use Rattle.vdev_io.specs.declared.device.CacheDev.{Ghosts as Devices}
 use Rattle.vdev_io.specs.declared.pool.Pool.{Ghosts}
@@ -31,7 +32,7 @@ use Rattle.trace_run.specs.declared.ran.Ending.TheVariants.{Fork, Full, Sync, Wh
 use Rattle.trace_run.specs.declared.status.Status.{Status}
 use Rattle.trace_run.specs.one_caller.Sequence.{AreInSequence, BetweenLines}
 use Rattle.trace_run.proofs.theorem.LineAnswers.{lines-ops, lines-replies}
-use Rattle.run_laws.specs.Alike.{AreAlike, AreAlikeSoFar, AreCursorsAlike, AreFirstAlike, BeginAlike, FailAlike, GoOnFrom, OneRun, ReportsAreRuns, answers_at_stop, begun}
+use Rattle.run_laws.specs.Alike.{AreAlike, AreAlikeSoFar, AreFirstAlike, BeginAlike, FailAlike, GoOnFrom, OneRun, ReportsAreRuns, answers_at_stop, begun}
 use Rattle.run_laws.proofs.Facts.{OfEachLine}
 use Rattle.run_laws.proofs.FirstPlaceOne.{place-one}
 use Rattle.run_laws.proofs.LinesAlike.{BothGo, ComeTo, Kind, StepsAlike, lines-alike}
@@ -88,7 +89,7 @@ answered-front trace (Full need left) replies = take-front (length replies) trac
 
 -- ---- the ring
 
--- feeds of two runs that went on from one ring
+-- feeds of two runs that went on from one ring, whose log blocks are the same
 record Rings (fs es : List FeedDone) : Type 0 where
   pub first : CursorState
   pub last : CursorState
@@ -110,7 +111,7 @@ rings None None fs es none other_none alike = record {
   other_last = no_cursor;
   feeds = subst (λ (l : List FeedDone). GoOn l no_cursor no_cursor) (sym none) refl;
   other_feeds = subst (λ (l : List FeedDone). GoOn l no_cursor no_cursor) (sym other_none) refl;
-  cursors = record { ring = refl };
+  cursors = record { ring = refl; newest = refl; second = refl };
 }
 rings None (Some other) fs es fed other_fed alike = absurd alike
 rings (Some first) None fs es fed other_fed alike = absurd alike
@@ -188,6 +189,8 @@ module _ {P D : Type 0} (pools : Ghosts P) (devices : Devices D) (pool_len : (p 
       other_holds = other_holds;
       feeds = r.feeds;
       other_feeds = r.other_feeds;
+      shapes = one.run.did.fed.shapes;
+      other_shapes = other.run.did.fed.shapes;
       cursors = r.cursors;
       pool = fail.pool;
       device = fail.device;

@@ -1,6 +1,7 @@
 -- Lines on blocks, capacities and feeds among all lines of two runs. The first two make no feed, so the ring stays as it was.
 use Rattle.std.proofs.Common.{◌≡◌, ℕ, List, [], length, Some, inl, inr, sym, subst}
 use Rattle.l2_dev.specs.Cursor.{CursorState}
+use Rattle.l2_feed.specs.Alike.{AreCursorsAlike}
 use Rattle.vdev_io.specs.declared.device.CacheDev.{Ghosts as Devices}
 use Rattle.vdev_io.specs.declared.pool.Pool.{Ghosts}
 use Rattle.trace_text.specs.declared.op.Op.{Op}
@@ -13,7 +14,6 @@ use Rattle.trace_run.specs.Lines.{caller_of}
 use Rattle.trace_run.specs.RunWork.{FitsBy}
 use Rattle.trace_run.specs.dbufs.Objects.{Line, Work}
 use Rattle.trace_run.specs.one_caller.Sequence.{BetweenLines, DoesAnyLine}
-use Rattle.run_laws.specs.Alike.{AreCursorsAlike}
 use Rattle.run_laws.proofs.CapStep.{cap-step}
 use Rattle.run_laws.proofs.FeedStep.{feed-step}
 use Rattle.run_laws.proofs.LinesAlike.{Caps, Feeds, Objects, Reads, StepsAlike, Syncs, kind_of}
@@ -103,5 +103,5 @@ module _ {P D : Type 0} (pools : Ghosts P) (devices : Devices D) (pool_len : (p 
       pub feeds-steps : StepsAlike pools devices trace Holds Feeds
       feeds-steps ops.Feed is r q v w here there from to other other_to did other_did a b c d both =
           feed-step pools devices trace r q v w here there from to other other_to did other_did (fits (record { op = ops.Feed; reply = r; work = v }) from to both.holds) (fits (record { op = ops.Feed; reply = q; work = w }) other other_to both.other_holds)
-          both.alike a b c d both.feeds both.other_feeds both.cursors both.device both.left
+          both.alike a b c d both.feeds both.other_feeds both.shapes both.other_shapes both.cursors both.device both.left
       feeds-steps op is r q v w here there from to other other_to did other_did a b c d both = absurd (feed-line op is)

@@ -22,7 +22,7 @@ use Rattle.trace_run.specs.Lines.{caller_of}
 use Rattle.trace_run.specs.Openings.{opening_map}
 use Rattle.trace_run.specs.dbufs.Objects.{Line}
 use Rattle.trace_run.specs.one_caller.Sequence.{BetweenLines, DoesAnyLine, outline_behind}
-use Rattle.run_laws.specs.Alike.{AreAlike, TwoContents, WantsMemory, device_answers_to, left_behind, pool_answers_to}
+use Rattle.run_laws.specs.Alike.{AreAlike, FeedsPickTwo, TwoContents, WantsMemory, device_answers_to, left_behind, pool_answers_to}
 
 module _ {P D : Type 0} (pools : Ghosts P) (devices : Devices D) (trace : Trace) where
   -- the reply to this line shows these bytes as those of the pointer, where cells had come to this
@@ -40,11 +40,12 @@ module _ {P D : Type 0} (pools : Ghosts P) (devices : Devices D) (trace : Trace)
   ShowsHere cells (ops.Txg t) ptr bytes reply = ⊥
   ShowsHere cells (ops.Cap c) ptr bytes reply = ⊥
 
-  -- Two runs part at this line, whose cells had come to this by then: two contents of one digest are shown; a cell has come to two states by one history; or a feed wanted memory.
+  -- Two runs part at this line, whose cells had come to this by then: two contents of one digest are shown; a cell has come to two states by one history; a feed picked two contents of one digest; or a feed wanted memory.
   pub data PartsAt (cells : ℕ → List CellEvent) (l m : Line) (here there : List FeedDone) : Type 0 where
     shows : (ptr : Ptr) → (two : TwoContents ptr) → ShowsHere cells l.op ptr two.one l.reply → ShowsHere cells l.op ptr two.other m.reply → m.reply ≢ l.reply → PartsAt cells l m here there
     replays : (i : ℕ) → IsCell trace.config i → (xs ys : List (List ℕ)) → (a b : PlainCell) → Leads (opening_cell trace.config.dbuf_bytes (opening_map trace i)) (cells i) xs a
         → Leads (opening_cell trace.config.dbuf_bytes (opening_map trace i)) (cells i) ys b → Collide xs ys → PartsAt cells l m here there
+    picks : FeedsPickTwo here there → PartsAt cells l m here there
     memory : WantsMemory here ⊎ WantsMemory there → PartsAt cells l m here there
 
   -- Both came to the same: the reply and how pool and device answered are one, and what stands behind the line is alike.
@@ -55,3 +56,4 @@ module _ {P D : Type 0} (pools : Ghosts P) (devices : Devices D) (trace : Trace)
     pub pool : pool_answers_to m ≡ pool_answers_to l
     pub device : device_answers_to pools devices trace (caller_of m.op) m there other other_to other_did ≡ device_answers_to pools devices trace (caller_of l.op) l here from to did
     pub left : left_behind devices there other_to.device ≡ left_behind devices here to.device
+    pub many : length there ≡ length here

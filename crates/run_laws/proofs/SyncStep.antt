@@ -122,6 +122,7 @@ module _ {P D : Type 0} (pools : Ghosts P) (devices : Devices D) (trace : Trace)
               pool = λ i. calls_of (effect_with (brought i) (reply i)) ++ map (λ note. Gave) (notes i);
               device = ap feed_answers (other_did.0 ∙ sym did.0);
               left = ap (λ (fs : List FeedDone). left_behind devices fs other_to.device) other_did.0 ∙ sym (ap (λ (fs : List FeedDone). left_behind devices fs to.device) did.0);
+              many = ap (λ (fs : List FeedDone). length fs) (other_did.0 ∙ sym did.0);
             })
         | inr apart ↦ inr (replays apart.i apart.in_range apart.bases apart.other_bases apart.state apart.other_state apart.leads apart.other_leads apart.collide)
       ]

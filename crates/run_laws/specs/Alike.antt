@@ -1,5 +1,5 @@
 -- Two runs of one trace by one caller, over the same bytes, of which the same calls failed: they come to the same (arc_read, dmu_read, dmu_write, spa_sync and l2arc_feed_thread, for a single thread).
-use Rattle.std.specs.Prelude.{◌≡◌, ◌≢◌, ◌⊎◌, ℕ, true, false, List, [], ◌∷◌, ◌++◌, length, map, Option, None, Some, slice_get}
+use Rattle.std.specs.Prelude.{◌≡◌, ◌≢◌, ◌⊎◌, ℕ, true, false, if◌then◌else◌, List, [], ◌∷◌, ◌++◌, length, map, Option, None, Some, slice_get}
 use Rattle.blk_ptr.specs.declared.ptr.Ptr.{Ptr}
 use Rattle.blk_ptr.specs.Ptr.{IsOf}
 use Rattle.arc_core.specs.PlainShard.{PlainShard}
@@ -18,7 +18,8 @@ use Rattle.dbuf_state.specs.declared.event.CellEvent.{CellEvent}
 use Rattle.dbuf_state.specs.declared.state.Mapped.TheVariants.{Clean}
 use Rattle.l2_dev.specs.Cursor.{CursorState}
 use Rattle.l2_dev.specs.declared.report.FeedStop.TheVariants as stop
-use Rattle.l2_feed.specs.Plain.{answers_of, bare}
+use Rattle.l2_feed.specs.Alike.{AreCursorsAlike, PicksTwo, has_failed}
+use Rattle.l2_feed.specs.Plain.{answers_of}
 use Rattle.l2_feed.specs.Shape.{NoneRefused}
 use Rattle.vdev_io.specs.Calls.{Call, Failed, Gave}
 use Rattle.vdev_io.specs.declared.device.CacheDev.{Ghosts as Devices}
@@ -102,10 +103,10 @@ lent_answers none asks calls (Some old) None did = []
 lent_answers none asks calls (Some old) (Some new) did = calls old new did
 
 module _ {D : Type 0} (devices : Devices D) where
-  -- What the device tells behind a line that fed it: a write that fails leaves any bytes in its range.
+  -- What the device tells behind a line that fed it, where a call of the feed failed: a write that fails leaves any bytes in its range.
   abbrev pub left_behind : List FeedDone → (behind : Option D) → List (Option (List ℕ))
   left_behind [] behind = []
-  left_behind (feed ∷ feeds) behind = told_lent devices behind ∷ []
+  left_behind (feed ∷ feeds) behind = if has_failed (answers_of feed.calls) then told_lent devices behind ∷ [] else []
 
 module _ {P D : Type 0} (pools : Ghosts P) (devices : Devices D) (trace : Trace) where
   -- to the read that brings a block
@@ -131,7 +132,7 @@ module _ {P D : Type 0} (pools : Ghosts P) (devices : Devices D) (trace : Trace)
   device_answers [] feeds from to did = []
   device_answers (l ∷ ls) feeds from to did = device_answers_to (caller_of l.op) l did.1 from did.0 did.4 ++ device_answers ls did.2 did.0 to did.5
 
-  -- behind each line that fed it
+  -- behind each line whose feed met a call that failed
   abbrev pub left_by_feeds : (ls : List Line) (feeds : List FeedDone) (from to : BetweenLines P D) → AreInSequence pools devices trace ls feeds from to → List (Option (List ℕ))
   left_by_feeds [] feeds from to did = []
   left_by_feeds (l ∷ ls) feeds from to did = left_behind devices did.1 did.0.device ++ left_by_feeds ls did.2 did.0 to did.5
@@ -158,11 +159,7 @@ module _ {P D : Type 0} (pools : Ghosts P) (devices : Devices D) (trace : Trace)
     pub cells : (i : ℕ) → IsCell trace.config i → other.cells i ≡ one.cells i
     pub kept : other.kept ≡ one.kept
 
--- the next feed finds the same ring
-pub record AreCursorsAlike (one other : CursorState) : Type 0 where
-  pub ring : bare other.ring ≡ bare one.ring
-
--- the first does; or there is none, since no device was started
+-- the first feeds find the same ring, and name the same log blocks; or there is none, since no device was started
 abbrev pub AreFirstAlike : (one other : Option CursorState) → Type 0
 AreFirstAlike None None = Unit {0}
 AreFirstAlike None (Some other) = ⊥
@@ -232,6 +229,15 @@ pub record ReplaysTwo (trace : Trace) (closed closed_other : List OnHeap) : Type
   pub other_leads : Leads (opening_cell trace.config.dbuf_bytes (opening_map trace i)) front other_bases other_state
   pub collide : Collide bases other_bases
 
+-- Of one shard one feed picked the same keys in both, each with the same digest, and other bytes.
+pub record FeedsPickTwo (feeds others : List FeedDone) : Type 0 where
+  pub place : ℕ
+  pub feed : FeedDone
+  pub other : FeedDone
+  pub at : slice_get feeds place ≡ Some feed
+  pub other_at : slice_get others place ≡ Some other
+  pub picks : PicksTwo feed.acts other.acts
+
 -- memory was refused for one of these feeds, or for taking a place in it
 pub record WantsMemory (feeds : List FeedDone) : Type 0 where
   pub place : ℕ
@@ -275,7 +281,7 @@ module _ {P D : Type 0} (pools : Ghosts P) (devices : Devices D) (trace : Trace)
   abbrev pub device_row : OneRun pools devices trace → List Call
   device_row run = device_answers pools devices trace run.run.work.lines run.run.work.feeds (begun run) run.in_turn.reached run.in_turn.lines
 
-  -- what its device told behind each line that fed it
+  -- what its device told behind each line whose feed met a call that failed
   abbrev pub left_row : OneRun pools devices trace → List (Option (List ℕ))
   left_row run = left_by_feeds pools devices trace run.run.work.lines run.run.work.feeds (begun run) run.in_turn.reached run.in_turn.lines
 
@@ -289,7 +295,7 @@ module _ {P D : Type 0} (pools : Ghosts P) (devices : Devices D) (trace : Trace)
     pub found : other.report.rebuilt ≡ one.report.rebuilt
     pub cursors : AreFirstAlike one.first other.first
 
-  -- As far as both made calls the same ones failed; and behind each feed the device tells the same.
+  -- As far as both made calls the same ones failed; and behind each feed of which one did, the device tells the same.
   pub record FailAlike : Type 0 where
     pub pool : AreAlikeSoFar (pool_row pools devices trace one) (pool_row pools devices trace other)
     pub device : AreAlikeSoFar (device_row pools devices trace one) (device_row pools devices trace other)
@@ -301,10 +307,11 @@ module _ {P D : Type 0} (pools : Ghosts P) (devices : Devices D) (trace : Trace)
     pub ending : other.ending ≡ one.ending
     pub cells : (i : ℕ) (cell there : OnHeap) → slice_get one.closed.cells i ≡ Some cell → slice_get other.closed.cells i ≡ Some there → there.value.history ≡ cell.value.history
 
-  -- Two contents of one digest are in hand, which a reply shows or a patch began from; or a feed wanted memory; or a line on an object was read past the cache.
+  -- Two contents of one digest are in hand, which a reply shows, a patch began from or a feed picked; or a feed wanted memory; or a line on an object was read past the cache.
   pub data MayPart : Type 0 where
     shows : ShowsTwo trace one.run.work.lines other.run.work.lines one.closed.cells other.closed.cells → MayPart
     replays : ReplaysTwo trace one.closed.cells other.closed.cells → MayPart
+    picks : FeedsPickTwo one.run.work.feeds other.run.work.feeds → MayPart
     memory : WantsMemory one.run.work.feeds ⊎ WantsMemory other.run.work.feeds → MayPart
     past : ReadsPast one.run.work.lines ⊎ ReadsPast other.run.work.lines → MayPart
 

@@ -9,6 +9,7 @@ returns-clause-block c =
       _,
       record {
         bytes_of = c.write-written.ensures.spelled;
+        are_bytes = c.write-written.ensures.bytes;
         version = refl;
         lap = c.lap.ensures;
         prev = refl;
