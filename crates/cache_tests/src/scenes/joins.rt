@@ -10,6 +10,7 @@ use super::{big, opened};
 use arc_core::{ReadFault, Served};
 use arc_examples::{Pair, Plain};
 use arc_table::{Arcs, Party, Read};
+use blk_ptr::Ptr;
 use std::alloc::Global;
 use std::sync::Wait;
 use std::sync::atomic::AtomicU64;
@@ -82,20 +83,21 @@ impl Pool for Slow<'_> {
     ghost told_len = { λ pool image told. some_has_len (replicate pool.len 0) image told ∙ length-replicate pool.len 0 };
 }
 
-// Reads the first block; a hold stays with the party.
+// Reads a block; a hold stays with the party.
 fn read_of<R: Wait>(
     rt: &R,
     arcs: &Arcs<Plain>,
     party: &mut Party<Plain>,
+    ptr: &Ptr,
     pool: &mut Slow,
 ) -> Result<Read, ReadFault>
     requires { IsReady arcs.now party.old }
     ensures { IsReadyAs arcs.now party.old party.new }
 {
-    arcs.read(rt, party, &big(0), 1, pool, &mut NoCache::new())
+    arcs.read(rt, party, ptr, 1, pool, &mut NoCache::new())
 }
 
-// Where the bytes of such a read come from, where it gives a hold.
+// Where the bytes of such a read of the first block come from, where it gives a hold.
 fn served<R: Wait>(
     rt: &R,
     arcs: &Arcs<Plain>,
@@ -105,7 +107,7 @@ fn served<R: Wait>(
     requires { IsReady arcs.now party.old }
     ensures { IsReadyAs arcs.now party.old party.new }
 {
-    match read_of(rt, arcs, party, pool) {
+    match read_of(rt, arcs, party, &big(0), pool) {
         Ok(Read::Held(_, served)) => Some(served),
         Ok(Read::Past { block: _, kept: _ }) => None,
         Err(_) => None,
