@@ -2,6 +2,7 @@ pub mod ActsAlike
 pub mod AskedAlike
 pub mod Behind
 pub mod BringAlike
+pub mod BoundedTrace
 pub mod CapStep
 pub mod Closing
 pub mod Due

@@ -12,6 +12,7 @@ use Rattle.l2_feed.specs.Alike.{AreCursorsAlike}
 use Rattle.vdev_io.specs.Calls.{Call}
 use Rattle.vdev_io.specs.declared.device.CacheDev.{Ghosts as Devices}
 use Rattle.vdev_io.specs.declared.pool.Pool.{Ghosts}
+use Rattle.trace_text.proofs.FormedLemmas.{IsFormed-trace}
 use Rattle.trace_text.specs.declared.op.Op.{Op}
 use Rattle.trace_text.specs.declared.rebuilt.Rebuilt.{Rebuilt}
 use Rattle.trace_text.specs.declared.reply.Reply.{Reply}
@@ -33,6 +34,7 @@ use Rattle.trace_run.specs.declared.status.Status.{Status}
 use Rattle.trace_run.specs.one_caller.Sequence.{AreInSequence, BetweenLines}
 use Rattle.trace_run.proofs.theorem.LineAnswers.{lines-ops, lines-replies}
 use Rattle.run_laws.specs.Alike.{AreAlike, AreAlikeSoFar, AreFirstAlike, BeginAlike, FailAlike, GoOnFrom, OneRun, ReportsAreRuns, answers_at_stop, begun}
+use Rattle.run_laws.proofs.BoundedTrace.{formed-bound}
 use Rattle.run_laws.proofs.Facts.{OfEachLine}
 use Rattle.run_laws.proofs.FirstPlaceOne.{place-one}
 use Rattle.run_laws.proofs.LinesAlike.{BothGo, ComeTo, Kind, StepsAlike, lines-alike}
@@ -57,7 +59,10 @@ module _ {P D : Type 0} (pool : Ghosts P) (device : Devices D) where
     closed = closed;
     report = report;
     run = r.run;
+    callers = one;
+    further = further;
     in_turn = r.run.run.in_turn one further;
+    in_turn_is = refl;
     first = r.first;
     fed = fed-from (with_bound r.trace (device_len device.size before.cache)).config before.cache r.started after.cache r.first report.rebuilt r.run.work.feeds report.histories r.fed;
     whole = r.whole;
@@ -65,7 +70,10 @@ module _ {P D : Type 0} (pool : Ghosts P) (device : Devices D) where
 
 pub reports-are-runs : {P D : Type 0} (pool : Ghosts P) (device : Devices D) → ReportsAreRuns pool device
 unfolding one-run
-reports-are-runs pool device before after answer closed report r one further = (one-run pool device before after answer closed report r one further, refl, refl, refl, refl, refl, refl)
+reports-are-runs pool device before after answer closed report r one further = (
+  formed-bound r.trace (device_len device.size before.cache) (IsFormed-trace r.read.text r.trace r.read.is_trace),
+  (one-run pool device before after answer closed report r one further, refl, refl, refl, refl, refl, refl, refl, refl, refl),
+)
 
 -- ---- fronts of one list of operations
 

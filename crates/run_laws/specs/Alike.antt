@@ -255,7 +255,7 @@ pub record ReadsPast (lines : List Line) : Type 0 where
 
 -- ---- the law
 
--- A run of one caller that came to a report, whose lines were done in sequence; its feeds went on from the cursor that the start of its device found.
+-- A run of one caller that came to a report, of a trace with a line on an object, a sync or a feed. Its lines were done in sequence; its feeds went on from the cursor that the start of its device found.
 pub record OneRun {P D : Type 0} (pools : Ghosts P) (devices : Devices D) (trace : Trace) : Type 0 where
   pub before : P
   pub after : P
@@ -265,7 +265,10 @@ pub record OneRun {P D : Type 0} (pools : Ghosts P) (devices : Devices D) (trace
   pub closed : Ended OnHeap
   pub report : Report
   pub run : HasRun pools devices before after lent back trace ending closed report
+  pub callers : trace.config.callers ≡ 1
+  pub further : has_further trace.ops ≡ true
   pub in_turn : RunsInTurn pools devices before after lent back run.run.place trace ending run.work run.run.explained.owner closed.cells report
+  pub in_turn_is : in_turn ≡ run.run.in_turn callers further
   pub first : Option CursorState
   pub fed : GoOnFrom first run.work.feeds
   pub whole : report.short ≡ false
@@ -323,8 +326,10 @@ RunsAreAlike pools devices = (trace : Trace) (one other : OneRun pools devices t
 -- ---- the runs that `run` tells of
 
 -- Each report with one caller, of a trace that has a line on an object, a sync or a feed, is of such a run: of the pool and the device that were handed in, of the trace with the bound of a feed that the device
--- gives. (A report of any other trace of one caller is a plain function of what its calls were answered: `plain_report`.)
+-- gives, with the work that the report's clause has. (A report of any other trace of one caller is a plain function of what its calls were answered: `plain_report`.)
 abbrev pub ReportsAreRuns : {P D : Type 0} → Ghosts P → Devices D → Type 0
 ReportsAreRuns {P} {D} pool device = (before after : Handed P D) (answer : Status) (closed : Ended OnHeap) (report : Report) (r : IsReport pool device before after answer closed report)
-    → r.trace.config.callers ≡ 1 → has_further r.trace.ops ≡ true → (run : OneRun pool device (with_bound r.trace (device_len device.size before.cache)))
-    × (run.before ≡ before.pool) × (run.lent ≡ usable device r.started) × (run.first ≡ r.first) × (run.ending ≡ r.ending) × (run.closed ≡ closed) × (run.report ≡ report)
+    → r.trace.config.callers ≡ 1 → has_further r.trace.ops ≡ true
+    → IsFormed (with_bound r.trace (device_len device.size before.cache)) × ((run : OneRun pool device (with_bound r.trace (device_len device.size before.cache)))
+    × (run.before ≡ before.pool) × (run.after ≡ after.pool) × (run.lent ≡ usable device r.started) × (run.back ≡ usable device after.cache) × (run.first ≡ r.first)
+    × (run.ending ≡ r.ending) × (run.closed ≡ closed) × (run.report ≡ report) × (run.run.work ≡ r.run.work))
