@@ -42,7 +42,7 @@ pub record GotTwo (o : Outline) (at : Oid) (window : Window) (r q : Reply) : Typ
   pub there : mapped_at at o ≡ Some (mapped.Clean ptr)
   pub shown : r ≡ Got (length two.one) (window_of window two.one)
   pub other_shown : q ≡ Got (length two.other) (window_of window two.other)
-  pub differ : q ≢ r
+  pub differ : window_of window two.other ≢ window_of window two.one
 
 -- the same events lead from the opening to two states
 pub record GotReplays (limit : ℕ) (opening : List Mapping) (front : List CellEvent) : Type 0 where
@@ -88,7 +88,7 @@ module _ (o : Outline) (at : Oid) (window : Window) (size z : ℕ) (xs ys : List
           there = there;
           shown = λ h. Got (sized h) (shown h);
           other_shown = λ h. Got (other_sized h) (other_shown h);
-          differ = λ equal. apart (cc);
+          differ = λ equal. apart (other_shown ∙ (equal ∙ sym shown));
         })
   ]
 
@@ -134,7 +134,7 @@ module _ {P D : Type 0} (pools : Ghosts P) (devices : Devices D) (trace : Trace)
       elim (answers-got trace.config.dbuf_bytes (opening_map trace i) (cells i) at window size z shown s one other) [
         | inl came ↦ elim came [
           | inl same ↦ inl same
-          | inr two ↦ inr (PartsAt.shows two.ptr two.two (two.there, two.shown) (two.there, two.other_shown) two.differ)
+          | inr two ↦ inr (PartsAt.shows two.ptr two.two (two.there, two.shown, two.other_shown, two.differ))
         ]
         | inr r ↦ inr (PartsAt.replays i is r.bases r.other_bases r.state r.other_state r.leads r.other_leads r.collide)
       ]

@@ -1,11 +1,10 @@
 -- Two runs of one trace by one caller come to the same, or they may part: all lines, the sync that stopped, and the close.
-use Rattle.std.proofs.Common.{◌≡◌, ℕ, zero, suc, List, [], ◌∷◌, ◌++◌, length, Option, None, Some, refl, sym, ap, ◌∙◌, subst, inl, inr, arith, append-nil}
+use Rattle.std.proofs.Common.{◌≡◌, ℕ, zero, suc, List, [], ◌∷◌, ◌++◌, length, Option, None, Some, refl, sym, ap, ◌∙◌, subst, inl, inr, arith}
 use Rattle.std.specs.Prelude.{◌⊎◌, slice_get}
 use Rattle.std.proofs.lemmas.Option.{slice_get_within}
 use Rattle.blk_ptr.specs.declared.ptr.Ptr.{Ptr}
 use Rattle.arc_core.specs.declared.served.Served.{Served}
 use Rattle.arc_core.specs.declared.served.Served.TheVariants as served
-use Rattle.arc_table.specs.Fronts.{StartsWith}
 use Rattle.arc_table.specs.Geometry.{IsCell}
 use Rattle.dbuf_cells.specs.Turns.{OnHeap}
 use Rattle.dbuf_state.specs.declared.event.CellEvent.{CellEvent}
@@ -26,11 +25,11 @@ use Rattle.trace_run.specs.callers.WorkLines.{IsWorkOf}
 use Rattle.trace_run.specs.dbufs.Objects.{Brought, Line, Loaded, Nothing, Refused, ops_of}
 use Rattle.trace_run.specs.one_caller.Sequence.{BetweenLines, DoesAnyLine, DoesSync, EndsThere}
 use Rattle.trace_run.proofs.callers.GroupLists.{some-same}
-use Rattle.run_laws.specs.Alike.{AreAlikeSoFar, BeginAlike, ComeToTheSame, FailAlike, MayPart, OneRun, ReadsPast, answers_at_stop, begun, past as may_past, pool_answers_to}
+use Rattle.run_laws.specs.Alike.{AreAlikeSoFar, BeginAlike, ComeToTheSame, FailAlike, MayPart, OneRun, ReadsPast, SameUpTo, answers_at_stop, begun, front_at, past as may_past, pool_answers_to}
 use Rattle.run_laws.proofs.Closing.{EndAlike, close-alike, closed-same}
 use Rattle.run_laws.proofs.Facts.{AreCachedValid, AreSettled, GivesUpAll, OfEachLine}
 use Rattle.run_laws.proofs.LinesAlike.{Caps, ComeTo, Feeds, GoesFurther, Kind, Objects, Reads, StepsAlike, Syncs, Together, kind_of, one_further, other_further, parted, together}
-use Rattle.run_laws.proofs.Parting.{BothHad, parts-may, replays-part}
+use Rattle.run_laws.proofs.Parting.{parts-may, replays-part, same-back, same-there}
 use Rattle.run_laws.proofs.Runs.{its-replies, many-replies, ops-front, runs-come, whole-lines}
 use Rattle.run_laws.proofs.ShardsLegal.{AreLegalShards}
 use Rattle.run_laws.proofs.StepKinds.{caps-steps, feeds-steps, reads-steps, unfed-cursors}
@@ -158,7 +157,7 @@ module _ {P D : Type 0} (pools : Ghosts P) (devices : Devices D) (pool_len : (p 
   -- ---- one run goes on where the other stopped
 
   module _ (run more : OneRun pools devices trace) (vs : List Call)
-      (g : GoesFurther pools devices trace (IsKnown pools devices trace) run.run.work.lines more.run.work.lines run.in_turn.reached more.in_turn.reached (answers_at_stop run.ending run.run.work.stopped) vs) where
+      (g : GoesFurther pools devices trace (IsKnown pools devices trace) run.run.work.lines more.run.work.lines (begun pools devices trace run) run.in_turn.reached (begun pools devices trace more) more.in_turn.reached (answers_at_stop run.ending run.run.work.stopped) vs) where
     -- the line behind the last one of the run is the trace's
     op-there : slice_get trace.ops (length run.run.work.lines) ≡ Some g.line.op
     op-there =
@@ -194,13 +193,10 @@ module _ {P D : Type 0} (pools : Ghosts P) (devices : Devices D) (pool_len : (p 
     further-part : CollidesIn trace run.in_turn.reached.cells
     further-part = let stop = further-ends run.ending not-whole run.in_turn.ended in further-stops stop.tick stop.at not-whole
 
-    -- its cells had come to the same
-    further-had : (i : ℕ) → IsCell trace.config i → StartsWith (more.in_turn.reached.cells i) (run.in_turn.reached.cells i)
-    further-had i is_cell = subst (StartsWith (more.in_turn.reached.cells i)) (g.then.cells i is_cell) (g.begins i is_cell)
-
   -- a cell that has come to two states by one history
-  collides-part : (one other : OneRun pools devices trace) (cells : ℕ → List CellEvent) → BothHad pools devices trace one other cells → CollidesIn trace cells → MayPart pools devices trace one other
-  collides-part one other cells had x = replays-part pools devices trace one other cells had x.i x.in_range x.bases x.other_bases x.state x.other_state x.leads x.other_leads x.collide
+  collides-part : (one other : OneRun pools devices trace) (place : ℕ) (cells : ℕ → List CellEvent) → SameUpTo trace one.run.work.lines other.run.work.lines place → ((i : ℕ) → IsCell trace.config i → cells i ≡ front_at one.run.work.lines place i)
+      → CollidesIn trace cells → MayPart pools devices trace one other
+  collides-part one other place cells before did x = replays-part pools devices trace one other place cells before did x.i x.in_range x.bases x.other_bases x.state x.other_state x.leads x.other_leads x.collide
 
   -- ---- the law
 
@@ -216,10 +212,7 @@ module _ {P D : Type 0} (pools : Ghosts P) (devices : Devices D) (pool_len : (p 
       abbrev SameOrParts : Type 0
       SameOrParts = ComeToTheSame pools devices trace one other ⊎ MayPart pools devices trace one other
 
-      all-there : (cells : ℕ → List CellEvent) (i : ℕ) → StartsWith (cells i) (cells i)
-      all-there cells i = ([], sym (append-nil (cells i)))
-
-      module _ (t : Together pools devices trace one.run.work.lines other.run.work.lines one.in_turn.reached other.in_turn.reached (answers_at_stop one.ending one.run.work.stopped) (answers_at_stop other.ending other.run.work.stopped)) where
+      module _ (t : Together pools devices trace one.run.work.lines other.run.work.lines (begun pools devices trace one) one.in_turn.reached (begun pools devices trace other) other.in_turn.reached (answers_at_stop one.ending one.run.work.stopped) (answers_at_stop other.ending other.run.work.stopped)) where
         replies-same : other.report.replies ≡ one.report.replies
         replies-same = sym (its-replies pools devices trace other) ∙ (t.replies ∙ its-replies pools devices trace one)
 
@@ -247,23 +240,22 @@ module _ {P D : Type 0} (pools : Ghosts P) (devices : Devices D) (pool_len : (p 
         come-together : SameOrParts
         come-together = elim stops-same [
           | inl last ↦ inl (close-alike pools devices trace one other (last-same last) begin.found)
-          | inr apart ↦ inr (collides-part one other one.in_turn.reached.cells
-              (record { one_had = λ i is_cell. all-there one.in_turn.reached.cells i; other_had = λ i is_cell. subst (StartsWith (other.in_turn.reached.cells i)) (t.then.cells i is_cell) (all-there other.in_turn.reached.cells i) }) apart)
+          | inr apart ↦ inr (collides-part one other (length one.run.work.lines) one.in_turn.reached.cells
+              (same-there pools devices trace one other (length one.run.work.lines) one.in_turn.reached.cells t.there) t.there.did apart)
         ]
 
-      come : ComeTo pools devices trace (IsKnown pools devices trace) one.run.work.lines other.run.work.lines one.run.work.feeds other.run.work.feeds one.in_turn.reached other.in_turn.reached
-          (answers_at_stop one.ending one.run.work.stopped) (answers_at_stop other.ending other.run.work.stopped) → SameOrParts
+      come : ComeTo pools devices trace (IsKnown pools devices trace) one.run.work.lines other.run.work.lines one.run.work.feeds other.run.work.feeds (begun pools devices trace one) one.in_turn.reached
+          (begun pools devices trace other) other.in_turn.reached one.in_turn.lines other.in_turn.lines (answers_at_stop one.ending one.run.work.stopped) (answers_at_stop other.ending other.run.work.stopped) → SameOrParts
       come (together t) = come-together t
-      come (other_further g) = inr (collides-part one other one.in_turn.reached.cells
-          (record { one_had = λ i is_cell. all-there one.in_turn.reached.cells i; other_had = further-had one other (answers_at_stop other.ending other.run.work.stopped) g })
-          (further-part one other (answers_at_stop other.ending other.run.work.stopped) g))
-      come (one_further g) = inr (collides-part one other other.in_turn.reached.cells
-          (record { one_had = further-had other one (answers_at_stop one.ending one.run.work.stopped) g; other_had = λ i is_cell. all-there other.in_turn.reached.cells i })
+      come (other_further g) = inr (collides-part one other (length one.run.work.lines) one.in_turn.reached.cells
+          (same-there pools devices trace one other (length one.run.work.lines) one.in_turn.reached.cells g.there) g.there.did (further-part one other (answers_at_stop other.ending other.run.work.stopped) g))
+      come (one_further g) = inr (collides-part one other (length other.run.work.lines) other.in_turn.reached.cells
+          (same-back trace other.run.work.lines one.run.work.lines (length other.run.work.lines) (same-there pools devices trace other one (length other.run.work.lines) other.in_turn.reached.cells g.there)) g.there.other_did
           (further-part other one (answers_at_stop one.ending one.run.work.stopped) g))
       come (parted p) = inr (parts-may pools devices trace one other formed.config p)
 
       unpast : FailAlike pools devices trace one other → SameOrParts
-      unpast fail = come (runs-come pools devices pool_len trace one other begin (IsKnown pools devices trace) (shown.known one begin.image begin.told none) (shown.known other begin.image begin.other_told other_none) fail known-steps)
+      unpast fail = come (runs-come pools devices pool_len trace one other begin (IsKnown pools devices trace) (shown.known one begin.image begin.told none) (shown.known other begin.image begin.other_told other_none) fail (λ l from to known. known.fits) known-steps)
 
     pub runs-alike : (one other : OneRun pools devices trace) → BeginAlike pools devices trace one other → FailAlike pools devices trace one other → ComeToTheSame pools devices trace one other ⊎ MayPart pools devices trace one other
     runs-alike one other begin fail = elim (past-or-none one.run.work.lines) [

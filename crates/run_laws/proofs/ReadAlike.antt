@@ -29,10 +29,9 @@ use Rattle.run_laws.specs.Alike.{TwoContents}
 pub record ShowTwo (ptr : Ptr) (window : Window) (r q : Reply) : Type 0 where
   pub two : TwoContents ptr
   pub from : Served
-  pub other_from : Served
   pub shown : r ≡ Read from ptr.digest (window_of window two.one)
-  pub other_shown : q ≡ Read other_from ptr.digest (window_of window two.other)
-  pub differ : q ≢ r
+  pub other_shown : q ≡ Read from ptr.digest (window_of window two.other)
+  pub differ : window_of window two.other ≢ window_of window two.one
 
 -- bytes from the pool are those in the key's range, and of the pointer
 pub range-of : (image : List ℕ) (ptr : Ptr) (from : Served) (bytes : List ℕ) → IsReadOf (Some image) ptr from bytes → IsFromPool from → IsOf (range_of image ptr.key) ptr
@@ -62,7 +61,7 @@ module _ (image : List ℕ) (ptr : Ptr) where
         | inr differs ↦
             let apart : ys ≢ xs = λ equal. false≢true (sym differs ∙ (bytes_eq-Decides ys xs).1 equal) in
             let one_shown : Read f d xs ≡ Read f ptr.digest (window_of window bytes) = λ h. Read f (one.2 h) (one.3.2 h) in
-            let other_shown : Read g e ys ≡ Read g ptr.digest (window_of window others) = λ h. Read g (other.2 h) (other.3.2 h) in
+            let other_shown : Read g e ys ≡ Read f ptr.digest (window_of window others) = λ h. Read (from h) (other.2 h) (other.3.2 h) in
             let two : TwoContents ptr = record {
               one = bytes;
               other = others;
@@ -70,7 +69,7 @@ module _ (image : List ℕ) (ptr : Ptr) where
               other_of = other.3.1.of;
               differ = λ equal. apart (other.3.2 ∙ (ap (window_of window) (sym equal) ∙ sym one.3.2));
             } in
-            inr (record { two = two; from = f; other_from = g; shown = one_shown; other_shown = other_shown; differ = λ equal. apart (cc) })
+            inr (record { two = two; from = f; shown = one_shown; other_shown = other_shown; differ = λ equal. apart (other.3.2 ∙ (equal ∙ sym one.3.2)) })
       ]
 
   -- one was answered, and the other refused

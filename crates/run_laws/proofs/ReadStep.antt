@@ -214,7 +214,7 @@ module _ {P D : Type 0} (pools : Ghosts P) (devices : Devices D) (pool_len : (p 
               left = none-left here there to.device other_to.device did.0 other_did.0;
               many = ap (λ (fs : List FeedDone). length fs) (other_did.0 ∙ sym did.0);
             })
-        | inr shows ↦ inr (PartsAt.shows shows.0 shows.2.two (shows.1, (shows.2.from, shows.2.shown)) (shows.1, (shows.2.other_from, shows.2.other_shown)) shows.2.differ)
+        | inr shows ↦ inr (PartsAt.shows shows.0 shows.2.two (shows.1, (shows.2.from, shows.2.shown, shows.2.other_shown), shows.2.differ))
       ]
   block-step (ops.Hold n t x) on r q w v here there from to other other_to did other_did alike pool rows =
       let op : Op = ops.Hold n t x in

@@ -22,9 +22,10 @@ use Rattle.trace_run.specs.Bounded.{device_len, with_bound}
 use Rattle.trace_run.specs.Devices.{usable}
 use Rattle.trace_run.specs.FeedSeries.{GoOn, WasFedFrom}
 use Rattle.trace_run.specs.Feeds.{FeedDone}
-use Rattle.trace_run.specs.Lines.{has_further}
+use Rattle.trace_run.specs.Lines.{caller_of, has_further}
 use Rattle.trace_run.specs.Outcome.{IsReport}
 use Rattle.trace_run.specs.Restores.{found_keys, restores_in}
+use Rattle.trace_run.specs.RunWork.{FitsBy}
 use Rattle.trace_run.specs.States.{Handed}
 use Rattle.trace_run.specs.callers.Together.{IsFirstPlace, answered_ops}
 use Rattle.trace_run.specs.dbufs.Objects.{Line, ops_of, replies_of}
@@ -206,9 +207,10 @@ module _ {P D : Type 0} (pools : Ghosts P) (devices : Devices D) (pool_len : (p 
     }
 
     -- all their lines come to the same, as far as both go; or they part
-    pub runs-come : ((kind : Kind) → StepsAlike pools devices trace Holds kind)
-        → ComeTo pools devices trace Holds one.run.work.lines other.run.work.lines one.run.work.feeds other.run.work.feeds one.in_turn.reached other.in_turn.reached stop other_stop
-    runs-come steps =
+    pub runs-come : ((l : Line) (from to : BetweenLines P D) → Holds l from to → FitsBy trace.config (caller_of l.op) l) → ((kind : Kind) → StepsAlike pools devices trace Holds kind)
+        → ComeTo pools devices trace Holds one.run.work.lines other.run.work.lines one.run.work.feeds other.run.work.feeds (begun pools devices trace one) one.in_turn.reached (begun pools devices trace other) other.in_turn.reached
+        one.in_turn.lines other.in_turn.lines stop other_stop
+    runs-come fits steps =
         let r = rings one.first other.first one.run.work.feeds other.run.work.feeds one.fed other.fed begin.cursors in
-        lines-alike pools devices trace Holds steps one.run.work.lines other.run.work.lines one.run.work.feeds other.run.work.feeds (begun pools devices trace one) one.in_turn.reached (begun pools devices trace other) other.in_turn.reached
+        lines-alike pools devices trace Holds fits steps one.run.work.lines other.run.work.lines one.run.work.feeds other.run.work.feeds (begun pools devices trace one) one.in_turn.reached (begun pools devices trace other) other.in_turn.reached
         one.in_turn.lines other.in_turn.lines stop other_stop r.first r.last r.other_first r.other_last (both-begin r)

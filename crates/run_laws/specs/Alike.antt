@@ -1,19 +1,18 @@
 -- Two runs of one trace by one caller, over the same bytes, of which the same calls failed: they come to the same (arc_read, dmu_read, dmu_write, spa_sync and l2arc_feed_thread, for a single thread).
-use Rattle.std.specs.Prelude.{◌≡◌, ◌≢◌, ◌⊎◌, ℕ, true, false, if◌then◌else◌, List, [], ◌∷◌, ◌++◌, length, map, Option, None, Some, slice_get}
+use Rattle.std.specs.Prelude.{◌≡◌, ◌≢◌, ◌⊎◌, ℕ, zero, suc, true, false, if◌then◌else◌, List, [], ◌∷◌, ◌++◌, length, map, take, Option, None, Some, slice_get}
 use Rattle.blk_ptr.specs.declared.ptr.Ptr.{Ptr}
 use Rattle.blk_ptr.specs.Ptr.{IsOf}
 use Rattle.arc_core.specs.PlainShard.{PlainShard}
 use Rattle.arc_core.specs.declared.served.Served.{Served}
 use Rattle.arc_core.specs.declared.served.Served.TheVariants as served
 use Rattle.arc_table.specs.Ended.{Ended}
-use Rattle.arc_table.specs.Fronts.{StartsWith}
 use Rattle.arc_table.specs.Geometry.{IsCell}
 use Rattle.dbuf_cells.specs.Places.{cell_of}
 use Rattle.dbuf_cells.specs.Turns.{OnHeap}
 use Rattle.dbuf_state.specs.Dbufs.{window_of}
 use Rattle.dbuf_state.specs.History.{Collide, Leads}
 use Rattle.dbuf_state.specs.Objects.{PlainCell, opening_cell}
-use Rattle.dbuf_state.specs.Outline.{mapped_at, outline_after}
+use Rattle.dbuf_state.specs.Outline.{mapped_at}
 use Rattle.dbuf_state.specs.declared.event.CellEvent.{CellEvent}
 use Rattle.dbuf_state.specs.declared.state.Mapped.TheVariants.{Clean}
 use Rattle.l2_dev.specs.Cursor.{CursorState}
@@ -35,6 +34,7 @@ use Rattle.trace_run.specs.declared.ran.Ending.{Ending}
 use Rattle.trace_run.specs.declared.ran.Ending.TheVariants.{Fork, Full, Sync, Whole}
 use Rattle.trace_run.specs.declared.status.Status.{Status}
 use Rattle.trace_run.specs.Bounded.{device_len, with_bound}
+use Rattle.trace_run.specs.Deeds.{events_of_cell}
 use Rattle.trace_run.specs.Devices.{usable}
 use Rattle.trace_run.specs.Effects.{calls_of, effect_of}
 use Rattle.trace_run.specs.FeedSeries.{GoOn}
@@ -47,11 +47,11 @@ use Rattle.trace_run.specs.States.{Handed}
 use Rattle.trace_run.specs.callers.Together.{between_groups}
 use Rattle.trace_run.specs.callers.WorkLines.{AsksBrought, effect_with}
 use Rattle.trace_run.specs.dbufs.ObjectLines.{OnObject, on_object}
-use Rattle.trace_run.specs.dbufs.Objects.{Brought, Line, Loaded, Nothing, Refused, Work}
+use Rattle.trace_run.specs.dbufs.Objects.{Brought, Line, Loaded, Nothing, Refused, Work, replies_of}
 use Rattle.trace_run.specs.one_caller.Asking.{AsksLine}
 use Rattle.trace_run.specs.one_caller.InTurn.{RunsInTurn}
 use Rattle.trace_run.specs.one_caller.Lent.{told_lent}
-use Rattle.trace_run.specs.one_caller.Sequence.{AreInSequence, BetweenLines, DoesAnyLine, DoesOwn, IfLent, NotFromDevice, begins_so, shard_behind}
+use Rattle.trace_run.specs.one_caller.Sequence.{AreInSequence, BetweenLines, DoesAnyLine, DoesOwn, IfLent, NotFromDevice, begins_so, outline_behind, shard_behind}
 
 -- ---- which calls failed
 
@@ -132,6 +132,12 @@ module _ {P D : Type 0} (pools : Ghosts P) (devices : Devices D) (trace : Trace)
   device_answers [] feeds from to did = []
   device_answers (l ∷ ls) feeds from to did = device_answers_to (caller_of l.op) l did.1 from did.0 did.4 ++ device_answers ls did.2 did.0 to did.5
 
+  -- the feeds of the line at this place
+  abbrev pub feeds_at : (ls : List Line) (feeds : List FeedDone) (from to : BetweenLines P D) → AreInSequence pools devices trace ls feeds from to → (place : ℕ) → List FeedDone
+  feeds_at [] feeds from to did place = []
+  feeds_at (l ∷ ls) feeds from to did zero = did.1
+  feeds_at (l ∷ ls) feeds from to did (suc place) = feeds_at ls did.2 did.0 to did.5 place
+
   -- behind each line whose feed met a call that failed
   abbrev pub left_by_feeds : (ls : List Line) (feeds : List FeedDone) (from to : BetweenLines P D) → AreInSequence pools devices trace ls feeds from to → List (Option (List ℕ))
   left_by_feeds [] feeds from to did = []
@@ -181,25 +187,40 @@ pub record TwoContents (ptr : Ptr) : Type 0 where
   pub other_of : IsOf other ptr
   pub differ : one ≢ other
 
--- the reply to this line shows these bytes, as those of the pointer; the line is on the block of the pointer, or on an Oid that has it behind a front of its cell's history
-abbrev pub Shows : Trace → (closed : List OnHeap) → Op → Ptr → (bytes : List ℕ) → Reply → Type 0
-Shows trace closed (ops.Read n t x window) ptr bytes reply = (slice_get trace.blocks x ≡ Some ptr) × ((from : Served) × (reply ≡ replies.Read from ptr.digest (window_of window bytes)))
-Shows trace closed (ops.Get n t at window) ptr bytes reply =
-    (cell : OnHeap) × (front : List CellEvent) × (slice_get closed (cell_of trace.config.cells at) ≡ Some cell) × StartsWith cell.value.history front
-    × (mapped_at at (outline_after trace.config.dbuf_bytes (opening_map trace (cell_of trace.config.cells at)) front) ≡ Some (Clean ptr)) × (reply ≡ replies.Got (length bytes) (window_of window bytes))
-Shows trace closed (ops.Hold n t x) ptr bytes reply = ⊥
-Shows trace closed (ops.Drop n x) ptr bytes reply = ⊥
-Shows trace closed (ops.Put n t at size fill) ptr bytes reply = ⊥
-Shows trace closed (ops.Patch n t at start patched) ptr bytes reply = ⊥
-Shows trace closed (ops.Pin n t at) ptr bytes reply = ⊥
-Shows trace closed (ops.Unpin n at) ptr bytes reply = ⊥
-Shows trace closed ops.Feed ptr bytes reply = ⊥
-Shows trace closed (ops.Txg t) ptr bytes reply = ⊥
-Shows trace closed (ops.Cap c) ptr bytes reply = ⊥
+-- what these lines did to a cell
+abbrev pub done_to : (i : ℕ) → List Line → List CellEvent
+done_to i [] = []
+done_to i (l ∷ ls) = events_of_cell i l.work.noted ++ done_to i ls
 
--- One line is answered by both, with different bytes, which are two contents of one digest.
-pub record ShowsTwo (trace : Trace) (lines others : List Line) (closed closed_other : List OnHeap) : Type 0 where
+-- and what those before a place did
+abbrev pub front_at : List Line → (place i : ℕ) → List CellEvent
+front_at lines place i = done_to i (take place lines)
+
+-- The lines of both before this place are answered the same, and did the same to each cell.
+pub record SameUpTo (trace : Trace) (lines others : List Line) (place : ℕ) : Type 0 where
+  pub replies : take place (replies_of others) ≡ take place (replies_of lines)
+  pub cells : (i : ℕ) → IsCell trace.config i → front_at others place i ≡ front_at lines place i
+
+-- The replies of two runs to this line show windows of these bytes, which differ, as those of the pointer: from one source, of the block that is read; or of the Oid that has the pointer, where the cells had come to this.
+abbrev pub ShowsBoth : Trace → (cells : ℕ → List CellEvent) → Op → Ptr → (bytes others : List ℕ) → (reply other_reply : Reply) → Type 0
+ShowsBoth trace cells (ops.Read n t x window) ptr bytes others reply other_reply = (slice_get trace.blocks x ≡ Some ptr)
+    × ((from : Served) × (reply ≡ replies.Read from ptr.digest (window_of window bytes)) × (other_reply ≡ replies.Read from ptr.digest (window_of window others))) × (window_of window others ≢ window_of window bytes)
+ShowsBoth trace cells (ops.Get n t at window) ptr bytes others reply other_reply = (mapped_at at (outline_behind trace cells (cell_of trace.config.cells at)) ≡ Some (Clean ptr))
+    × (reply ≡ replies.Got (length bytes) (window_of window bytes)) × (other_reply ≡ replies.Got (length others) (window_of window others)) × (window_of window others ≢ window_of window bytes)
+ShowsBoth trace cells (ops.Hold n t x) ptr bytes others reply other_reply = ⊥
+ShowsBoth trace cells (ops.Drop n x) ptr bytes others reply other_reply = ⊥
+ShowsBoth trace cells (ops.Put n t at size fill) ptr bytes others reply other_reply = ⊥
+ShowsBoth trace cells (ops.Patch n t at start patched) ptr bytes others reply other_reply = ⊥
+ShowsBoth trace cells (ops.Pin n t at) ptr bytes others reply other_reply = ⊥
+ShowsBoth trace cells (ops.Unpin n at) ptr bytes others reply other_reply = ⊥
+ShowsBoth trace cells ops.Feed ptr bytes others reply other_reply = ⊥
+ShowsBoth trace cells (ops.Txg t) ptr bytes others reply other_reply = ⊥
+ShowsBoth trace cells (ops.Cap c) ptr bytes others reply other_reply = ⊥
+
+-- One line, before which both came to the same, is answered by both, with windows that differ of two contents of one digest.
+pub record ShowsTwo (trace : Trace) (lines others : List Line) : Type 0 where
   pub place : ℕ
+  pub before : SameUpTo trace lines others place
   pub line : Line
   pub other : Line
   pub at : slice_get lines place ≡ Some line
@@ -207,26 +228,20 @@ pub record ShowsTwo (trace : Trace) (lines others : List Line) (closed closed_ot
   pub same : other.op ≡ line.op
   pub ptr : Ptr
   pub contents : TwoContents ptr
-  pub shown : Shows trace closed line.op ptr contents.one line.reply
-  pub other_shown : Shows trace closed_other other.op ptr contents.other other.reply
-  pub differ : other.reply ≢ line.reply
+  pub shown : ShowsBoth trace (front_at lines place) line.op ptr contents.one contents.other line.reply other.reply
 
--- A cell has come by one history to two states: patches of clean blocks began from two contents of one digest.
-pub record ReplaysTwo (trace : Trace) (closed closed_other : List OnHeap) : Type 0 where
+-- A cell has come by one history, that of the lines before a place, to two states: patches of clean blocks began from two contents of one digest.
+pub record ReplaysTwo (trace : Trace) (lines others : List Line) : Type 0 where
+  pub place : ℕ
+  pub before : SameUpTo trace lines others place
   pub i : ℕ
-  pub cell : OnHeap
-  pub other : OnHeap
-  pub at : slice_get closed i ≡ Some cell
-  pub other_at : slice_get closed_other i ≡ Some other
-  pub front : List CellEvent
-  pub begins : StartsWith cell.value.history front
-  pub other_begins : StartsWith other.value.history front
+  pub in_range : IsCell trace.config i
   pub bases : List (List ℕ)
   pub other_bases : List (List ℕ)
   pub state : PlainCell
   pub other_state : PlainCell
-  pub leads : Leads (opening_cell trace.config.dbuf_bytes (opening_map trace i)) front bases state
-  pub other_leads : Leads (opening_cell trace.config.dbuf_bytes (opening_map trace i)) front other_bases other_state
+  pub leads : Leads (opening_cell trace.config.dbuf_bytes (opening_map trace i)) (front_at lines place i) bases state
+  pub other_leads : Leads (opening_cell trace.config.dbuf_bytes (opening_map trace i)) (front_at lines place i) other_bases other_state
   pub collide : Collide bases other_bases
 
 -- Of one shard one feed picked the same keys in both, each with the same digest, and other bytes.
@@ -284,6 +299,10 @@ module _ {P D : Type 0} (pools : Ghosts P) (devices : Devices D) (trace : Trace)
   abbrev pub device_row : OneRun pools devices trace → List Call
   device_row run = device_answers pools devices trace run.run.work.lines run.run.work.feeds (begun run) run.in_turn.reached run.in_turn.lines
 
+  -- the feeds of its line at this place
+  abbrev pub feeds_of : OneRun pools devices trace → (place : ℕ) → List FeedDone
+  feeds_of run place = feeds_at pools devices trace run.run.work.lines run.run.work.feeds (begun run) run.in_turn.reached run.in_turn.lines place
+
   -- what its device told behind each line whose feed met a call that failed
   abbrev pub left_row : OneRun pools devices trace → List (Option (List ℕ))
   left_row run = left_by_feeds pools devices trace run.run.work.lines run.run.work.feeds (begun run) run.in_turn.reached run.in_turn.lines
@@ -304,18 +323,30 @@ module _ {P D : Type 0} (pools : Ghosts P) (devices : Devices D) (trace : Trace)
     pub device : AreAlikeSoFar (device_row pools devices trace one) (device_row pools devices trace other)
     pub left : AreAlikeSoFar (left_row pools devices trace one) (left_row pools devices trace other)
 
+  -- Of a line before which both came to the same, one feed picked in both the same keys of a shard, each with the same digest, and other bytes.
+  pub record PicksThere : Type 0 where
+    pub place : ℕ
+    pub before : SameUpTo trace one.run.work.lines other.run.work.lines place
+    pub picks : FeedsPickTwo (feeds_of pools devices trace one place) (feeds_of pools devices trace other place)
+
+  -- At a line before which both came to the same, a feed of one of them wanted memory.
+  pub record WantsMemoryThere : Type 0 where
+    pub place : ℕ
+    pub before : SameUpTo trace one.run.work.lines other.run.work.lines place
+    pub wants : WantsMemory (feeds_of pools devices trace one place) ⊎ WantsMemory (feeds_of pools devices trace other place)
+
   -- the same report, so the same replies and histories of shards, the same end of the lines, and the same histories of cells
   pub record ComeToTheSame : Type 0 where
     pub report : other.report ≡ one.report
     pub ending : other.ending ≡ one.ending
     pub cells : (i : ℕ) (cell there : OnHeap) → slice_get one.closed.cells i ≡ Some cell → slice_get other.closed.cells i ≡ Some there → there.value.history ≡ cell.value.history
 
-  -- Two contents of one digest are in hand, which a reply shows, a patch began from or a feed picked; or a feed wanted memory; or a line on an object was read past the cache.
+  -- At a line before which both came to the same, two contents of one digest are in hand, which a reply shows, a patch began from or a feed picked; or a feed wanted memory there. Or a line on an object was read past the cache.
   pub data MayPart : Type 0 where
-    shows : ShowsTwo trace one.run.work.lines other.run.work.lines one.closed.cells other.closed.cells → MayPart
-    replays : ReplaysTwo trace one.closed.cells other.closed.cells → MayPart
-    picks : FeedsPickTwo one.run.work.feeds other.run.work.feeds → MayPart
-    memory : WantsMemory one.run.work.feeds ⊎ WantsMemory other.run.work.feeds → MayPart
+    shows : ShowsTwo trace one.run.work.lines other.run.work.lines → MayPart
+    replays : ReplaysTwo trace one.run.work.lines other.run.work.lines → MayPart
+    picks : PicksThere → MayPart
+    memory : WantsMemoryThere → MayPart
     past : ReadsPast one.run.work.lines ⊎ ReadsPast other.run.work.lines → MayPart
 
 -- Two runs of one trace with one caller, over a pool and a device that tell the same bytes, of which the same calls failed, come to the same; but for these cases.
