@@ -5,9 +5,7 @@ use Rattle.std.proofs.lemmas.Option.{slice_get_within}
 use Rattle.blk_ptr.specs.declared.ptr.Ptr.{Ptr}
 use Rattle.arc_core.specs.declared.served.Served.{Served}
 use Rattle.arc_core.specs.declared.served.Served.TheVariants as served
-use Rattle.arc_table.specs.Geometry.{IsCell}
 use Rattle.dbuf_cells.specs.Turns.{OnHeap}
-use Rattle.dbuf_state.specs.declared.event.CellEvent.{CellEvent}
 use Rattle.vdev_io.specs.Calls.{Call}
 use Rattle.vdev_io.specs.declared.device.CacheDev.{Ghosts as Devices}
 use Rattle.vdev_io.specs.declared.pool.Pool.{Ghosts}

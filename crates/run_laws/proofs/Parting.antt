@@ -1,4 +1,4 @@
--- Where two runs part at a line, or at the sync that stopped, two contents of one digest are in hand, or a feed wanted memory: what was done to a cell by then is what the lines before that place did.
+-- Where two runs part at a line, or at a sync at which both stopped, two contents of one digest are in hand, or a feed wanted memory: what was done to a cell by then is what the lines before that place did.
 use Rattle.std.proofs.Common.{◌≡◌, ℕ, List, subst, sym, ◌∙◌}
 use Rattle.std.specs.Prelude.{Some}
 use Rattle.blk_ptr.specs.declared.ptr.Ptr.{Ptr}
@@ -17,7 +17,6 @@ use Rattle.trace_text.specs.declared.op.Op.TheVariants as ops
 use Rattle.trace_text.specs.declared.reply.Reply.{Reply}
 use Rattle.trace_text.specs.declared.trace.Trace.{Trace}
 use Rattle.trace_run.specs.Openings.{opening_map}
-use Rattle.trace_run.specs.dbufs.Objects.{Line}
 use Rattle.trace_run.proofs.deeds.OperatesDone.{cell-there}
 use Rattle.run_laws.specs.Alike.{MayPart, OneRun, SameUpTo, SeenAt, ShowsBoth, TwoContents, at_line, begun, feeds_of, front_at, memory as may_memory, picks as may_pick, replays as may_replay, shows as may_show}
 use Rattle.run_laws.proofs.LinesAlike.{ComeThere, PartsSomewhere}

@@ -9,7 +9,6 @@ use Rattle.dbuf_cells.specs.Turns.{OnHeap}
 use Rattle.dbuf_cells.specs.declared.kept.Kept.{Kept}
 use Rattle.dbuf_state.specs.Dbufs.{dirty_oids, is_cached, is_clean, plain_block, plain_dbuf}
 use Rattle.dbuf_state.specs.Dbufs as concrete
-use Rattle.dbuf_state.specs.Objects.{PlainDbuf}
 use Rattle.dbuf_state.specs.Objects as plain
 use Rattle.dbuf_state.specs.Oids.{item_at}
 use Rattle.dbuf_state.specs.Outline.{OutlineDbuf, mapped_in, outline_dbuf}

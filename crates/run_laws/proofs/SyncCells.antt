@@ -7,13 +7,12 @@ use Rattle.arc_table.specs.Geometry.{IsCell}
 use Rattle.dbuf_cells.specs.Turns.{OnHeap}
 use Rattle.dbuf_state.specs.Dbufs.{plain_block, plain_dbuf}
 use Rattle.dbuf_state.specs.History.{Collide, Leads}
-use Rattle.dbuf_state.specs.Objects.{Block, Dirty, PlainCell, PlainDbuf, dbuf_at, opening_cell}
+use Rattle.dbuf_state.specs.Objects.{Dirty, PlainCell, PlainDbuf, dbuf_at, opening_cell}
 use Rattle.dbuf_state.specs.Outline.{Outline, outline_after, outline_of}
 use Rattle.dbuf_state.specs.Soundness.{IsSound, plain_cell}
 use Rattle.dbuf_state.specs.declared.dbuf.Content.{Content}
 use Rattle.dbuf_state.specs.declared.event.CellEvent.{CellEvent}
 use Rattle.dbuf_state.specs.declared.event.CellEvent.TheVariants.{Synced as WasSynced}
-use Rattle.dbuf_state.specs.declared.oid.Oid.{Oid}
 use Rattle.dbuf_state.specs.declared.state.Mapping.{Mapping}
 use Rattle.dbuf_state.proofs.OutlineLemmas.{outline-is-told}
 use Rattle.dbuf_state.proofs.ReplayLemmas.{ends-alike}
