@@ -1,6 +1,6 @@
 -- Two answers to one get, of cells to which the same had been done: they are the same, or two contents of one digest are shown, or the cell has come by one history to two states.
-use Rattle.std.proofs.Common.{◌≡◌, ◌≢◌, ◌⊎◌, ℕ, List, length, Option, Some, None, inl, inr, refl, sym, ap, subst, ◌∙◌}
-use Rattle.std.proofs.lemmas.Bool.{cases_Bool, false≢true}
+use Rattle.std.proofs.Common.{◌≡◌, ◌≢◌, ◌⊎◌, ◌==◌, ℕ, List, length, Option, Some, None, inl, inr, refl, sym, ap, subst, ◌∙◌, eq-eqb}
+use Rattle.std.proofs.lemmas.Bool.{cases_Bool, eqb-true, false≢true}
 use Rattle.std.proofs.lemmas.Slice.Eq.{bytes_eq-Decides}
 use Rattle.std.specs.Option.{option_map}
 use Rattle.std.specs.Str.{bytes_eq}
@@ -32,7 +32,7 @@ use Rattle.trace_run.specs.Openings.{opening_map}
 use Rattle.trace_run.specs.dbufs.Objects.{Work}
 use Rattle.arc_table.specs.Geometry.{IsCell}
 use Rattle.dbuf_cells.specs.Places.{cell_of}
-use Rattle.run_laws.specs.Alike.{TwoContents}
+use Rattle.run_laws.specs.Alike.{GotFrom, TwoContents}
 use Rattle.run_laws.proofs.Steps.{PartsAt}
 
 -- two contents of a clean block's pointer are shown
@@ -44,8 +44,8 @@ pub record GotTwo (o : Outline) (at : Oid) (window : Window) (r q : Reply) : Typ
   pub other_shown : q ≡ Got (length two.other) (window_of window two.other)
   pub differ : window_of window two.other ≢ window_of window two.one
 
--- the same events lead from the opening to two states
-pub record GotReplays (limit : ℕ) (opening : List Mapping) (front : List CellEvent) : Type 0 where
+-- the same events lead from the opening to two states, of which these answers are made, and they differ
+pub record GotReplays (limit : ℕ) (opening : List Mapping) (front : List CellEvent) (at : Oid) (window : Window) (r q : Reply) : Type 0 where
   pub bases : List (List ℕ)
   pub other_bases : List (List ℕ)
   pub state : PlainCell
@@ -53,6 +53,22 @@ pub record GotReplays (limit : ℕ) (opening : List Mapping) (front : List CellE
   pub leads : Leads (opening_cell limit opening) front bases state
   pub other_leads : Leads (opening_cell limit opening) front other_bases other_state
   pub collide : Collide bases other_bases
+  pub made : GotFrom state at window r
+  pub other_made : GotFrom other_state at window q
+  pub differ : q ≢ r
+
+-- two answers are the same, or they differ
+got-or-apart : (size z : ℕ) (xs ys : List ℕ) → (Got z ys ≡ Got size xs) ⊎ (Got z ys ≢ Got size xs)
+got-or-apart size z xs ys = elim (cases_Bool (bytes_eq ys xs)) [
+  | inr differs ↦ inr (λ is. let shown : ys ≡ xs = cc in false≢true (sym differs ∙ (bytes_eq-Decides ys xs).1 shown))
+  | inl same ↦ (elim (cases_Bool (z == size)) [
+    | inr far ↦ inr (λ is. let long : z ≡ size = cc in false≢true (sym far ∙ eq-eqb z size long))
+    | inl near ↦
+        let long : z ≡ size = eqb-true z size near in
+        let shown : ys ≡ xs = (bytes_eq-Decides ys xs).0 same in
+        inl (λ h. Got (long h) (shown h))
+  ])
+]
 
 -- what a plain cell has of a block, its outline has
 mapped-plain : (c : PlainCell) (at : Oid) (d : PlainDbuf) → plain.dbuf_at at c ≡ Some d → mapped_at at (outline_of c) ≡ Some (mapped_in d.block)
@@ -115,12 +131,26 @@ module _ (o : Outline) (at : Oid) (window : Window) (size z : ℕ) (xs ys : List
 -- behind the same events
 pub answers-got : (limit : ℕ) (opening : List Mapping) (front : List CellEvent) (at : Oid) (window : Window) (size z : ℕ) (xs ys : List ℕ) → IsAnswerAfter limit opening front at window size xs
     → IsAnswerAfter limit opening front at window z ys
-    → ((Got z ys ≡ Got size xs) ⊎ GotTwo (outline_after limit opening front) at window (Got size xs) (Got z ys)) ⊎ GotReplays limit opening front
-answers-got limit opening front at window size z xs ys one other = elim (ends-alike (opening_cell limit opening) front one.bases other.bases one.cell other.cell one.legal other.legal) [
-  | inl same ↦
-      let there : IsAnswer one.cell at window z ys = subst (λ (c : PlainCell). IsAnswer c at window z ys) (sym same.1) other.answer in
-      inl (cell-got (outline_after limit opening front) at window size z xs ys one.cell (outline-is-told limit opening front one.bases one.cell one.legal) one.answer there)
-  | inr collide ↦ inr (record { bases = one.bases; other_bases = other.bases; state = one.cell; other_state = other.cell; leads = one.legal; other_leads = other.legal; collide = collide })
+    → ((Got z ys ≡ Got size xs) ⊎ GotTwo (outline_after limit opening front) at window (Got size xs) (Got z ys)) ⊎ GotReplays limit opening front at window (Got size xs) (Got z ys)
+answers-got limit opening front at window size z xs ys one other = elim (got-or-apart size z xs ys) [
+  | inl equal ↦ inl (inl equal)
+  | inr differ ↦ (elim (ends-alike (opening_cell limit opening) front one.bases other.bases one.cell other.cell one.legal other.legal) [
+    | inl same ↦
+        let there : IsAnswer one.cell at window z ys = subst (λ (c : PlainCell). IsAnswer c at window z ys) (sym same.1) other.answer in
+        inl (cell-got (outline_after limit opening front) at window size z xs ys one.cell (outline-is-told limit opening front one.bases one.cell one.legal) one.answer there)
+    | inr collide ↦ inr (record {
+      bases = one.bases;
+      other_bases = other.bases;
+      state = one.cell;
+      other_state = other.cell;
+      leads = one.legal;
+      other_leads = other.legal;
+      collide = collide;
+      made = (size, xs, refl, one.answer);
+      other_made = (z, ys, refl, other.answer);
+      differ = differ;
+    })
+  ])
 ]
 
 module _ {P D : Type 0} (pools : Ghosts P) (devices : Devices D) (trace : Trace) where
@@ -136,5 +166,5 @@ module _ {P D : Type 0} (pools : Ghosts P) (devices : Devices D) (trace : Trace)
           | inl same ↦ inl same
           | inr two ↦ inr (PartsAt.shows two.ptr two.two (two.there, two.shown, two.other_shown, two.differ))
         ]
-        | inr r ↦ inr (PartsAt.replays i is r.bases r.other_bases r.state r.other_state r.leads r.other_leads r.collide)
+        | inr r ↦ inr (PartsAt.replays i is r.bases r.other_bases r.state r.other_state r.leads r.other_leads r.collide (refl, r.made, r.other_made, r.differ))
       ]

@@ -5,9 +5,7 @@ use Rattle.std.proofs.lemmas.Option.{slice_get_within}
 use Rattle.blk_ptr.specs.declared.ptr.Ptr.{Ptr}
 use Rattle.arc_core.specs.declared.served.Served.{Served}
 use Rattle.arc_core.specs.declared.served.Served.TheVariants as served
-use Rattle.arc_table.specs.Geometry.{IsCell}
 use Rattle.dbuf_cells.specs.Turns.{OnHeap}
-use Rattle.dbuf_state.specs.declared.event.CellEvent.{CellEvent}
 use Rattle.vdev_io.specs.Calls.{Call}
 use Rattle.vdev_io.specs.declared.device.CacheDev.{Ghosts as Devices}
 use Rattle.vdev_io.specs.declared.pool.Pool.{Ghosts}
@@ -25,11 +23,11 @@ use Rattle.trace_run.specs.callers.WorkLines.{IsWorkOf}
 use Rattle.trace_run.specs.dbufs.Objects.{Brought, Line, Loaded, Nothing, Refused, ops_of}
 use Rattle.trace_run.specs.one_caller.Sequence.{BetweenLines, DoesAnyLine, DoesSync, EndsThere}
 use Rattle.trace_run.proofs.callers.GroupLists.{some-same}
-use Rattle.run_laws.specs.Alike.{AreAlikeSoFar, BeginAlike, ComeToTheSame, FailAlike, MayPart, OneRun, ReadsPast, SameUpTo, answers_at_stop, begun, front_at, past as may_past, pool_answers_to}
+use Rattle.run_laws.specs.Alike.{AreAlikeSoFar, BeginAlike, ComeToTheSame, FailAlike, MayPart, OneRun, ReadsPast, answers_at_stop, at_stop, begun, past as may_past, pool_answers_to}
 use Rattle.run_laws.proofs.Closing.{EndAlike, close-alike, closed-same}
 use Rattle.run_laws.proofs.Facts.{AreCachedValid, AreSettled, GivesUpAll, OfEachLine}
 use Rattle.run_laws.proofs.LinesAlike.{Caps, ComeTo, Feeds, GoesFurther, Kind, Objects, Reads, StepsAlike, Syncs, Together, kind_of, one_further, other_further, parted, together}
-use Rattle.run_laws.proofs.Parting.{parts-may, replays-part, same-back, same-there}
+use Rattle.run_laws.proofs.Parting.{parts-may, replays-part, same-there}
 use Rattle.run_laws.proofs.Runs.{its-replies, many-replies, ops-front, runs-come, whole-lines}
 use Rattle.run_laws.proofs.ShardsLegal.{AreLegalShards}
 use Rattle.run_laws.proofs.StepKinds.{caps-steps, feeds-steps, reads-steps, unfed-cursors}
@@ -177,7 +175,7 @@ module _ {P D : Type 0} (pools : Ghosts P) (devices : Devices D) (pool_len : (p 
       abbrev with_op : Op → Line
       with_op op = record { op = op; reply = g.line.reply; work = g.line.work }
 
-      further-stops : (run.ending ≡ Whole → ⊥) → CollidesIn trace run.in_turn.reached.cells
+      further-stops : (run.ending ≡ Whole → ⊥) → ⊥
       further-stops stopped =
           let does : (g.here ≡ []) × DoesSync pools devices trace t g.line.reply g.line.work g.from g.next = subst (λ (o : Op). DoesAnyLine pools devices trace (caller_of o) (with_op o) g.here g.from g.next) is-sync g.does in
           let fits : IsSyncWork trace.config g.line.work = subst (λ (o : Op). FitsBy trace.config (caller_of o) (with_op o)) is-sync g.holds.fits in
@@ -190,13 +188,9 @@ module _ {P D : Type 0} (pools : Ghosts P) (devices : Devices D) (pool_len : (p 
     further-ends Sync not ends = ends.stops.behind
     further-ends (Full need left) not ends = ends.stops.behind
 
-    further-part : CollidesIn trace run.in_turn.reached.cells
+    -- so no run goes on where the other stopped
+    further-part : ⊥
     further-part = let stop = further-ends run.ending not-whole run.in_turn.ended in further-stops stop.tick stop.at not-whole
-
-  -- a cell that has come to two states by one history
-  collides-part : (one other : OneRun pools devices trace) (place : ℕ) (cells : ℕ → List CellEvent) → SameUpTo trace one.run.work.lines other.run.work.lines place → ((i : ℕ) → IsCell trace.config i → cells i ≡ front_at one.run.work.lines place i)
-      → CollidesIn trace cells → MayPart pools devices trace one other
-  collides-part one other place cells before did x = replays-part pools devices trace one other place cells before did x.i x.in_range x.bases x.other_bases x.state x.other_state x.leads x.other_leads x.collide
 
   -- ---- the law
 
@@ -222,10 +216,14 @@ module _ {P D : Type 0} (pools : Ghosts P) (devices : Devices D) (pool_len : (p 
         abbrev StopsSame : Type 0
         StopsSame = StopAlike pools devices pool_len trace one.run.work.stopped other.run.work.stopped one.ending other.ending one.in_turn.last_line other.in_turn.last_line
 
-        stops-same : StopsSame ⊎ CollidesIn trace one.in_turn.reached.cells
+        stops-same : StopsSame ⊎ CollidesIn trace one.in_turn.reached.cells one.run.work.stopped.noted other.run.work.stopped.noted
         stops-same = stop-step pools devices pool_len trace one.report.replies one.run.work.stopped other.run.work.stopped one.in_turn.reached one.in_turn.last_line other.in_turn.reached other.in_turn.last_line one.after other.after t.then
             one.ending other.ending one.in_turn.ended other-ends (λ whole. many-replies pools devices trace one ∙ whole-lines pools devices trace one whole)
             (λ whole. sym (ap (λ (rs : List Reply). length rs) replies-same) ∙ (many-replies pools devices trace other ∙ whole-lines pools devices trace other whole)) t.pool
+
+        -- both have as many lines
+        lines-many : length one.run.work.lines ≡ length other.run.work.lines
+        lines-many = sym (many-replies pools devices trace one) ∙ (sym (ap (λ (rs : List Reply). length rs) replies-same) ∙ many-replies pools devices trace other)
 
         last-same : StopsSame → EndAlike pools devices trace one other
         last-same last = record {
@@ -240,18 +238,15 @@ module _ {P D : Type 0} (pools : Ghosts P) (devices : Devices D) (pool_len : (p 
         come-together : SameOrParts
         come-together = elim stops-same [
           | inl last ↦ inl (close-alike pools devices trace one other (last-same last) begin.found)
-          | inr apart ↦ inr (collides-part one other (length one.run.work.lines) one.in_turn.reached.cells
-              (same-there pools devices trace one other (length one.run.work.lines) one.in_turn.reached.cells t.there) t.there.did apart)
+          | inr x ↦ inr (replays-part pools devices trace one other (length one.run.work.lines) one.in_turn.reached.cells (same-there pools devices trace one other (length one.run.work.lines) one.in_turn.reached.cells t.there) t.there.did
+              x.i x.in_range x.bases x.other_bases x.state x.other_state x.leads x.other_leads x.collide (at_stop refl lines-many x.writes))
         ]
 
       come : ComeTo pools devices trace (IsKnown pools devices trace) one.run.work.lines other.run.work.lines one.run.work.feeds other.run.work.feeds (begun pools devices trace one) one.in_turn.reached
           (begun pools devices trace other) other.in_turn.reached one.in_turn.lines other.in_turn.lines (answers_at_stop one.ending one.run.work.stopped) (answers_at_stop other.ending other.run.work.stopped) → SameOrParts
       come (together t) = come-together t
-      come (other_further g) = inr (collides-part one other (length one.run.work.lines) one.in_turn.reached.cells
-          (same-there pools devices trace one other (length one.run.work.lines) one.in_turn.reached.cells g.there) g.there.did (further-part one other (answers_at_stop other.ending other.run.work.stopped) g))
-      come (one_further g) = inr (collides-part one other (length other.run.work.lines) other.in_turn.reached.cells
-          (same-back trace other.run.work.lines one.run.work.lines (length other.run.work.lines) (same-there pools devices trace other one (length other.run.work.lines) other.in_turn.reached.cells g.there)) g.there.other_did
-          (further-part other one (answers_at_stop one.ending one.run.work.stopped) g))
+      come (other_further g) = absurd (further-part one other (answers_at_stop other.ending other.run.work.stopped) g)
+      come (one_further g) = absurd (further-part other one (answers_at_stop one.ending one.run.work.stopped) g)
       come (parted p) = inr (parts-may pools devices trace one other formed.config p)
 
       unpast : FailAlike pools devices trace one other → SameOrParts

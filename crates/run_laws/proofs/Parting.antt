@@ -1,4 +1,4 @@
--- Where two runs part at a line, or at the sync that stopped, two contents of one digest are in hand, or a feed wanted memory: what was done to a cell by then is what the lines before that place did.
+-- Where two runs part at a line, or at a sync at which both stopped, two contents of one digest are in hand, or a feed wanted memory: what was done to a cell by then is what the lines before that place did.
 use Rattle.std.proofs.Common.{◌≡◌, ℕ, List, subst, sym, ◌∙◌}
 use Rattle.std.specs.Prelude.{Some}
 use Rattle.blk_ptr.specs.declared.ptr.Ptr.{Ptr}
@@ -17,15 +17,10 @@ use Rattle.trace_text.specs.declared.op.Op.TheVariants as ops
 use Rattle.trace_text.specs.declared.reply.Reply.{Reply}
 use Rattle.trace_text.specs.declared.trace.Trace.{Trace}
 use Rattle.trace_run.specs.Openings.{opening_map}
-use Rattle.trace_run.specs.dbufs.Objects.{Line}
 use Rattle.trace_run.proofs.deeds.OperatesDone.{cell-there}
-use Rattle.run_laws.specs.Alike.{MayPart, OneRun, SameUpTo, ShowsBoth, TwoContents, begun, feeds_of, front_at, memory as may_memory, picks as may_pick, replays as may_replay, shows as may_show}
+use Rattle.run_laws.specs.Alike.{MayPart, OneRun, SameUpTo, SeenAt, ShowsBoth, TwoContents, at_line, begun, feeds_of, front_at, memory as may_memory, picks as may_pick, replays as may_replay, shows as may_show}
 use Rattle.run_laws.proofs.LinesAlike.{ComeThere, PartsSomewhere}
 use Rattle.run_laws.proofs.Steps.{PartsAt, memory, picks, replays, shows}
-
--- which of two rows of lines is named first
-pub same-back : (trace : Trace) (lines others : List Line) (place : ℕ) → SameUpTo trace lines others place → SameUpTo trace others lines place
-same-back trace lines others place same = record { replies = sym same.replies; cells = λ i is_cell. sym (same.cells i is_cell) }
 
 -- two replies show what they do of cells to which the same was done
 shows-front : (trace : Trace) (valid : IsConfig trace.config) (cells front : ℕ → List CellEvent) → ((i : ℕ) → IsCell trace.config i → cells i ≡ front i) → (op : Op) (ptr : Ptr) (bytes others : List ℕ) (reply other : Reply)
@@ -62,8 +57,8 @@ module _ {P D : Type 0} (pools : Ghosts P) (devices : Devices D) (trace : Trace)
     pub replays-part : (place : ℕ) (cells : ℕ → List CellEvent) → SameUpTo trace one.run.work.lines other.run.work.lines place → ((i : ℕ) → IsCell trace.config i → cells i ≡ front_at one.run.work.lines place i) → (i : ℕ) → IsCell trace.config i
         → (bases other_bases : List (List ℕ)) (state other_state : PlainCell)
         → Leads (opening_cell trace.config.dbuf_bytes (opening_map trace i)) (cells i) bases state → Leads (opening_cell trace.config.dbuf_bytes (opening_map trace i)) (cells i) other_bases other_state → Collide bases other_bases
-        → MayPart pools devices trace one other
-    replays-part place cells before did i is_cell bases other_bases state other_state leads other_leads collide =
+        → SeenAt trace one.run.work.lines other.run.work.lines one.run.work.stopped other.run.work.stopped place i state other_state → MayPart pools devices trace one other
+    replays-part place cells before did i is_cell bases other_bases state other_state leads other_leads collide seen =
         let Comes : List (List ℕ) → PlainCell → List CellEvent → Type 0 = λ bases state es. Leads (opening_cell trace.config.dbuf_bytes (opening_map trace i)) es bases state in
         may_replay (record {
           place = place;
@@ -77,6 +72,7 @@ module _ {P D : Type 0} (pools : Ghosts P) (devices : Devices D) (trace : Trace)
           leads = subst (Comes bases state) (did i is_cell) leads;
           other_leads = subst (Comes other_bases other_state) (did i is_cell) other_leads;
           collide = collide;
+          seen = seen;
         })
 
     module _ (valid : IsConfig trace.config) (p : PartsSomewhere pools devices trace one.run.work.lines other.run.work.lines one.run.work.feeds other.run.work.feeds (begun pools devices trace one) one.in_turn.reached
@@ -104,6 +100,7 @@ module _ {P D : Type 0} (pools : Ghosts P) (devices : Devices D) (trace : Trace)
         where
           go : PartsAt pools devices trace p.cells p.line p.other_line (feeds_of pools devices trace one p.place) (feeds_of pools devices trace other p.place) → MayPart pools devices trace one other
           go (shows ptr two shown) = shows-part ptr two shown
-          go (replays i is_cell xs ys a b leads other_leads collide) = replays-part p.place p.cells before p.there.did i is_cell xs ys a b leads other_leads collide
+          go (replays i is_cell xs ys a b leads other_leads collide sees) =
+              replays-part p.place p.cells before p.there.did i is_cell xs ys a b leads other_leads collide (at_line p.line p.other_line p.at p.other_at p.same sees)
           go (picks two) = may_pick (record { place = p.place; before = before; picks = two })
           go (memory wants) = may_memory (record { place = p.place; before = before; wants = wants })

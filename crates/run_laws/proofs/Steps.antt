@@ -13,14 +13,15 @@ use Rattle.trace_run.specs.Lines.{caller_of}
 use Rattle.trace_run.specs.Openings.{opening_map}
 use Rattle.trace_run.specs.dbufs.Objects.{Line}
 use Rattle.trace_run.specs.one_caller.Sequence.{BetweenLines, DoesAnyLine}
-use Rattle.run_laws.specs.Alike.{AreAlike, FeedsPickTwo, ShowsBoth, TwoContents, WantsMemory, device_answers_to, left_behind, pool_answers_to}
+use Rattle.run_laws.specs.Alike.{AreAlike, FeedsPickTwo, SeesBoth, ShowsBoth, TwoContents, WantsMemory, device_answers_to, left_behind, pool_answers_to}
 
 module _ {P D : Type 0} (pools : Ghosts P) (devices : Devices D) (trace : Trace) where
   -- Two runs part at this line, whose cells had come to this by then: two contents of one digest are shown; a cell has come to two states by one history; a feed picked two contents of one digest; or a feed wanted memory.
   pub data PartsAt (cells : ℕ → List CellEvent) (l m : Line) (here there : List FeedDone) : Type 0 where
     shows : (ptr : Ptr) → (two : TwoContents ptr) → ShowsBoth trace cells l.op ptr two.one two.other l.reply m.reply → PartsAt cells l m here there
     replays : (i : ℕ) → IsCell trace.config i → (xs ys : List (List ℕ)) → (a b : PlainCell) → Leads (opening_cell trace.config.dbuf_bytes (opening_map trace i)) (cells i) xs a
-        → Leads (opening_cell trace.config.dbuf_bytes (opening_map trace i)) (cells i) ys b → Collide xs ys → PartsAt cells l m here there
+        → Leads (opening_cell trace.config.dbuf_bytes (opening_map trace i)) (cells i) ys b → Collide xs ys
+        → SeesBoth trace i a b l.op l.reply m.reply l.work.noted m.work.noted → PartsAt cells l m here there
     picks : FeedsPickTwo here there → PartsAt cells l m here there
     memory : WantsMemory here ⊎ WantsMemory there → PartsAt cells l m here there
 

@@ -1,4 +1,4 @@
--- How the lines of two runs end: where one run has no room for a sync, or a write of it fails, the other has none or fails at the same block; or one history led a cell to two states (spa_sync for a
+-- How the lines of two runs end: where one run has no room for a sync, or a write of it fails, the other has none or fails at the same block. Where a write of both failed, one history may have led a cell to two states (spa_sync for a
 -- single thread).
 use Rattle.std.proofs.Common.{◌≡◌, ◌⊎◌, ◌+◌, ◌-◌, ◌<◌, ◌≤◌, ℕ, suc, List, [], ◌∷◌, ◌++◌, length, length-append, map, Option, Some, refl, sym, ap, ◌∙◌, subst, inl, inr, arith}
 use Rattle.std.proofs.lemmas.Bool.{cases_lt}
@@ -30,9 +30,9 @@ use Rattle.trace_run.specs.one_caller.Sequence.{BetweenLines, DoesSync, EndsTher
 use Rattle.run_laws.specs.Alike.{AreAlike, AreAlikeSoFar, answers_at_stop, pool_answers_to}
 use Rattle.run_laws.proofs.Behind.{goes-cell, goes-shard, pool-size}
 use Rattle.run_laws.proofs.LinesAlike.{alike-sym}
-use Rattle.run_laws.proofs.PlainDues.{views_of}
+use Rattle.run_laws.proofs.PlainDues.{even-or-apart, views_of}
 use Rattle.run_laws.proofs.Rows.{given-failed, so-far-sym}
-use Rattle.run_laws.proofs.SyncCells.{CollidesIn, collides-back, dirty-one, views-alike}
+use Rattle.run_laws.proofs.SyncCells.{CollidesIn, apart-collides, dirty-one, views-alike}
 use Rattle.run_laws.proofs.SyncStep.{items-one, need-one, sync_line}
 
 -- ---- lists
@@ -113,63 +113,55 @@ module _ {P D : Type 0} (pools : Ghosts P) (devices : Devices D) (pool_len : (p 
   module _ (replies : List Reply) (v w : Work) (at to other other_to : BetweenLines P D) (after other_after : P) (like : AreAlike pools devices trace at other) where
     -- a write of each failed
     both-fail : StopsThere pools devices trace replies v sync_fault.PoolFault at after to → StopsThere pools devices trace replies w sync_fault.PoolFault other other_after other_to
-        → AreAlikeSoFar (answers_at_stop Sync v) (answers_at_stop Sync w) → StopAlike v w Sync Sync to other_to ⊎ CollidesIn trace at.cells
+        → AreAlikeSoFar (answers_at_stop Sync v) (answers_at_stop Sync w) → StopAlike v w Sync Sync to other_to ⊎ CollidesIn trace at.cells v.noted w.noted
     both-fail one two rows =
         let a = one.stops.answer.stops in
         let b = two.stops.answer.stops in
         let xs : List SyncItem = items_from at.outside.group at.outside.next a.cells a.done in
         let ys : List SyncItem = items_from other.outside.group other.outside.next b.cells b.done in
-        elim (views-alike trace at.cells other.cells like.cells v w a.cells b.cells xs ys a.turns b.turns) [
-          | inl same ↦
-              let whole : b.done ++ b.due ∷ b.rest ≡ a.done ++ a.due ∷ a.rest = dirty-one a.cells b.cells (a.done ++ a.due ∷ a.rest) (b.done ++ b.due ∷ b.rest) same a.dirty b.dirty in
-              let first : length v.noted ≡ length a.done = ap length a.turns.noted ∙ many-noted g.callers at.outside.group at.outside.next a.cells a.done in
-              let second : length w.noted ≡ length b.done = ap length b.turns.noted ∙ many-noted g.callers other.outside.group other.outside.next b.cells b.done in
-              let many : length b.done ≡ length a.done = sym second ∙ (given-same v.noted w.noted rows ∙ first) in
-              let done : b.done ≡ a.done = front-same b.done a.done (b.due ∷ b.rest) (a.due ∷ a.rest) many whole in
-              let items : ys ≡ xs = items-one a.cells b.cells a.done b.done at.outside.group other.outside.group at.outside.next other.outside.next same done like.group like.next in
+        let same : views_of b.cells ≡ views_of a.cells = views-alike trace at.cells other.cells like.cells v w a.cells b.cells xs ys a.turns b.turns in
+        let whole : b.done ++ b.due ∷ b.rest ≡ a.done ++ a.due ∷ a.rest = dirty-one a.cells b.cells (a.done ++ a.due ∷ a.rest) (b.done ++ b.due ∷ b.rest) same a.dirty b.dirty in
+        let first : length v.noted ≡ length a.done = ap length a.turns.noted ∙ many-noted g.callers at.outside.group at.outside.next a.cells a.done in
+        let second : length w.noted ≡ length b.done = ap length b.turns.noted ∙ many-noted g.callers other.outside.group other.outside.next b.cells b.done in
+        let many : length b.done ≡ length a.done = sym second ∙ (given-same v.noted w.noted rows ∙ first) in
+        let done : b.done ≡ a.done = front-same b.done a.done (b.due ∷ b.rest) (a.due ∷ a.rest) many whole in
+        elim (even-or-apart a.cells b.cells a.done) [
+          | inl even ↦
+              let items : ys ≡ xs = items-one a.cells b.cells a.done b.done at.outside.group other.outside.group at.outside.next other.outside.next even done like.group like.next in
               let noted : w.noted ≡ v.noted = b.turns.noted ∙ (ap (noted_of g.callers) items ∙ sym a.turns.noted) in
               inl (leaves-alike one.stops.behind.tick two.stops.behind.tick v w at to other other_to Sync Sync one.leaves two.leaves like (same-tick trace replies one.stops.behind two.stops.behind) refl noted)
-          | inr apart ↦ inr apart
+          | inr x ↦ inr (apart-collides trace at.cells other.cells like.cells v w a.cells b.cells xs ys a.turns b.turns at.outside.group at.outside.next other.outside.group other.outside.next a.done b.done done a.turns.noted b.turns.noted x)
         ]
 
     -- neither had room
     both-full : (need left other_need other_left : ℕ) → StopsThere pools devices trace replies v (sync_fault.PoolFull need left) at after to → StopsThere pools devices trace replies w (sync_fault.PoolFull other_need other_left) other other_after other_to
-        → StopAlike v w (Full need left) (Full other_need other_left) to other_to ⊎ CollidesIn trace at.cells
+        → StopAlike v w (Full need left) (Full other_need other_left) to other_to
     both-full need left other_need other_left one two =
         let a = one.stops.answer in
         let b = two.stops.answer in
-        elim (views-alike trace at.cells other.cells like.cells v w a.cells b.cells [] [] a.turns b.turns) [
-          | inl same ↦
-              let listed : b.dues ≡ a.dues = dirty-one a.cells b.cells a.dues b.dues same a.dirty b.dirty in
-              let needs : other_need ≡ need = b.need_is ∙ (need-one a.cells b.cells a.dues b.dues same listed ∙ sym a.need_is) in
-              let lefts : other_left ≡ left = b.left_is ∙ (room-same at other like ∙ sym a.left_is) in
-              inl (leaves-alike one.stops.behind.tick two.stops.behind.tick v w at to other other_to (Full need left) (Full other_need other_left) one.leaves two.leaves like (same-tick trace replies one.stops.behind two.stops.behind)
-              (λ i. Full (needs i) (lefts i)) (b.turns.noted ∙ sym a.turns.noted))
-          | inr apart ↦ inr apart
-        ]
+        let same : views_of b.cells ≡ views_of a.cells = views-alike trace at.cells other.cells like.cells v w a.cells b.cells [] [] a.turns b.turns in
+        let listed : b.dues ≡ a.dues = dirty-one a.cells b.cells a.dues b.dues same a.dirty b.dirty in
+        let needs : other_need ≡ need = b.need_is ∙ (need-one a.cells b.cells a.dues b.dues same listed ∙ sym a.need_is) in
+        let lefts : other_left ≡ left = b.left_is ∙ (room-same at other like ∙ sym a.left_is) in
+        leaves-alike one.stops.behind.tick two.stops.behind.tick v w at to other other_to (Full need left) (Full other_need other_left) one.leaves two.leaves like (same-tick trace replies one.stops.behind two.stops.behind)
+        (λ i. Full (needs i) (lefts i)) (b.turns.noted ∙ sym a.turns.noted)
 
     -- one had room where the other had none
-    fail-full : (need left : ℕ) → StopsThere pools devices trace replies v sync_fault.PoolFault at after to → StopsThere pools devices trace replies w (sync_fault.PoolFull need left) other other_after other_to → CollidesIn trace at.cells
+    fail-full : (need left : ℕ) → StopsThere pools devices trace replies v sync_fault.PoolFault at after to → StopsThere pools devices trace replies w (sync_fault.PoolFull need left) other other_after other_to → ⊥
     fail-full need left one two =
         let a = one.stops.answer.stops in
         let b = two.stops.answer in
-        elim (views-alike trace at.cells other.cells like.cells v w a.cells b.cells (items_from at.outside.group at.outside.next a.cells a.done) [] a.turns b.turns) [
-          | inl same ↦
-              let full : pools.size other.outside.pool - other.outside.next < need_of b.cells b.dues = (let x = b.full in let y = b.need_is in let z = b.left_is in omega (arith, x, y, z)) in
-              absurd (fits-full a.cells b.cells (a.done ++ a.due ∷ a.rest) b.dues (pools.size at.outside.pool - at.outside.next) (pools.size other.outside.pool - other.outside.next) same a.dirty b.dirty (room-same at other like) a.fits full)
-          | inr apart ↦ apart
-        ]
+        let same : views_of b.cells ≡ views_of a.cells = views-alike trace at.cells other.cells like.cells v w a.cells b.cells (items_from at.outside.group at.outside.next a.cells a.done) [] a.turns b.turns in
+        let full : pools.size other.outside.pool - other.outside.next < need_of b.cells b.dues = (let x = b.full in let y = b.need_is in let z = b.left_is in omega (arith, x, y, z)) in
+        fits-full a.cells b.cells (a.done ++ a.due ∷ a.rest) b.dues (pools.size at.outside.pool - at.outside.next) (pools.size other.outside.pool - other.outside.next) same a.dirty b.dirty (room-same at other like) a.fits full
 
-    full-fail : (need left : ℕ) → StopsThere pools devices trace replies v (sync_fault.PoolFull need left) at after to → StopsThere pools devices trace replies w sync_fault.PoolFault other other_after other_to → CollidesIn trace at.cells
+    full-fail : (need left : ℕ) → StopsThere pools devices trace replies v (sync_fault.PoolFull need left) at after to → StopsThere pools devices trace replies w sync_fault.PoolFault other other_after other_to → ⊥
     full-fail need left one two =
         let a = one.stops.answer in
         let b = two.stops.answer.stops in
-        elim (views-alike trace at.cells other.cells like.cells v w a.cells b.cells [] (items_from other.outside.group other.outside.next b.cells b.done) a.turns b.turns) [
-          | inl same ↦
-              let full : pools.size at.outside.pool - at.outside.next < need_of a.cells a.dues = (let x = a.full in let y = a.need_is in let z = a.left_is in omega (arith, x, y, z)) in
-              absurd (full-fits a.cells b.cells a.dues (b.done ++ b.due ∷ b.rest) (pools.size at.outside.pool - at.outside.next) (pools.size other.outside.pool - other.outside.next) same a.dirty b.dirty (room-same at other like) full b.fits)
-          | inr apart ↦ apart
-        ]
+        let same : views_of b.cells ≡ views_of a.cells = views-alike trace at.cells other.cells like.cells v w a.cells b.cells [] (items_from other.outside.group other.outside.next b.cells b.done) a.turns b.turns in
+        let full : pools.size at.outside.pool - at.outside.next < need_of a.cells a.dues = (let x = a.full in let y = a.need_is in let z = a.left_is in omega (arith, x, y, z)) in
+        full-fits a.cells b.cells a.dues (b.done ++ b.due ∷ b.rest) (pools.size at.outside.pool - at.outside.next) (pools.size other.outside.pool - other.outside.next) same a.dirty b.dirty (room-same at other like) full b.fits
 
     both-whole : EndsThere pools devices trace replies v Whole at after to → EndsThere pools devices trace replies w Whole other other_after other_to → StopAlike v w Whole Whole to other_to
     both-whole one two = record {
@@ -187,7 +179,7 @@ module _ {P D : Type 0} (pools : Ghosts P) (devices : Devices D) (pool_len : (p 
     -- where all lines are done there are as many replies as operations
     pub stop-step : (ending other_ending : Ending) → EndsThere pools devices trace replies v ending at after to → EndsThere pools devices trace replies w other_ending other other_after other_to
         → (ending ≡ Whole → length replies ≡ length trace.ops) → (other_ending ≡ Whole → length replies ≡ length trace.ops) → AreAlikeSoFar (answers_at_stop ending v) (answers_at_stop other_ending w)
-        → StopAlike v w ending other_ending to other_to ⊎ CollidesIn trace at.cells
+        → StopAlike v w ending other_ending to other_to ⊎ CollidesIn trace at.cells v.noted w.noted
     stop-step Whole Whole one two all other_all rows = inl (both-whole one two)
     stop-step Whole Fork one two all other_all rows = absurd two
     stop-step Whole Sync one two all other_all rows = absurd (not-whole (all refl) two.stops.behind)
@@ -196,40 +188,35 @@ module _ {P D : Type 0} (pools : Ghosts P) (devices : Devices D) (pool_len : (p 
     stop-step Sync Whole one two all other_all rows = absurd (not-whole (other_all refl) one.stops.behind)
     stop-step Sync Fork one two all other_all rows = absurd two
     stop-step Sync Sync one two all other_all rows = both-fail one two rows
-    stop-step Sync (Full need left) one two all other_all rows = inr (fail-full need left one two)
+    stop-step Sync (Full need left) one two all other_all rows = absurd (fail-full need left one two)
     stop-step (Full need left) Whole one two all other_all rows = absurd (not-whole (other_all refl) one.stops.behind)
     stop-step (Full need left) Fork one two all other_all rows = absurd two
-    stop-step (Full need left) Sync one two all other_all rows = inr (full-fail need left one two)
-    stop-step (Full need left) (Full other_need other_left) one two all other_all rows = both-full need left other_need other_left one two
+    stop-step (Full need left) Sync one two all other_all rows = absurd (full-fail need left one two)
+    stop-step (Full need left) (Full other_need other_left) one two all other_all rows = inl (both-full need left other_need other_left one two)
 
   -- ---- one run goes on where the other stops
 
   module _ (t : ℕ) (r : Reply) (v w : Work) (at to other other_to : BetweenLines P D) (replies : List Reply) (other_after : P) (like : AreAlike pools devices trace at other) (did : DoesSync pools devices trace t r v at to) where
-    on-fail : StopsThere pools devices trace replies w sync_fault.PoolFault other other_after other_to → (us : List Call) → AreAlikeSoFar (map (λ note. Gave) v.noted ++ us) (map (λ note. Gave) w.noted ++ Failed ∷ []) → CollidesIn trace at.cells
+    on-fail : StopsThere pools devices trace replies w sync_fault.PoolFault other other_after other_to → (us : List Call) → AreAlikeSoFar (map (λ note. Gave) v.noted ++ us) (map (λ note. Gave) w.noted ++ Failed ∷ []) → ⊥
     on-fail two us rows =
         let a = did.synced.answer in
         let b = two.stops.answer.stops in
-        elim (views-alike trace at.cells other.cells like.cells v w a.cells b.cells (items_from at.outside.group at.outside.next a.cells a.dues) (items_from other.outside.group other.outside.next b.cells b.done) a.turns b.turns) [
-          | inl same ↦
-              let whole : b.done ++ b.due ∷ b.rest ≡ a.dues = dirty-one a.cells b.cells a.dues (b.done ++ b.due ∷ b.rest) same a.dirty b.dirty in
-              let first : length v.noted ≡ length a.dues = ap length a.turns.noted ∙ many-noted g.callers at.outside.group at.outside.next a.cells a.dues in
-              let second : length w.noted ≡ length b.done = ap length b.turns.noted ∙ many-noted g.callers other.outside.group other.outside.next b.cells b.done in
-              let split = length-append b.done (b.due ∷ b.rest) in
-              let long = ap length whole in
-              absurd (given-failed v.noted w.noted us [] (omega (arith, first, second, split, long)) rows)
-          | inr apart ↦ apart
-        ]
+        let same : views_of b.cells ≡ views_of a.cells = views-alike trace at.cells other.cells like.cells v w a.cells b.cells (items_from at.outside.group at.outside.next a.cells a.dues)
+        (items_from other.outside.group other.outside.next b.cells b.done) a.turns b.turns in
+        let whole : b.done ++ b.due ∷ b.rest ≡ a.dues = dirty-one a.cells b.cells a.dues (b.done ++ b.due ∷ b.rest) same a.dirty b.dirty in
+        let first : length v.noted ≡ length a.dues = ap length a.turns.noted ∙ many-noted g.callers at.outside.group at.outside.next a.cells a.dues in
+        let second : length w.noted ≡ length b.done = ap length b.turns.noted ∙ many-noted g.callers other.outside.group other.outside.next b.cells b.done in
+        let split = length-append b.done (b.due ∷ b.rest) in
+        let long = ap length whole in
+        given-failed v.noted w.noted us [] (omega (arith, first, second, split, long)) rows
 
-    on-full : (need left : ℕ) → StopsThere pools devices trace replies w (sync_fault.PoolFull need left) other other_after other_to → CollidesIn trace at.cells
+    on-full : (need left : ℕ) → StopsThere pools devices trace replies w (sync_fault.PoolFull need left) other other_after other_to → ⊥
     on-full need left two =
         let a = did.synced.answer in
         let b = two.stops.answer in
-        elim (views-alike trace at.cells other.cells like.cells v w a.cells b.cells (items_from at.outside.group at.outside.next a.cells a.dues) [] a.turns b.turns) [
-          | inl same ↦
-              let full : pools.size other.outside.pool - other.outside.next < need_of b.cells b.dues = (let x = b.full in let y = b.need_is in let z = b.left_is in omega (arith, x, y, z)) in
-              absurd (fits-full a.cells b.cells a.dues b.dues (pools.size at.outside.pool - at.outside.next) (pools.size other.outside.pool - other.outside.next) same a.dirty b.dirty (room-same at other like) a.fits full)
-          | inr apart ↦ apart
-        ]
+        let same : views_of b.cells ≡ views_of a.cells = views-alike trace at.cells other.cells like.cells v w a.cells b.cells (items_from at.outside.group at.outside.next a.cells a.dues) [] a.turns b.turns in
+        let full : pools.size other.outside.pool - other.outside.next < need_of b.cells b.dues = (let x = b.full in let y = b.need_is in let z = b.left_is in omega (arith, x, y, z)) in
+        fits-full a.cells b.cells a.dues b.dues (pools.size at.outside.pool - at.outside.next) (pools.size other.outside.pool - other.outside.next) same a.dirty b.dirty (room-same at other like) a.fits full
 
     -- the pool was asked for a write of each block that it noted
     sync-answers : v.brought ≡ Nothing → pool_answers_to (sync_line pools devices trace t r v) ≡ map (λ note. Gave) v.noted
@@ -237,7 +224,7 @@ module _ {P D : Type 0} (pools : Ghosts P) (devices : Devices D) (pool_len : (p 
 
     -- one run did the sync at which the other stopped
     pub stops-second : (ending : Ending) → EndsThere pools devices trace replies w ending other other_after other_to → (ending ≡ Whole → ⊥) → v.brought ≡ Nothing → (us : List Call)
-        → AreAlikeSoFar (pool_answers_to (sync_line pools devices trace t r v) ++ us) (answers_at_stop ending w) → CollidesIn trace at.cells
+        → AreAlikeSoFar (pool_answers_to (sync_line pools devices trace t r v) ++ us) (answers_at_stop ending w) → ⊥
     stops-second Whole two some none us rows = absurd (some refl)
     stops-second Fork two some none us rows = absurd two
     stops-second Sync two some none us rows = on-fail two us (subst (λ (cs : List Call). AreAlikeSoFar (cs ++ us) (map (λ note. Gave) w.noted ++ Failed ∷ [])) (sync-answers none) rows)
@@ -245,8 +232,7 @@ module _ {P D : Type 0} (pools : Ghosts P) (devices : Devices D) (pool_len : (p 
 
   -- the other run did the sync at which the one stopped
   pub stops-first : (replies : List Reply) (v w : Work) (ending : Ending) (t : ℕ) (q : Reply) (at to other other_to : BetweenLines P D) (after : P) → AreAlike pools devices trace at other → EndsThere pools devices trace replies v ending at after to → (ending ≡ Whole → ⊥)
-      → DoesSync pools devices trace t q w other other_to → w.brought ≡ Nothing → (us : List Call) → AreAlikeSoFar (answers_at_stop ending v) (pool_answers_to (sync_line pools devices trace t q w) ++ us) → CollidesIn trace at.cells
+      → DoesSync pools devices trace t q w other other_to → w.brought ≡ Nothing → (us : List Call) → AreAlikeSoFar (answers_at_stop ending v) (pool_answers_to (sync_line pools devices trace t q w) ++ us) → ⊥
   stops-first replies v w ending t q at to other other_to after like one some did none us rows =
       let back = alike-sym pools devices trace at other like in
-      let apart : CollidesIn trace other.cells = stops-second t q w v other other_to at to replies after back did ending one some none us (so-far-sym (answers_at_stop ending v) (pool_answers_to (sync_line pools devices trace t q w) ++ us) rows) in
-      collides-back trace at.cells other.cells like.cells apart
+      stops-second t q w v other other_to at to replies after back did ending one some none us (so-far-sym (answers_at_stop ending v) (pool_answers_to (sync_line pools devices trace t q w) ++ us) rows)

@@ -1,5 +1,6 @@
 -- The step of a line `txg` of two runs: both write the same blocks to the same places, and what stands behind the line is alike again; or one history led a cell to two states (spa_sync for a single thread).
 use Rattle.std.proofs.Common.{◌≡◌, ◌⊎◌, ◌+◌, ℕ, suc, List, [], ◌++◌, length, map, Option, sym, ap, ◌∙◌, subst, inl, inr}
+use Rattle.std.specs.List.{AllByRecursion}
 use Rattle.arc_core.specs.declared.config.Config.{Config}
 use Rattle.arc_core.specs.declared.event.Event.{Event}
 use Rattle.dbuf_cells.specs.Turns.{OnHeap}
@@ -20,18 +21,17 @@ use Rattle.trace_run.specs.dbufs.Objects.{Line, Nothing, Work}
 use Rattle.trace_run.specs.one_caller.Sequence.{BetweenLines, DoesSync}
 use Rattle.run_laws.specs.Alike.{AreAlike, AreDevicesAlike, feed_answers, left_behind}
 use Rattle.run_laws.proofs.Behind.{goes-cell, goes-shard}
-use Rattle.run_laws.proofs.PlainDues.{bytes-same, items-same, need-same, views_of}
+use Rattle.run_laws.proofs.PlainDues.{DueApart, IsEven, even-or-apart, items-same, need-same, sizes-same, views_of}
 use Rattle.run_laws.proofs.Steps.{PartsAt, StepAlike, replays}
-use Rattle.run_laws.proofs.SyncCells.{dirty-one, views-alike}
+use Rattle.run_laws.proofs.SyncCells.{CollidesIn, apart-collides, dirty-one, views-alike}
 
 -- the same blocks of the same bytes, from one place on
-pub items-one : (cells others : List OnHeap) (dues ends : List Due) (group other_group next other_next : ℕ) → views_of others ≡ views_of cells → ends ≡ dues → other_group ≡ group → other_next ≡ next
+pub items-one : (cells others : List OnHeap) (dues ends : List Due) (group other_group next other_next : ℕ) → AllByRecursion (IsEven cells others) dues → ends ≡ dues → other_group ≡ group → other_next ≡ next
     → items_from other_group other_next others ends ≡ items_from group next cells dues
-items-one cells others dues ends group other_group next other_next same listed groups places =
-    (λ i. items_from (groups i) (places i) others (listed i)) ∙ items-same cells others (bytes-same cells others same) group next dues
+items-one cells others dues ends group other_group next other_next even listed groups places = (λ i. items_from (groups i) (places i) others (listed i)) ∙ items-same cells others group next dues even
 
 pub need-one : (cells others : List OnHeap) (dues ends : List Due) → views_of others ≡ views_of cells → ends ≡ dues → need_of others ends ≡ need_of cells dues
-need-one cells others dues ends same listed = ap (need_of others) listed ∙ need-same cells others (bytes-same cells others same) dues
+need-one cells others dues ends same listed = ap (need_of others) listed ∙ need-same cells others (sizes-same cells others same) dues
 
 module _ {P D : Type 0} (pools : Ghosts P) (devices : Devices D) (trace : Trace) where
   abbrev g : Config
@@ -63,12 +63,20 @@ module _ {P D : Type 0} (pools : Ghosts P) (devices : Devices D) (trace : Trace)
     abbrev ys : List SyncItem
     ys = items_from other.outside.group other.outside.next others ends
 
-    module _ (same : views_of others ≡ views_of cells) where
-      listed : ends ≡ dues
-      listed = dirty-one cells others dues ends same did.synced.answer.dirty other_did.synced.answer.dirty
+    same : views_of others ≡ views_of cells
+    same = views-alike trace from.cells other.cells like.cells v w cells others xs ys did.synced.answer.turns other_did.synced.answer.turns
 
+    listed : ends ≡ dues
+    listed = dirty-one cells others dues ends same did.synced.answer.dirty other_did.synced.answer.dirty
+
+    -- a block of which they have other bytes is of a cell that has come to two states
+    sync-apart : DueApart cells others dues → CollidesIn trace from.cells v.noted w.noted
+    sync-apart = apart-collides trace from.cells other.cells like.cells v w cells others xs ys did.synced.answer.turns other_did.synced.answer.turns from.outside.group from.outside.next other.outside.group other.outside.next dues ends listed
+        did.synced.answer.turns.noted other_did.synced.answer.turns.noted
+
+    module _ (even : AllByRecursion (IsEven cells others) dues) where
       items : ys ≡ xs
-      items = items-one cells others dues ends from.outside.group other.outside.group from.outside.next other.outside.next same listed like.group like.next
+      items = items-one cells others dues ends from.outside.group other.outside.group from.outside.next other.outside.next even listed like.group like.next
 
       needs : need_of others ends ≡ need_of cells dues
       needs = need-one cells others dues ends same listed
@@ -109,9 +117,7 @@ module _ {P D : Type 0} (pools : Ghosts P) (devices : Devices D) (trace : Trace)
   sync-step t r q v w here there from to other other_to did other_did none other_none like =
       let one = did.1.synced.answer in
       let two = other_did.1.synced.answer in
-      let xs = items_from from.outside.group from.outside.next one.cells one.dues in
-      let ys = items_from other.outside.group other.outside.next two.cells two.dues in
-      elim (views-alike trace from.cells other.cells like.cells v w one.cells two.cells xs ys one.turns two.turns) [
+      elim (even-or-apart one.cells two.cells one.dues) [
         | inl same ↦
             let reply : q ≡ r = replied t r q v w from to other other_to did.1 other_did.1 like same in
             let notes : w.noted ≡ v.noted = noted t r q v w from to other other_to did.1 other_did.1 like same in
@@ -124,5 +130,7 @@ module _ {P D : Type 0} (pools : Ghosts P) (devices : Devices D) (trace : Trace)
               left = ap (λ (fs : List FeedDone). left_behind devices fs other_to.device) other_did.0 ∙ sym (ap (λ (fs : List FeedDone). left_behind devices fs to.device) did.0);
               many = ap (λ (fs : List FeedDone). length fs) (other_did.0 ∙ sym did.0);
             })
-        | inr apart ↦ inr (replays apart.i apart.in_range apart.bases apart.other_bases apart.state apart.other_state apart.leads apart.other_leads apart.collide)
+        | inr x ↦
+            let apart : CollidesIn trace from.cells v.noted w.noted = sync-apart t r q v w from to other other_to did.1 other_did.1 like x in
+            inr (replays apart.i apart.in_range apart.bases apart.other_bases apart.state apart.other_state apart.leads apart.other_leads apart.collide apart.writes)
       ]

@@ -9,12 +9,16 @@ use Rattle.arc_table.specs.Ended.{Ended}
 use Rattle.arc_table.specs.Geometry.{IsCell}
 use Rattle.dbuf_cells.specs.Places.{cell_of}
 use Rattle.dbuf_cells.specs.Turns.{OnHeap}
+use Rattle.dbuf_state.specs.Answers.{IsAnswer}
 use Rattle.dbuf_state.specs.Dbufs.{window_of}
 use Rattle.dbuf_state.specs.History.{Collide, Leads}
-use Rattle.dbuf_state.specs.Objects.{PlainCell, opening_cell}
+use Rattle.dbuf_state.specs.Objects.{Dirty, PlainCell, PlainDbuf, dbuf_at, opening_cell}
 use Rattle.dbuf_state.specs.Outline.{mapped_at}
 use Rattle.dbuf_state.specs.declared.event.CellEvent.{CellEvent}
+use Rattle.dbuf_state.specs.declared.event.CellEvent.TheVariants.{Synced as WasSynced}
+use Rattle.dbuf_state.specs.declared.oid.Oid.{Oid}
 use Rattle.dbuf_state.specs.declared.state.Mapped.TheVariants.{Clean}
+use Rattle.dbuf_state.specs.declared.window.Window.{Window}
 use Rattle.l2_dev.specs.Cursor.{CursorState}
 use Rattle.l2_dev.specs.declared.report.FeedStop.TheVariants as stop
 use Rattle.l2_feed.specs.Alike.{AreCursorsAlike, PicksTwo, has_failed}
@@ -34,7 +38,7 @@ use Rattle.trace_run.specs.declared.ran.Ending.{Ending}
 use Rattle.trace_run.specs.declared.ran.Ending.TheVariants.{Fork, Full, Sync, Whole}
 use Rattle.trace_run.specs.declared.status.Status.{Status}
 use Rattle.trace_run.specs.Bounded.{device_len, with_bound}
-use Rattle.trace_run.specs.Deeds.{events_of_cell}
+use Rattle.trace_run.specs.Deeds.{Noted, events_of_cell}
 use Rattle.trace_run.specs.Devices.{usable}
 use Rattle.trace_run.specs.Effects.{calls_of, effect_of}
 use Rattle.trace_run.specs.FeedSeries.{GoOn}
@@ -230,8 +234,53 @@ pub record ShowsTwo (trace : Trace) (lines others : List Line) : Type 0 where
   pub contents : TwoContents ptr
   pub shown : ShowsBoth trace (front_at lines place) line.op ptr contents.one contents.other line.reply other.reply
 
--- A cell has come by one history, that of the lines before a place, to two states: patches of clean blocks began from two contents of one digest.
-pub record ReplaysTwo (trace : Trace) (lines others : List Line) : Type 0 where
+-- the reply to a get of this window is made of the block that this state has of the Oid
+abbrev pub GotFrom : PlainCell → Oid → Window → Reply → Type 0
+GotFrom state at window reply = (size : ℕ) × (shown : List ℕ) × (reply ≡ replies.Got size shown) × IsAnswer state at window size shown
+
+-- These dirty bytes of the Oid, which this state of the cell has, were written: it is noted at this place that its block is at a pointer of theirs.
+pub record WroteFrom (i : ℕ) (state : PlainCell) (at : Oid) (bytes : List ℕ) (noted : List Noted) (k : ℕ) : Type 0 where
+  pub dbuf : PlainDbuf
+  pub there : dbuf_at at state ≡ Some dbuf
+  pub dirty : dbuf.block ≡ Dirty bytes
+  pub n : ℕ
+  pub ptr : Ptr
+  pub of : IsOf bytes ptr
+  pub note : slice_get noted k ≡ Some (record { cell = i; event = WasSynced n at ptr })
+
+-- of one Oid two syncs wrote bytes that differ, which two states of its cell have
+pub record WritesTwo (i : ℕ) (state other_state : PlainCell) (noted other_noted : List Noted) : Type 0 where
+  pub at : Oid
+  pub k : ℕ
+  pub bytes : List ℕ
+  pub others : List ℕ
+  pub differ : others ≢ bytes
+  pub wrote : WroteFrom i state at bytes noted k
+  pub other_wrote : WroteFrom i other_state at others other_noted k
+
+-- What two runs make of two states of a cell at a line: a get of an Oid of the cell is answered by them, and not the same; or a sync wrote by them bytes that differ.
+abbrev pub SeesBoth : Trace → (i : ℕ) → (state other_state : PlainCell) → Op → (reply other_reply : Reply) → (noted other_noted : List Noted) → Type 0
+SeesBoth trace i state other_state (ops.Get n t at window) reply other_reply noted other_noted =
+    (i ≡ cell_of trace.config.cells at) × GotFrom state at window reply × GotFrom other_state at window other_reply × (other_reply ≢ reply)
+SeesBoth trace i state other_state (ops.Txg t) reply other_reply noted other_noted = WritesTwo i state other_state noted other_noted
+SeesBoth trace i state other_state (ops.Read n t x window) reply other_reply noted other_noted = ⊥
+SeesBoth trace i state other_state (ops.Hold n t x) reply other_reply noted other_noted = ⊥
+SeesBoth trace i state other_state (ops.Drop n x) reply other_reply noted other_noted = ⊥
+SeesBoth trace i state other_state (ops.Put n t at size fill) reply other_reply noted other_noted = ⊥
+SeesBoth trace i state other_state (ops.Patch n t at start patched) reply other_reply noted other_noted = ⊥
+SeesBoth trace i state other_state (ops.Pin n t at) reply other_reply noted other_noted = ⊥
+SeesBoth trace i state other_state (ops.Unpin n at) reply other_reply noted other_noted = ⊥
+SeesBoth trace i state other_state ops.Feed reply other_reply noted other_noted = ⊥
+SeesBoth trace i state other_state (ops.Cap c) reply other_reply noted other_noted = ⊥
+
+-- It is a line of both, or the sync behind all lines of both that stopped since a write failed.
+pub data SeenAt (trace : Trace) (lines others : List Line) (stopped other_stopped : Work) (place i : ℕ) (state other_state : PlainCell) : Type 0 where
+  at_line : (line other : Line) → slice_get lines place ≡ Some line → slice_get others place ≡ Some other → other.op ≡ line.op
+      → SeesBoth trace i state other_state line.op line.reply other.reply line.work.noted other.work.noted → SeenAt trace lines others stopped other_stopped place i state other_state
+  at_stop : place ≡ length lines → place ≡ length others → WritesTwo i state other_state stopped.noted other_stopped.noted → SeenAt trace lines others stopped other_stopped place i state other_state
+
+-- A cell has come by one history, that of the lines before a place, to two states: patches of clean blocks began from two contents of one digest. At that place the runs make of these states what differs.
+pub record ReplaysTwo (trace : Trace) (lines others : List Line) (stopped other_stopped : Work) : Type 0 where
   pub place : ℕ
   pub before : SameUpTo trace lines others place
   pub i : ℕ
@@ -243,6 +292,7 @@ pub record ReplaysTwo (trace : Trace) (lines others : List Line) : Type 0 where
   pub leads : Leads (opening_cell trace.config.dbuf_bytes (opening_map trace i)) (front_at lines place i) bases state
   pub other_leads : Leads (opening_cell trace.config.dbuf_bytes (opening_map trace i)) (front_at lines place i) other_bases other_state
   pub collide : Collide bases other_bases
+  pub seen : SeenAt trace lines others stopped other_stopped place i state other_state
 
 -- Of one shard one feed picked the same keys in both, each with the same digest, and other bytes.
 pub record FeedsPickTwo (feeds others : List FeedDone) : Type 0 where
@@ -344,7 +394,7 @@ module _ {P D : Type 0} (pools : Ghosts P) (devices : Devices D) (trace : Trace)
   -- At a line before which both came to the same, two contents of one digest are in hand, which a reply shows, a patch began from or a feed picked; or a feed wanted memory there. Or a line on an object was read past the cache.
   pub data MayPart : Type 0 where
     shows : ShowsTwo trace one.run.work.lines other.run.work.lines → MayPart
-    replays : ReplaysTwo trace one.run.work.lines other.run.work.lines → MayPart
+    replays : ReplaysTwo trace one.run.work.lines other.run.work.lines one.run.work.stopped other.run.work.stopped → MayPart
     picks : PicksThere → MayPart
     memory : WantsMemoryThere → MayPart
     past : ReadsPast one.run.work.lines ⊎ ReadsPast other.run.work.lines → MayPart
