@@ -27,8 +27,7 @@ shows-front : (trace : Trace) (valid : IsConfig trace.config) (cells front : ℕ
     → ShowsBoth trace cells op ptr bytes others reply other → ShowsBoth trace front op ptr bytes others reply other
 shows-front trace valid cells front are (ops.Read n t x window) ptr bytes others reply other shown = shown
 shows-front trace valid cells front are (ops.Get n t at window) ptr bytes others reply other shown =
-    let i : ℕ = cell_of trace.config.cells at in
-    (
+    let i : ℕ = cell_of trace.config.cells at in (
       subst (λ (es : List CellEvent). mapped_at at (outline_after trace.config.dbuf_bytes (opening_map trace i) es) ≡ Some (Clean ptr)) (are i (cell-there trace.config valid at)) shown.0,
       shown.1,
       shown.2,
