@@ -10,7 +10,6 @@ pub mod EndedOrder
 pub mod Facts
 pub mod FeedRows
 pub mod FeedStep
-pub mod FirstPlaceOne
 pub mod FreshKeys
 pub mod GivenUp
 pub mod GotAlike

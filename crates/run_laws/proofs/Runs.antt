@@ -1,7 +1,8 @@
 -- Two runs of one caller as the law names them: how a report of `run` gives one, that they begin alike, and what all their lines come to.
-use Rattle.std.proofs.Common.{◌≡◌, ℕ, zero, suc, true, false, List, [], ◌∷◌, length, take, Option, None, Some, refl, sym, ap, ◌∙◌, subst, append-nil}
+use Rattle.std.proofs.Common.{◌≡◌, ◌≤◌, ℕ, zero, suc, true, false, List, [], ◌∷◌, length, take, Option, None, Some, refl, sym, ap, ◌∙◌, subst, inl, inr, arith, append-nil}
 use Rattle.std.specs.List.{AllByRecursion}
 use Rattle.std.proofs.lemmas.List.{length-map}
+use Rattle.blk_ptr.specs.declared.ptr.Ptr.{Ptr}
 use Rattle.arc_core.specs.declared.config.Config.{Config}
 use Rattle.arc_core.specs.declared.event.Event.{Event}
 use Rattle.arc_table.specs.Ended.{Ended}
@@ -37,9 +38,20 @@ use Rattle.trace_run.proofs.theorem.LineAnswers.{lines-ops, lines-replies}
 use Rattle.run_laws.specs.Alike.{AreAlike, AreAlikeSoFar, AreFirstAlike, BeginAlike, FailAlike, GoOnFrom, OneRun, ReportsAreRuns, answers_at_stop, begun}
 use Rattle.run_laws.proofs.BoundedTrace.{formed-bound}
 use Rattle.run_laws.proofs.Facts.{OfEachLine}
-use Rattle.run_laws.proofs.FirstPlaceOne.{place-one}
 use Rattle.run_laws.proofs.LinesAlike.{BothGo, ComeTo, Kind, StepsAlike, lines-alike}
 use Rattle.run_laws.proofs.Rows.{so-far-front}
+
+-- ---- the place of the first sync: the greatest end of the declared blocks that a pool of this length has (spa_sync's first allocation)
+
+-- neither place is behind the other
+place-least : (len : ℕ) (blocks : List Ptr) (a b : ℕ) → IsFirstPlace len blocks a → IsFirstPlace len blocks b → a ≤ b
+place-least len blocks a b first other = elim first.least [
+  | inl none ↦ omega (arith, none)
+  | inr end ↦ (let behind = other.behind end.0 end.1 end.2 end.3 in let is = end.4 in omega (arith, behind, is))
+]
+
+place-one : (len : ℕ) (blocks : List Ptr) (a b : ℕ) → IsFirstPlace len blocks a → IsFirstPlace len blocks b → b ≡ a
+place-one len blocks a b first other = let up = place-least len blocks a b first other in let down = place-least len blocks b a other first in omega (arith, up, down)
 
 -- ---- a run that came to a report
 
