@@ -109,26 +109,6 @@ module _ (o : Outline) (at : Oid) (window : Window) (size z : ℕ) (xs ys : List
         })
   ]
 
-  -- of any
-  block-got : (block : Block) (bytes others : List ℕ) → mapped_at at o ≡ Some (mapped_in block) → AreBytesOf bytes block → AreBytesOf others block → size ≡ length bytes → z ≡ length others
-      → xs ≡ window_of window bytes → ys ≡ window_of window others → GotSo
-  block-got (Uncached ptr) bytes others there one other sized other_sized shown other_shown = clean-got ptr bytes others there one other sized other_sized shown other_shown
-  block-got (Cached ptr) bytes others there one other sized other_sized shown other_shown = clean-got ptr bytes others there one other sized other_sized shown other_shown
-  block-got (Dirty written) bytes others there one other sized other_sized shown other_shown =
-      let same : others ≡ bytes = sym other ∙ one in
-      let long : z ≡ size = other_sized ∙ (ap length same ∙ sym sized) in
-      let equal : ys ≡ xs = other_shown ∙ (ap (window_of window) same ∙ sym shown) in
-      inl (λ h. Got (long h) (equal h))
-
-  -- at one cell of this outline
-  cell-got : (c : PlainCell) → outline_of c ≡ o → IsAnswer c at window size xs → IsAnswer c at window z ys → GotSo
-  cell-got c is one other = go (plain.dbuf_at at c) refl one.of other.of
-    where
-      go : (there : Option PlainDbuf) → plain.dbuf_at at c ≡ there → AreBytesAt one.bytes there → AreBytesAt other.bytes there → GotSo
-      go None found h k = absurd h
-      go (Some d) found h k =
-          block-got d.block one.bytes other.bytes (ap (mapped_at at) (sym is) ∙ mapped-plain c at d found) h k one.sized other.sized one.window other.window
-
   -- ---- at two cells of this outline
 
   ptr-same : (ptr p : Ptr) → mapped_at at o ≡ Some (mapped.Clean ptr) → mapped_at at o ≡ Some (mapped.Clean p) → ptr ≡ p
@@ -176,20 +156,27 @@ module _ (o : Outline) (at : Oid) (window : Window) (size z : ℕ) (xs ys : List
         go (Some x) (Some y) found elsewhere h k =
             blocks-got x y found elsewhere x.block y.block refl refl (ap (mapped_at at) (sym is) ∙ mapped-plain c at x found) (ap (mapped_at at) (sym its) ∙ mapped-plain d at y elsewhere) h k
 
+-- of one state a get shows one list of dirty bytes
+got-one : (c : PlainCell) (at : Oid) (window : Window) (r q : Reply) → GotDirty c at window r → GotDirty c at window q → q ≡ r
+got-one c at window r q one other =
+    let there : ◌≡◌ {A = Option PlainDbuf} (Some other.dbuf) (Some one.dbuf) = sym other.there ∙ one.there in
+    let dbuf : other.dbuf ≡ one.dbuf = cc in
+    let block : Dirty other.bytes ≡ Dirty one.bytes = sym other.dirty ∙ (ap (λ (d : PlainDbuf). d.block) dbuf ∙ one.dirty) in
+    let bytes : other.bytes ≡ one.bytes = cc in
+    other.got ∙ ((λ i. Got (length (bytes i)) (window_of window (bytes i))) ∙ sym one.got)
+
 -- behind the same events
 pub answers-got : (limit : ℕ) (opening : List Mapping) (front : List CellEvent) (at : Oid) (window : Window) (size z : ℕ) (xs ys : List ℕ) → IsAnswerAfter limit opening front at window size xs
     → IsAnswerAfter limit opening front at window z ys
     → ((Got z ys ≡ Got size xs) ⊎ GotTwo (outline_after limit opening front) at window (Got size xs) (Got z ys)) ⊎ GotReplays limit opening front at window (Got size xs) (Got z ys)
 answers-got limit opening front at window size z xs ys one other =
-    let told = outline-is-told limit opening front one.bases one.cell one.legal in
-    elim (cells-got (outline_after limit opening front) at window size z xs ys one.cell other.cell one.answer other.answer told (outline-is-told limit opening front other.bases other.cell other.legal)) [
+    elim (cells-got (outline_after limit opening front) at window size z xs ys one.cell other.cell one.answer other.answer (outline-is-told limit opening front one.bases one.cell one.legal)
+    (outline-is-told limit opening front other.bases other.cell other.legal)) [
       | inl so ↦ inl so
       | inr dirty ↦ (elim (got-or-apart size z xs ys) [
         | inl equal ↦ inl (inl equal)
         | inr differ ↦ (elim (ends-alike (opening_cell limit opening) front one.bases other.bases one.cell other.cell one.legal other.legal) [
-          | inl same ↦
-              let there : IsAnswer one.cell at window z ys = subst (λ (c : PlainCell). IsAnswer c at window z ys) (sym same.1) other.answer in
-              inl (cell-got (outline_after limit opening front) at window size z xs ys one.cell told one.answer there)
+          | inl same ↦ absurd (differ (got-one one.cell at window (Got size xs) (Got z ys) dirty.0 (subst (λ (c : PlainCell). GotDirty c at window (Got z ys)) (sym same.1) dirty.1)))
           | inr collide ↦ inr (record {
             bases = one.bases;
             other_bases = other.bases;
