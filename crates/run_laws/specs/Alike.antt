@@ -9,7 +9,6 @@ use Rattle.arc_table.specs.Ended.{Ended}
 use Rattle.arc_table.specs.Geometry.{IsCell}
 use Rattle.dbuf_cells.specs.Places.{cell_of}
 use Rattle.dbuf_cells.specs.Turns.{OnHeap}
-use Rattle.dbuf_state.specs.Answers.{IsAnswer}
 use Rattle.dbuf_state.specs.Dbufs.{window_of}
 use Rattle.dbuf_state.specs.History.{Collide, Leads}
 use Rattle.dbuf_state.specs.Objects.{Dirty, PlainCell, PlainDbuf, dbuf_at, opening_cell}
@@ -234,9 +233,13 @@ pub record ShowsTwo (trace : Trace) (lines others : List Line) : Type 0 where
   pub contents : TwoContents ptr
   pub shown : ShowsBoth trace (front_at lines place) line.op ptr contents.one contents.other line.reply other.reply
 
--- the reply to a get of this window is made of the block that this state has of the Oid
-abbrev pub GotFrom : PlainCell → Oid → Window → Reply → Type 0
-GotFrom state at window reply = (size : ℕ) × (shown : List ℕ) × (reply ≡ replies.Got size shown) × IsAnswer state at window size shown
+-- the reply to a get of this window shows the dirty bytes that this state has of the Oid
+pub record GotDirty (state : PlainCell) (at : Oid) (window : Window) (reply : Reply) : Type 0 where
+  pub dbuf : PlainDbuf
+  pub there : dbuf_at at state ≡ Some dbuf
+  pub bytes : List ℕ
+  pub dirty : dbuf.block ≡ Dirty bytes
+  pub got : reply ≡ replies.Got (length bytes) (window_of window bytes)
 
 -- These dirty bytes of the Oid, which this state of the cell has, were written: it is noted at this place that its block is at a pointer of theirs.
 pub record WroteFrom (i : ℕ) (state : PlainCell) (at : Oid) (bytes : List ℕ) (noted : List Noted) (k : ℕ) : Type 0 where
@@ -258,10 +261,10 @@ pub record WritesTwo (i : ℕ) (state other_state : PlainCell) (noted other_note
   pub wrote : WroteFrom i state at bytes noted k
   pub other_wrote : WroteFrom i other_state at others other_noted k
 
--- What two runs make of two states of a cell at a line: a get of an Oid of the cell is answered by them, and not the same; or a sync wrote by them bytes that differ.
+-- What two runs make of two states of a cell at a line: a get shows their dirty bytes of an Oid, and not the same; or a sync wrote by them bytes that differ.
 abbrev pub SeesBoth : Trace → (i : ℕ) → (state other_state : PlainCell) → Op → (reply other_reply : Reply) → (noted other_noted : List Noted) → Type 0
 SeesBoth trace i state other_state (ops.Get n t at window) reply other_reply noted other_noted =
-    (i ≡ cell_of trace.config.cells at) × GotFrom state at window reply × GotFrom other_state at window other_reply × (other_reply ≢ reply)
+    (i ≡ cell_of trace.config.cells at) × GotDirty state at window reply × GotDirty other_state at window other_reply × (other_reply ≢ reply)
 SeesBoth trace i state other_state (ops.Txg t) reply other_reply noted other_noted = WritesTwo i state other_state noted other_noted
 SeesBoth trace i state other_state (ops.Read n t x window) reply other_reply noted other_noted = ⊥
 SeesBoth trace i state other_state (ops.Hold n t x) reply other_reply noted other_noted = ⊥
