@@ -1,0 +1,275 @@
+-- Two runs of one trace by one caller come to the same, or they may part: all lines, the sync that stopped, and the close.
+use Rattle.std.proofs.Common.{◌≡◌, ℕ, zero, suc, List, [], ◌∷◌, ◌++◌, length, Option, None, Some, refl, sym, ap, ◌∙◌, subst, inl, inr, arith, append-nil}
+use Rattle.std.specs.Prelude.{◌⊎◌, slice_get}
+use Rattle.std.proofs.lemmas.Option.{slice_get_within}
+use Rattle.blk_ptr.specs.declared.ptr.Ptr.{Ptr}
+use Rattle.arc_core.specs.declared.served.Served.{Served}
+use Rattle.arc_core.specs.declared.served.Served.TheVariants as served
+use Rattle.arc_table.specs.Fronts.{StartsWith}
+use Rattle.arc_table.specs.Geometry.{IsCell}
+use Rattle.dbuf_cells.specs.Turns.{OnHeap}
+use Rattle.dbuf_state.specs.declared.event.CellEvent.{CellEvent}
+use Rattle.vdev_io.specs.Calls.{Call}
+use Rattle.vdev_io.specs.declared.device.CacheDev.{Ghosts as Devices}
+use Rattle.vdev_io.specs.declared.pool.Pool.{Ghosts}
+use Rattle.trace_text.specs.Grammar.{IsFormed}
+use Rattle.trace_text.specs.declared.op.Op.{Op}
+use Rattle.trace_text.specs.declared.op.Op.TheVariants as ops
+use Rattle.trace_text.specs.declared.reply.Reply.{Reply}
+use Rattle.trace_text.specs.declared.trace.Trace.{Trace}
+use Rattle.mini.specs.decl_trace_run_ran_Ending.{Ending}
+use Rattle.mini.specs.decl_trace_run_ran_Ending.{Fork, Full, Sync, Whole}
+use Rattle.mini.specs.trace_run_specs_Lines.{caller_of}
+use Rattle.mini.specs.trace_run_specs_RunWork.{FitsBy, IsSyncWork}
+use Rattle.mini.specs.trace_run_specs_callers_Together.{StopsAtSync}
+use Rattle.mini.specs.trace_run_specs_callers_WorkLines.{IsWorkOf}
+use Rattle.mini.specs.trace_run_specs_dbufs_Objects.{Brought, Line, Loaded, Nothing, Refused, ops_of}
+use Rattle.mini.specs.trace_run_specs_one_caller_Sequence.{BetweenLines, DoesAnyLine, DoesSync, EndsThere}
+use Rattle.mini.specs.trace_run_proofs_callers_GroupLists.{some-same}
+use Rattle.mini.specs.run_laws_specs_Alike.{AreAlikeSoFar, BeginAlike, ComeToTheSame, FailAlike, MayPart, OneRun, ReadsPast, answers_at_stop, begun, past as may_past, pool_answers_to}
+use Rattle.mini.proofs.Closing.{EndAlike, close-alike, closed-same}
+use Rattle.mini.proofs.Facts.{AreCachedValid, AreSettled, GivesUpAll, OfEachLine}
+use Rattle.mini.proofs.LinesAlike.{Caps, ComeTo, Feeds, GoesFurther, Kind, Objects, Reads, StepsAlike, Syncs, Together, kind_of, one_further, other_further, parted, together}
+use Rattle.mini.proofs.Parting.{BothHad, parts-may, replays-part}
+use Rattle.mini.proofs.Runs.{its-replies, many-replies, ops-front, runs-come, whole-lines}
+use Rattle.mini.proofs.ShardsLegal.{AreLegalShards}
+use Rattle.mini.proofs.StepKinds.{caps-steps, feeds-steps, reads-steps, unfed-cursors}
+use Rattle.mini.proofs.StopStep.{StopAlike, stop-step, stops-first}
+use Rattle.mini.proofs.SyncCells.{CollidesIn}
+use Rattle.mini.proofs.SyncStep.{sync-step}
+
+-- ---- reads past the cache
+
+-- the line read its block past the cache
+abbrev IsPast : Line → Type 0
+IsPast l = (ptr : Ptr) × (l.work.brought ≡ Loaded ptr served.Past)
+
+served-past : (ptr : Ptr) (from : Served) → ((q : Ptr) × (Loaded ptr from ≡ Loaded q served.Past)) ⊎ (((q : Ptr) × (Loaded ptr from ≡ Loaded q served.Past)) → ⊥)
+served-past ptr served.Past = inl (ptr, refl)
+served-past ptr served.Hit = inr (λ is. let same : Loaded ptr served.Hit ≡ Loaded is.0 served.Past = is.1 in cc)
+served-past ptr served.Pool = inr (λ is. let same : Loaded ptr served.Pool ≡ Loaded is.0 served.Past = is.1 in cc)
+served-past ptr served.L2 = inr (λ is. let same : Loaded ptr served.L2 ≡ Loaded is.0 served.Past = is.1 in cc)
+
+brought-past : (brought : Brought) → ((q : Ptr) × (brought ≡ Loaded q served.Past)) ⊎ (((q : Ptr) × (brought ≡ Loaded q served.Past)) → ⊥)
+brought-past (Loaded ptr from) = served-past ptr from
+brought-past Nothing = inr (λ is. let same : Nothing ≡ Loaded is.0 served.Past = is.1 in cc)
+brought-past (Refused ptr) = inr (λ is. let same : Refused ptr ≡ Loaded is.0 served.Past = is.1 in cc)
+
+past-behind : (l : Line) (ls : List Line) → ReadsPast ls → ReadsPast (l ∷ ls)
+past-behind l ls p = record { place = suc p.place; line = p.line; at = p.at; ptr = p.ptr; past = p.past }
+
+-- behind a line that did not, one of those behind it did
+past-further : (l : Line) (ls : List Line) → (IsPast l → ⊥) → ReadsPast (l ∷ ls) → ReadsPast ls
+past-further l ls none p = go p.place p.at
+  where
+    go : (k : ℕ) → slice_get (l ∷ ls) k ≡ Some p.line → ReadsPast ls
+    go zero at = let same : l ≡ p.line = some-same l p.line at in absurd (none (p.ptr, ap (λ (x : Line). x.work.brought) same ∙ p.past))
+    go (suc k) at = record { place = k; line = p.line; at = at; ptr = p.ptr; past = p.past }
+
+-- some line did, or none
+past-or-none : (ls : List Line) → ReadsPast ls ⊎ (ReadsPast ls → ⊥)
+past-or-none [] = inr (λ p. let clash : ◌≡◌ {A = Option Line} None (Some p.line) = p.at in cc)
+past-or-none (l ∷ ls) = elim (brought-past l.work.brought) [
+  | inl here ↦ inl (record { place = 0; line = l; at = refl; ptr = here.0; past = here.1 })
+  | inr none ↦ (elim (past-or-none ls) [
+    | inl more ↦ inl (past-behind l ls more)
+    | inr never ↦ inr (λ p. never (past-further l ls none p))
+  ])
+]
+
+-- ---- places of lines
+
+get-op : (ls : List Line) (k : ℕ) (l : Line) → slice_get ls k ≡ Some l → slice_get (ops_of ls) k ≡ Some l.op
+get-op [] k l at = absurd (let clash : ◌≡◌ {A = Option Line} None (Some l) = at in cc)
+get-op (x ∷ ls) zero l at = ap (λ (y : Line). Some y.op) (some-same x l at)
+get-op (x ∷ ls) (suc k) l at = get-op ls k l at
+
+get-front : (xs ys : List Op) (k : ℕ) (x : Op) → slice_get xs k ≡ Some x → slice_get (xs ++ ys) k ≡ Some x
+get-front [] ys k x at = absurd (let clash : ◌≡◌ {A = Option Op} None (Some x) = at in cc)
+get-front (y ∷ xs) ys zero x at = at
+get-front (y ∷ xs) ys (suc k) x at = get-front xs ys k x at
+
+abbrev IsSyncLine : Op → Type 0
+IsSyncLine (ops.Txg t) = Unit {0}
+IsSyncLine (ops.Read n t x window) = ⊥
+IsSyncLine (ops.Hold n t x) = ⊥
+IsSyncLine (ops.Drop n x) = ⊥
+IsSyncLine (ops.Get n t at window) = ⊥
+IsSyncLine (ops.Put n t at size fill) = ⊥
+IsSyncLine (ops.Patch n t at start bytes) = ⊥
+IsSyncLine (ops.Pin n t at) = ⊥
+IsSyncLine (ops.Unpin n at) = ⊥
+IsSyncLine ops.Feed = ⊥
+IsSyncLine (ops.Cap c) = ⊥
+
+module _ {P D : Type 0} (pools : Ghosts P) (devices : Devices D) (trace : Trace) where
+  -- What is known of a line of one run by itself: its work fits it; no eviction is left over before it and behind it; each block that is cached has a valid key; for each that the line lets go it gives up a hold; and what was done to each
+  -- shard by then was legal.
+  pub record IsKnown (l : Line) (from to : BetweenLines P D) : Type 0 where
+    pub fits : FitsBy trace.config (caller_of l.op) l
+    pub settled : AreSettled trace from.cells
+    pub then_settled : AreSettled trace to.cells
+    pub valid : AreCachedValid trace (pools.size from.outside.pool) from.cells
+    pub gives_up : GivesUpAll trace l from.cells
+    pub own : (n : ℕ) → caller_of l.op ≡ Some n → IsWorkOf trace.config 0 l
+    pub legal : AreLegalShards trace to.shards
+
+  -- so it is of each line of a run
+  abbrev pub AllKnown : OneRun pools devices trace → Type 0
+  AllKnown run = OfEachLine pools devices trace IsKnown run.run.work.lines run.run.work.feeds (begun pools devices trace run) run.in_turn.reached run.in_turn.lines
+
+  -- ---- what others show
+
+  -- what cells give back as they end is one
+  abbrev pub DropsAlike : Type 0
+  DropsAlike = (one other : OneRun pools devices trace) (image : List ℕ) → pools.told one.before ≡ Some image → pools.told other.before ≡ Some image → (ReadsPast one.run.work.lines → ⊥) → (ReadsPast other.run.work.lines → ⊥)
+      → ((i : ℕ) (cell there : OnHeap) → slice_get one.closed.cells i ≡ Some cell → slice_get other.closed.cells i ≡ Some there → there.value.history ≡ cell.value.history) → other.run.work.ended ≡ one.run.work.ended
+
+  -- the step of lines on objects, what is known of each run by itself, and the order of the drops at the close
+  pub record IsShown : Type 0 where
+    pub objects : StepsAlike pools devices trace IsKnown Objects
+    pub known : (run : OneRun pools devices trace) (image : List ℕ) → pools.told run.before ≡ Some image → (ReadsPast run.run.work.lines → ⊥) → AllKnown run
+    pub drops : DropsAlike
+
+module _ {P D : Type 0} (pools : Ghosts P) (devices : Devices D) (pool_len : (p : P) (bytes : List ℕ) → pools.told p ≡ Some bytes → length bytes ≡ pools.size p) (trace : Trace) where
+  -- ---- a sync is a step
+
+  sync-line : (op : Op) → kind_of op ≡ Syncs → IsSyncLine op
+  sync-line (ops.Txg t) is = tt
+  sync-line (ops.Read n t x window) is = let clash : Reads ≡ Syncs = is in cc
+  sync-line (ops.Hold n t x) is = let clash : Reads ≡ Syncs = is in cc
+  sync-line (ops.Drop n x) is = let clash : Reads ≡ Syncs = is in cc
+  sync-line (ops.Get n t at window) is = let clash : Objects ≡ Syncs = is in cc
+  sync-line (ops.Put n t at size fill) is = let clash : Objects ≡ Syncs = is in cc
+  sync-line (ops.Patch n t at start bytes) is = let clash : Objects ≡ Syncs = is in cc
+  sync-line (ops.Pin n t at) is = let clash : Objects ≡ Syncs = is in cc
+  sync-line (ops.Unpin n at) is = let clash : Objects ≡ Syncs = is in cc
+  sync-line ops.Feed is = let clash : Feeds ≡ Syncs = is in cc
+  sync-line (ops.Cap c) is = let clash : Caps ≡ Syncs = is in cc
+
+  syncs-steps : StepsAlike pools devices trace (IsKnown pools devices trace) Syncs
+  syncs-steps (ops.Txg t) is r q v w here there from to other other_to did other_did a b c d both =
+      elim (sync-step pools devices trace t r q v w here there from to other other_to did other_did both.holds.fits.brought both.other_holds.fits.brought both.alike) [
+        | inl step ↦ inl (step, unfed-cursors here there a b c d did.0 other_did.0 both.feeds both.other_feeds both.cursors)
+        | inr parts ↦ inr parts
+      ]
+  syncs-steps op is r q v w here there from to other other_to did other_did a b c d both = absurd (sync-line op is)
+
+  -- ---- one run goes on where the other stopped
+
+  module _ (run more : OneRun pools devices trace) (vs : List Call)
+      (g : GoesFurther pools devices trace (IsKnown pools devices trace) run.run.work.lines more.run.work.lines run.in_turn.reached more.in_turn.reached (answers_at_stop run.ending run.run.work.stopped) vs) where
+    -- the line behind the last one of the run is the trace's
+    op-there : slice_get trace.ops (length run.run.work.lines) ≡ Some g.line.op
+    op-there =
+        let front = ops-front pools devices trace more in
+        ap (λ (os : List Op). slice_get os (length run.run.work.lines)) front.1 ∙ get-front (ops_of more.run.work.lines) front.0 (length run.run.work.lines) g.line.op (get-op more.run.work.lines (length run.run.work.lines) g.line g.at)
+
+    not-whole : run.ending ≡ Whole → ⊥
+    not-whole whole =
+        let many = whole-lines pools devices trace run whole in
+        let within = slice_get_within trace.ops (length run.run.work.lines) g.line.op op-there in
+        omega (arith, many, within)
+
+    module _ (t : ℕ) (at : slice_get trace.ops (length run.report.replies) ≡ Some (ops.Txg t)) where
+      is-sync : g.line.op ≡ ops.Txg t
+      is-sync = some-same g.line.op (ops.Txg t) (sym op-there ∙ (sym (ap (λ (k : ℕ). slice_get trace.ops k) (many-replies pools devices trace run)) ∙ at))
+
+      abbrev with_op : Op → Line
+      with_op op = record { op = op; reply = g.line.reply; work = g.line.work }
+
+      further-stops : (run.ending ≡ Whole → ⊥) → CollidesIn trace run.in_turn.reached.cells
+      further-stops stopped =
+          let does : (g.here ≡ []) × DoesSync pools devices trace t g.line.reply g.line.work g.from g.next = subst (λ (o : Op). DoesAnyLine pools devices trace (caller_of o) (with_op o) g.here g.from g.next) is-sync g.does in
+          let fits : IsSyncWork trace.config g.line.work = subst (λ (o : Op). FitsBy trace.config (caller_of o) (with_op o)) is-sync g.holds.fits in
+          let rows : AreAlikeSoFar (answers_at_stop run.ending run.run.work.stopped) (pool_answers_to (with_op (ops.Txg t)) ++ g.rest) = subst (λ (o : Op). AreAlikeSoFar (answers_at_stop run.ending run.run.work.stopped) (pool_answers_to (with_op o) ++ g.rest)) is-sync g.pool in
+          stops-first pools devices pool_len trace run.report.replies run.run.work.stopped g.line.work run.ending t g.line.reply run.in_turn.reached run.in_turn.last_line g.from g.next run.after g.then run.in_turn.ended stopped does.1 fits.brought g.rest rows
+
+    further-ends : (ending : Ending) → (ending ≡ Whole → ⊥) → EndsThere pools devices trace run.report.replies run.run.work.stopped ending run.in_turn.reached run.after run.in_turn.last_line → StopsAtSync trace run.report.replies
+    further-ends Whole not ends = absurd (not refl)
+    further-ends Fork not ends = absurd ends
+    further-ends Sync not ends = ends.stops.behind
+    further-ends (Full need left) not ends = ends.stops.behind
+
+    further-part : CollidesIn trace run.in_turn.reached.cells
+    further-part = let stop = further-ends run.ending not-whole run.in_turn.ended in further-stops stop.tick stop.at not-whole
+
+    -- its cells had come to the same
+    further-had : (i : ℕ) → IsCell trace.config i → StartsWith (more.in_turn.reached.cells i) (run.in_turn.reached.cells i)
+    further-had i is_cell = subst (StartsWith (more.in_turn.reached.cells i)) (g.then.cells i is_cell) (g.begins i is_cell)
+
+  -- a cell that has come to two states by one history
+  collides-part : (one other : OneRun pools devices trace) (cells : ℕ → List CellEvent) → BothHad pools devices trace one other cells → CollidesIn trace cells → MayPart pools devices trace one other
+  collides-part one other cells had x = replays-part pools devices trace one other cells had x.i x.in_range x.bases x.other_bases x.state x.other_state x.leads x.other_leads x.collide
+
+  -- ---- the law
+
+  module _ (formed : IsFormed trace) (shown : IsShown pools devices trace) where
+    known-steps : (kind : Kind) → StepsAlike pools devices trace (IsKnown pools devices trace) kind
+    known-steps Reads = reads-steps pools devices pool_len trace (IsKnown pools devices trace)
+    known-steps Objects = shown.objects
+    known-steps Feeds = feeds-steps pools devices pool_len trace (IsKnown pools devices trace) (λ l from to known. known.fits)
+    known-steps Syncs = syncs-steps
+    known-steps Caps = caps-steps pools devices pool_len trace (IsKnown pools devices trace) (λ l from to known. known.fits)
+
+    module _ (one other : OneRun pools devices trace) (begin : BeginAlike pools devices trace one other) (none : ReadsPast one.run.work.lines → ⊥) (other_none : ReadsPast other.run.work.lines → ⊥) where
+      abbrev SameOrParts : Type 0
+      SameOrParts = ComeToTheSame pools devices trace one other ⊎ MayPart pools devices trace one other
+
+      all-there : (cells : ℕ → List CellEvent) (i : ℕ) → StartsWith (cells i) (cells i)
+      all-there cells i = ([], sym (append-nil (cells i)))
+
+      module _ (t : Together pools devices trace one.run.work.lines other.run.work.lines one.in_turn.reached other.in_turn.reached (answers_at_stop one.ending one.run.work.stopped) (answers_at_stop other.ending other.run.work.stopped)) where
+        replies-same : other.report.replies ≡ one.report.replies
+        replies-same = sym (its-replies pools devices trace other) ∙ (t.replies ∙ its-replies pools devices trace one)
+
+        other-ends : EndsThere pools devices trace one.report.replies other.run.work.stopped other.ending other.in_turn.reached other.after other.in_turn.last_line
+        other-ends = subst (λ (rs : List Reply). EndsThere pools devices trace rs other.run.work.stopped other.ending other.in_turn.reached other.after other.in_turn.last_line) replies-same other.in_turn.ended
+
+        abbrev StopsSame : Type 0
+        StopsSame = StopAlike pools devices pool_len trace one.run.work.stopped other.run.work.stopped one.ending other.ending one.in_turn.last_line other.in_turn.last_line
+
+        stops-same : StopsSame ⊎ CollidesIn trace one.in_turn.reached.cells
+        stops-same = stop-step pools devices pool_len trace one.report.replies one.run.work.stopped other.run.work.stopped one.in_turn.reached one.in_turn.last_line other.in_turn.reached other.in_turn.last_line one.after other.after t.then
+            one.ending other.ending one.in_turn.ended other-ends (λ whole. many-replies pools devices trace one ∙ whole-lines pools devices trace one whole)
+            (λ whole. sym (ap (λ (rs : List Reply). length rs) replies-same) ∙ (many-replies pools devices trace other ∙ whole-lines pools devices trace other whole)) t.pool
+
+        last-same : StopsSame → EndAlike pools devices trace one other
+        last-same last = record {
+          shards = last.shards;
+          cells = last.cells;
+          kept = last.kept;
+          ending = last.ends;
+          replies = replies-same;
+          dropped = shown.drops one other begin.image begin.told begin.other_told none other_none (closed-same pools devices trace one other last.cells);
+        }
+
+        come-together : SameOrParts
+        come-together = elim stops-same [
+          | inl last ↦ inl (close-alike pools devices trace one other (last-same last) begin.found)
+          | inr apart ↦ inr (collides-part one other one.in_turn.reached.cells
+              (record { one_had = λ i is_cell. all-there one.in_turn.reached.cells i; other_had = λ i is_cell. subst (StartsWith (other.in_turn.reached.cells i)) (t.then.cells i is_cell) (all-there other.in_turn.reached.cells i) }) apart)
+        ]
+
+      come : ComeTo pools devices trace (IsKnown pools devices trace) one.run.work.lines other.run.work.lines one.run.work.feeds other.run.work.feeds one.in_turn.reached other.in_turn.reached
+          (answers_at_stop one.ending one.run.work.stopped) (answers_at_stop other.ending other.run.work.stopped) → SameOrParts
+      come (together t) = come-together t
+      come (other_further g) = inr (collides-part one other one.in_turn.reached.cells
+          (record { one_had = λ i is_cell. all-there one.in_turn.reached.cells i; other_had = further-had one other (answers_at_stop other.ending other.run.work.stopped) g })
+          (further-part one other (answers_at_stop other.ending other.run.work.stopped) g))
+      come (one_further g) = inr (collides-part one other other.in_turn.reached.cells
+          (record { one_had = further-had other one (answers_at_stop one.ending one.run.work.stopped) g; other_had = λ i is_cell. all-there other.in_turn.reached.cells i })
+          (further-part other one (answers_at_stop one.ending one.run.work.stopped) g))
+      come (parted p) = inr (parts-may pools devices trace one other formed.config p)
+
+      unpast : FailAlike pools devices trace one other → SameOrParts
+      unpast fail = come (runs-come pools devices pool_len trace one other begin (IsKnown pools devices trace) (shown.known one begin.image begin.told none) (shown.known other begin.image begin.other_told other_none) fail known-steps)
+
+    pub runs-alike : (one other : OneRun pools devices trace) → BeginAlike pools devices trace one other → FailAlike pools devices trace one other → ComeToTheSame pools devices trace one other ⊎ MayPart pools devices trace one other
+    runs-alike one other begin fail = elim (past-or-none one.run.work.lines) [
+      | inl past ↦ inr (may_past (inl past))
+      | inr none ↦ (elim (past-or-none other.run.work.lines) [
+        | inl past ↦ inr (may_past (inr past))
+        | inr other_none ↦ unpast one other begin none other_none fail
+      ])
+    ]

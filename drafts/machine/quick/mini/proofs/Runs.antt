@@ -1,0 +1,206 @@
+-- Two runs of one caller as the law names them: how a report of `run` gives one, that they begin alike, and what all their lines come to.
+use Rattle.std.proofs.Common.{◌≡◌, ℕ, zero, suc, true, false, List, [], ◌∷◌, length, take, Option, None, Some, refl, sym, ap, ◌∙◌, subst, append-nil}
+use Rattle.std.specs.List.{AllByRecursion}
+use Rattle.std.proofs.lemmas.List.{length-map}
+use Rattle.arc_core.specs.declared.config.Config.{Config}
+use Rattle.arc_core.specs.declared.event.Event.{Event}
+use Rattle.arc_table.specs.Ended.{Ended}
+use Rattle.arc_table.specs.Fronts.{StartsWith}
+use Rattle.dbuf_cells.specs.Turns.{OnHeap}
+use Rattle.l2_dev.specs.Cursor.{CursorState}
+use Rattle.mini.specs.l2_feed_specs_Alike.{AreCursorsAlike}
+use Rattle.vdev_io.specs.Calls.{Call}
+use Rattle.vdev_io.specs.declared.device.CacheDev.{Ghosts as Devices}
+use Rattle.vdev_io.specs.declared.pool.Pool.{Ghosts}
+use Rattle.trace_text.specs.declared.op.Op.{Op}
+use Rattle.trace_text.specs.declared.rebuilt.Rebuilt.{Rebuilt}
+use Rattle.trace_text.specs.declared.reply.Reply.{Reply}
+use Rattle.trace_text.specs.declared.report.Report.{Report}
+use Rattle.trace_text.specs.declared.trace.Trace.{Trace}
+use Rattle.mini.specs.trace_run_specs_Bounded.{device_len, with_bound}
+use Rattle.mini.specs.trace_run_specs_Devices.{usable}
+use Rattle.mini.specs.trace_run_specs_FeedSeries.{GoOn, WasFedFrom}
+use Rattle.mini.specs.trace_run_specs_Feeds.{FeedDone}
+use Rattle.mini.specs.trace_run_specs_Lines.{has_further}
+use Rattle.mini.specs.trace_run_specs_Outcome.{IsReport}
+use Rattle.mini.specs.trace_run_specs_Restores.{found_keys, restores_in}
+use Rattle.mini.specs.trace_run_specs_States.{Handed}
+use Rattle.mini.specs.trace_run_specs_callers_Together.{IsFirstPlace, answered_ops}
+use Rattle.mini.specs.trace_run_specs_dbufs_Objects.{Line, ops_of, replies_of}
+use Rattle.mini.specs.decl_trace_run_ran_Ending.{Ending}
+use Rattle.mini.specs.decl_trace_run_ran_Ending.{Fork, Full, Sync, Whole}
+use Rattle.mini.specs.decl_trace_run_status_Status.{Status}
+use Rattle.mini.specs.trace_run_specs_one_caller_Sequence.{AreInSequence, BetweenLines}
+use Rattle.mini.specs.trace_run_proofs_theorem_LineAnswers.{lines-ops, lines-replies}
+use Rattle.mini.specs.run_laws_specs_Alike.{AreAlike, AreAlikeSoFar, AreFirstAlike, BeginAlike, FailAlike, GoOnFrom, OneRun, ReportsAreRuns, answers_at_stop, begun}
+use Rattle.mini.proofs.Facts.{OfEachLine}
+use Rattle.mini.proofs.FirstPlaceOne.{place-one}
+use Rattle.mini.proofs.LinesAlike.{BothGo, ComeTo, Kind, StepsAlike, lines-alike}
+use Rattle.mini.proofs.Rows.{so-far-front}
+
+-- ---- a run that came to a report
+
+module _ {P D : Type 0} (pool : Ghosts P) (device : Devices D) where
+  fed-from : (g : Config) (before started after : Option D) (first : Option CursorState) (found : Option Rebuilt) (feeds : List FeedDone) (histories : List (List Event)) → WasFedFrom device g before started after first found feeds histories → GoOnFrom first feeds
+  fed-from g before started after None found feeds histories fed = fed
+  fed-from g before started after (Some first) found feeds histories fed = (fed.8.last, fed.8.turn)
+
+  -- A report of `run` with one caller, of a trace with lines on objects, syncs or feeds, is one run of the trace with the bound of its device.
+  one-run : (before after : Handed P D) (answer : Status) (closed : Ended OnHeap) (report : Report) (r : IsReport pool device before after answer closed report) → r.trace.config.callers ≡ 1 → has_further r.trace.ops ≡ true
+      → OneRun pool device (with_bound r.trace (device_len device.size before.cache))
+  one-run before after answer closed report r one further = record {
+    before = before.pool;
+    after = after.pool;
+    lent = usable device r.started;
+    back = usable device after.cache;
+    ending = r.ending;
+    closed = closed;
+    report = report;
+    run = r.run;
+    in_turn = r.run.run.in_turn one further;
+    first = r.first;
+    fed = fed-from (with_bound r.trace (device_len device.size before.cache)).config before.cache r.started after.cache r.first report.rebuilt r.run.work.feeds report.histories r.fed;
+    whole = r.whole;
+  }
+
+pub reports-are-runs : {P D : Type 0} (pool : Ghosts P) (device : Devices D) → ReportsAreRuns pool device
+unfolding one-run
+reports-are-runs pool device before after answer closed report r one further = (one-run pool device before after answer closed report r one further, refl, refl, refl, refl, refl, refl)
+
+-- ---- fronts of one list of operations
+
+pub take-front : {X : Type 0} (k : ℕ) (xs : List X) → StartsWith xs (take k xs)
+take-front zero xs = (xs, refl)
+take-front (suc k) [] = ([], refl)
+take-front (suc k) (x ∷ xs) = let r = take-front k xs in (r.0, λ i. x ∷ r.1 i)
+
+so-far-refl : {X : Type 0} (xs : List X) → AreAlikeSoFar xs xs
+so-far-refl [] = tt
+so-far-refl (x ∷ xs) = (refl, so-far-refl xs)
+
+fronts-alike : {X : Type 0} (xs us vs : List X) → StartsWith xs us → StartsWith xs vs → AreAlikeSoFar us vs
+fronts-alike {X} xs us vs one other = so-far-front us one.0 vs other.0 (subst (λ (z : List X × List X). AreAlikeSoFar z.0 z.1) (λ i. (one.1 i, other.1 i)) (so-far-refl xs))
+
+pub answered-front : (trace : Trace) (ending : Ending) (replies : List Reply) → StartsWith trace.ops (answered_ops trace ending replies)
+answered-front trace Whole replies = ([], sym (append-nil trace.ops))
+answered-front trace Fork replies = take-front (length replies) trace.ops
+answered-front trace Sync replies = take-front (length replies) trace.ops
+answered-front trace (Full need left) replies = take-front (length replies) trace.ops
+
+-- ---- the ring
+
+-- feeds of two runs that went on from one ring, whose log blocks are the same
+record Rings (fs es : List FeedDone) : Type 0 where
+  pub first : CursorState
+  pub last : CursorState
+  pub other_first : CursorState
+  pub other_last : CursorState
+  pub feeds : GoOn fs first last
+  pub other_feeds : GoOn es other_first other_last
+  pub cursors : AreCursorsAlike first other_first
+
+-- where there is no device any cursor stands for that of no feed
+no_cursor : CursorState
+no_cursor = record { ring = record { end = 0; hand = 0; evict = 0; top = 0; lap = 0; live = []; spare = 0 }; base = 0; newest = None; second = None; pending = []; ready = false }
+
+rings : (first other : Option CursorState) (fs es : List FeedDone) → GoOnFrom first fs → GoOnFrom other es → AreFirstAlike first other → Rings fs es
+rings None None fs es none other_none alike = record {
+  first = no_cursor;
+  last = no_cursor;
+  other_first = no_cursor;
+  other_last = no_cursor;
+  feeds = subst (λ (l : List FeedDone). GoOn l no_cursor no_cursor) (sym none) refl;
+  other_feeds = subst (λ (l : List FeedDone). GoOn l no_cursor no_cursor) (sym other_none) refl;
+  cursors = record { ring = refl; newest = refl; second = refl };
+}
+rings None (Some other) fs es fed other_fed alike = absurd alike
+rings (Some first) None fs es fed other_fed alike = absurd alike
+rings (Some first) (Some other) fs es fed other_fed alike = record { first = first; last = fed.0; other_first = other; other_last = other_fed.0; feeds = fed.1; other_feeds = other_fed.1; cursors = alike }
+
+-- ---- what is known of each line
+
+module _ {P D : Type 0} (pools : Ghosts P) (devices : Devices D) (trace : Trace) where
+  -- what holds of lines by themselves
+  pub of-each-line : (Holds : Line → Type 0) (ls : List Line) (feeds : List FeedDone) (from to : BetweenLines P D) (did : AreInSequence pools devices trace ls feeds from to) → AllByRecursion Holds ls
+      → OfEachLine pools devices trace (λ l before behind. Holds l) ls feeds from to did
+  of-each-line Holds [] feeds from to did all = tt
+  of-each-line Holds (l ∷ ls) feeds from to did all = (all.0, of-each-line Holds ls did.2 did.0 to did.5 all.1)
+
+  -- two facts of each line are one
+  pub of-each-both : (One Other Both : Line → (from to : BetweenLines P D) → Type 0) → ((l : Line) (from to : BetweenLines P D) → One l from to → Other l from to → Both l from to) → (ls : List Line) (feeds : List FeedDone) (from to : BetweenLines P D)
+      → (did : AreInSequence pools devices trace ls feeds from to) → OfEachLine pools devices trace One ls feeds from to did → OfEachLine pools devices trace Other ls feeds from to did → OfEachLine pools devices trace Both ls feeds from to did
+  of-each-both One Other Both join [] feeds from to did one other = tt
+  of-each-both One Other Both join (l ∷ ls) feeds from to did one other = (join l from did.0 one.0 other.0, of-each-both One Other Both join ls did.2 did.0 to did.5 one.1 other.1)
+
+-- ---- how many lines a run did
+
+module _ {P D : Type 0} (pools : Ghosts P) (devices : Devices D) (trace : Trace) (run : OneRun pools devices trace) where
+  pub its-replies : replies_of run.run.work.lines ≡ run.report.replies
+  its-replies = lines-replies (answered_ops trace run.ending run.report.replies) run.report.replies run.run.work.lines run.run.did.lines
+
+  pub many-replies : length run.report.replies ≡ length run.run.work.lines
+  many-replies = sym (ap (λ (rs : List Reply). length rs) its-replies) ∙ length-map run.run.work.lines (λ (l : Line). l.reply)
+
+  -- the operations that it answered are the first of the trace
+  pub ops-front : StartsWith trace.ops (ops_of run.run.work.lines)
+  ops-front = subst (StartsWith trace.ops) (sym (lines-ops (answered_ops trace run.ending run.report.replies) run.report.replies run.run.work.lines run.run.did.lines)) (answered-front trace run.ending run.report.replies)
+
+  -- a whole run answered all operations
+  pub whole-ops : run.ending ≡ Whole → ops_of run.run.work.lines ≡ trace.ops
+  whole-ops whole = lines-ops (answered_ops trace run.ending run.report.replies) run.report.replies run.run.work.lines run.run.did.lines ∙ ap (λ (e : Ending). answered_ops trace e run.report.replies) whole
+
+  pub whole-lines : run.ending ≡ Whole → length run.run.work.lines ≡ length trace.ops
+  whole-lines whole = sym (length-map run.run.work.lines (λ (l : Line). l.op)) ∙ ap (λ (os : List Op). length os) (whole-ops whole)
+
+-- ---- all lines of two runs
+
+module _ {P D : Type 0} (pools : Ghosts P) (devices : Devices D) (pool_len : (p : P) (bytes : List ℕ) → pools.told p ≡ Some bytes → length bytes ≡ pools.size p) (trace : Trace) (one other : OneRun pools devices trace) (begin : BeginAlike pools devices trace one other) where
+  -- both pools have one length
+  sizes : pools.size other.before ≡ pools.size one.before
+  sizes = sym (pool_len other.before begin.image begin.other_told) ∙ pool_len one.before begin.image begin.told
+
+  pub begins-alike : AreAlike pools devices trace (begun pools devices trace one) (begun pools devices trace other)
+  begins-alike = record {
+    image = begin.image;
+    told = begin.told;
+    other_told = begin.other_told;
+    group = refl;
+    next = place-one (pools.size one.before) trace.blocks one.run.run.place other.run.run.place one.run.run.first (subst (λ (n : ℕ). IsFirstPlace n trace.blocks other.run.run.place) sizes other.run.run.first);
+    device = begin.device;
+    shards = λ shard. ap (λ (r : Option Rebuilt). restores_in trace.config (found_keys r) shard) begin.found;
+    cells = λ i is_cell. refl;
+    kept = refl;
+  }
+
+  module _ (Holds : Line → (from to : BetweenLines P D) → Type 0) (holds : OfEachLine pools devices trace Holds one.run.work.lines one.run.work.feeds (begun pools devices trace one) one.in_turn.reached one.in_turn.lines)
+      (other_holds : OfEachLine pools devices trace Holds other.run.work.lines other.run.work.feeds (begun pools devices trace other) other.in_turn.reached other.in_turn.lines) (fail : FailAlike pools devices trace one other) where
+    abbrev stop : List Call
+    stop = answers_at_stop one.ending one.run.work.stopped
+
+    abbrev other_stop : List Call
+    other_stop = answers_at_stop other.ending other.run.work.stopped
+
+    both-begin : (r : Rings one.run.work.feeds other.run.work.feeds) → BothGo pools devices trace Holds one.run.work.lines other.run.work.lines one.run.work.feeds other.run.work.feeds (begun pools devices trace one) one.in_turn.reached
+        (begun pools devices trace other) other.in_turn.reached one.in_turn.lines other.in_turn.lines stop other_stop r.first r.last r.other_first r.other_last
+    both-begin r = record {
+      alike = begins-alike;
+      same = fronts-alike trace.ops (ops_of one.run.work.lines) (ops_of other.run.work.lines) (ops-front pools devices trace one) (ops-front pools devices trace other);
+      holds = holds;
+      other_holds = other_holds;
+      feeds = r.feeds;
+      other_feeds = r.other_feeds;
+      shapes = one.run.did.fed.shapes;
+      other_shapes = other.run.did.fed.shapes;
+      cursors = r.cursors;
+      pool = fail.pool;
+      device = fail.device;
+      left = fail.left;
+    }
+
+    -- all their lines come to the same, as far as both go; or they part
+    pub runs-come : ((kind : Kind) → StepsAlike pools devices trace Holds kind)
+        → ComeTo pools devices trace Holds one.run.work.lines other.run.work.lines one.run.work.feeds other.run.work.feeds one.in_turn.reached other.in_turn.reached stop other_stop
+    runs-come steps =
+        let r = rings one.first other.first one.run.work.feeds other.run.work.feeds one.fed other.fed begin.cursors in
+        lines-alike pools devices trace Holds steps one.run.work.lines other.run.work.lines one.run.work.feeds other.run.work.feeds (begun pools devices trace one) one.in_turn.reached (begun pools devices trace other) other.in_turn.reached
+        one.in_turn.lines other.in_turn.lines stop other_stop r.first r.last r.other_first r.other_last (both-begin r)

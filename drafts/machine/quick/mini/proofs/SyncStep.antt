@@ -1,0 +1,128 @@
+-- The step of a line `txg` of two runs: both write the same blocks to the same places, and what stands behind the line is alike again; or one history led a cell to two states (spa_sync for a single thread).
+use Rattle.std.proofs.Common.{◌≡◌, ◌⊎◌, ◌+◌, ℕ, suc, List, [], ◌++◌, length, map, Option, sym, ap, ◌∙◌, subst, inl, inr}
+use Rattle.arc_core.specs.declared.config.Config.{Config}
+use Rattle.arc_core.specs.declared.event.Event.{Event}
+use Rattle.dbuf_cells.specs.Turns.{OnHeap}
+use Rattle.vdev_io.specs.Calls.{Gave}
+use Rattle.vdev_io.specs.declared.device.CacheDev.{Ghosts as Devices}
+use Rattle.vdev_io.specs.declared.pool.Pool.{Ghosts}
+use Rattle.txg_sync.specs.Items.{SyncItem, items_from, need_of, tells_written, written_over}
+use Rattle.txg_sync.specs.declared.due.Due.{Due}
+use Rattle.trace_text.specs.declared.op.Op.TheVariants as ops
+use Rattle.trace_text.specs.declared.reply.Reply.{Reply}
+use Rattle.trace_text.specs.declared.reply.Reply.TheVariants.{Synced}
+use Rattle.trace_text.specs.declared.trace.Trace.{Trace}
+use Rattle.mini.specs.trace_run_specs_Effects.{calls_of}
+use Rattle.mini.specs.trace_run_specs_Feeds.{FeedDone}
+use Rattle.mini.specs.trace_run_specs_Syncing.{inserts_noted, noted_of}
+use Rattle.mini.specs.trace_run_specs_callers_WorkLines.{effect_with}
+use Rattle.mini.specs.trace_run_specs_dbufs_Objects.{Line, Nothing, Work}
+use Rattle.mini.specs.trace_run_specs_one_caller_Sequence.{BetweenLines, DoesSync}
+use Rattle.mini.specs.run_laws_specs_Alike.{AreAlike, AreDevicesAlike, feed_answers, left_behind}
+use Rattle.mini.proofs.Behind.{goes-cell, goes-shard}
+use Rattle.mini.proofs.PlainDues.{bytes-same, items-same, need-same, views_of}
+use Rattle.mini.proofs.Steps.{PartsAt, StepAlike, replays}
+use Rattle.mini.proofs.SyncCells.{dirty-one, views-alike}
+
+-- the same blocks of the same bytes, from one place on
+pub items-one : (cells others : List OnHeap) (dues ends : List Due) (group other_group next other_next : ℕ) → views_of others ≡ views_of cells → ends ≡ dues → other_group ≡ group → other_next ≡ next
+    → items_from other_group other_next others ends ≡ items_from group next cells dues
+items-one cells others dues ends group other_group next other_next same listed groups places =
+    (λ i. items_from (groups i) (places i) others (listed i)) ∙ items-same cells others (bytes-same cells others same) group next dues
+
+pub need-one : (cells others : List OnHeap) (dues ends : List Due) → views_of others ≡ views_of cells → ends ≡ dues → need_of others ends ≡ need_of cells dues
+need-one cells others dues ends same listed = ap (need_of others) listed ∙ need-same cells others (bytes-same cells others same) dues
+
+module _ {P D : Type 0} (pools : Ghosts P) (devices : Devices D) (trace : Trace) where
+  abbrev g : Config
+  g = trace.config
+
+  -- devices that are as they were are alike still
+  pub devices-still : (was other_was now other_now : Option D) → now ≡ was → other_now ≡ other_was → AreDevicesAlike pools devices trace was other_was → AreDevicesAlike pools devices trace now other_now
+  devices-still was other_was now other_now same other_same alike = subst (λ (x : Option D × Option D). AreDevicesAlike pools devices trace x.0 x.1) (λ i. (sym same i, sym other_same i)) alike
+
+  abbrev pub sync_line : ℕ → Reply → Work → Line
+  sync_line t r v = record { op = ops.Txg t; reply = r; work = v }
+
+  module _ (t : ℕ) (r q : Reply) (v w : Work) (from to other other_to : BetweenLines P D) (did : DoesSync pools devices trace t r v from to) (other_did : DoesSync pools devices trace t q w other other_to) (like : AreAlike pools devices trace from other) where
+    abbrev cells : List OnHeap
+    cells = did.synced.answer.cells
+
+    abbrev others : List OnHeap
+    others = other_did.synced.answer.cells
+
+    abbrev dues : List Due
+    dues = did.synced.answer.dues
+
+    abbrev ends : List Due
+    ends = other_did.synced.answer.dues
+
+    abbrev xs : List SyncItem
+    xs = items_from from.outside.group from.outside.next cells dues
+
+    abbrev ys : List SyncItem
+    ys = items_from other.outside.group other.outside.next others ends
+
+    module _ (same : views_of others ≡ views_of cells) where
+      listed : ends ≡ dues
+      listed = dirty-one cells others dues ends same did.synced.answer.dirty other_did.synced.answer.dirty
+
+      items : ys ≡ xs
+      items = items-one cells others dues ends from.outside.group other.outside.group from.outside.next other.outside.next same listed like.group like.next
+
+      needs : need_of others ends ≡ need_of cells dues
+      needs = need-one cells others dues ends same listed
+
+      noted : w.noted ≡ v.noted
+      noted = other_did.synced.answer.turns.noted ∙ (ap (noted_of trace.config.callers) items ∙ sym did.synced.answer.turns.noted)
+
+      replied : q ≡ r
+      replied =
+          let blocks : other_did.synced.done.blocks ≡ did.synced.done.blocks = other_did.synced.answer.blocks ∙ (ap length listed ∙ sym did.synced.answer.blocks) in
+          let bytes : other_did.synced.done.bytes ≡ did.synced.done.bytes = other_did.synced.answer.bytes ∙ (needs ∙ sym did.synced.answer.bytes) in
+          other_did.synced.replied ∙ ((λ i. Synced (like.group i) (blocks i) (bytes i)) ∙ sym did.synced.replied)
+
+      inserted : (shard : ℕ) → inserts_noted g t w.noted shard (other.shards shard) ≡ inserts_noted g t v.noted shard (from.shards shard)
+      inserted shard = λ i. inserts_noted g t (noted i) shard (like.shards shard i)
+
+      sync-then : AreAlike pools devices trace to other_to
+      sync-then =
+          let es : ℕ → List Event = λ shard. inserts_noted g t v.noted shard (from.shards shard) in
+          let fs : ℕ → List Event = λ shard. inserts_noted g t w.noted shard (other.shards shard) in
+          let next : other.outside.next + need_of others ends ≡ from.outside.next + need_of cells dues = λ i. like.next i + needs i in
+          record {
+            image = written_over xs like.image;
+            told = did.synced.answer.told ∙ ap (tells_written xs) like.told;
+            other_told = other_did.synced.answer.told ∙ (λ i. tells_written (items i) (like.other_told i));
+            group = other_did.synced.group ∙ (ap suc like.group ∙ sym did.synced.group);
+            next = other_did.synced.next ∙ (other_did.synced.answer.next_is ∙ (next ∙ sym (did.synced.next ∙ did.synced.answer.next_is)));
+            device = devices-still from.device other.device to.device other_to.device did.leaves.device other_did.leaves.device like.device;
+            shards = λ shard. goes-shard g es fs v.noted w.noted from to other other_to did.leaves.goes_on other_did.leaves.goes_on shard (like.shards shard) (inserted shard);
+            cells = λ i is_cell. goes-cell g es fs v.noted w.noted from to other other_to did.leaves.goes_on other_did.leaves.goes_on i is_cell (like.cells i is_cell) noted;
+            kept = other_did.leaves.kept ∙ (like.kept ∙ sym did.leaves.kept);
+          }
+
+  -- no bytes were brought, since the line is a sync's
+  pub sync-step : (t : ℕ) (r q : Reply) (v w : Work) (here there : List FeedDone) (from to other other_to : BetweenLines P D) (did : (here ≡ []) × DoesSync pools devices trace t r v from to)
+      (other_did : (there ≡ []) × DoesSync pools devices trace t q w other other_to) → v.brought ≡ Nothing → w.brought ≡ Nothing → AreAlike pools devices trace from other
+      → StepAlike pools devices trace (sync_line t r v) (sync_line t q w) here there from to other other_to did other_did ⊎ PartsAt pools devices trace from.cells (sync_line t r v) (sync_line t q w) here there
+  sync-step t r q v w here there from to other other_to did other_did none other_none like =
+      let one = did.1.synced.answer in
+      let two = other_did.1.synced.answer in
+      let xs = items_from from.outside.group from.outside.next one.cells one.dues in
+      let ys = items_from other.outside.group other.outside.next two.cells two.dues in
+      elim (views-alike trace from.cells other.cells like.cells v w one.cells two.cells xs ys one.turns two.turns) [
+        | inl same ↦
+            let reply : q ≡ r = replied t r q v w from to other other_to did.1 other_did.1 like same in
+            let notes : w.noted ≡ v.noted = noted t r q v w from to other other_to did.1 other_did.1 like same in
+            let brought : w.brought ≡ v.brought = other_none ∙ sym none in
+            inl (record {
+              then = sync-then t r q v w from to other other_to did.1 other_did.1 like same;
+              reply = reply;
+              pool = λ i. calls_of (effect_with (brought i) (reply i)) ++ map (λ note. Gave) (notes i);
+              device = ap feed_answers (other_did.0 ∙ sym did.0);
+              left = ap (λ (fs : List FeedDone). left_behind devices fs other_to.device) other_did.0 ∙ sym (ap (λ (fs : List FeedDone). left_behind devices fs to.device) did.0);
+              many = ap (λ (fs : List FeedDone). length fs) (other_did.0 ∙ sym did.0);
+            })
+        | inr apart ↦ inr (replays apart.i apart.in_range apart.bases apart.other_bases apart.state apart.other_state apart.leads apart.other_leads apart.collide)
+      ]
