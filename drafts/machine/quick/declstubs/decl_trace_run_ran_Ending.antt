@@ -1,7 +1,0 @@
-use Rattle.std.specs.Prelude.{ℕ}
-
-pub data Ending : Type 0 where
-  Whole : Ending
-  Fork : Ending
-  Sync : Ending
-  Full : (need left : ℕ) → Ending

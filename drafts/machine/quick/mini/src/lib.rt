@@ -1,7 +1,0 @@
-//! Nothing.
-#![tactic(auto)]
-ghost use Rattle.std.specs.Prelude.{◌≡◌};
-
-pub fn t(a: u8)
-    ensures { a ≡ a }
-{}
