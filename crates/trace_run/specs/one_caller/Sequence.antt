@@ -3,6 +3,7 @@
 use Rattle.std.specs.Prelude.{◌≡◌, ◌≢◌, ℕ, suc, List, [], ◌∷◌, ◌++◌, Option, None, Some, IfSome, length, map, slice_get}
 use Rattle.std.specs.List.{AllByRecursion, range_with_len}
 use Rattle.blk_ptr.specs.Hash.{shard_of}
+use Rattle.blk_ptr.specs.declared.key.Key.{Key}
 use Rattle.arc_core.specs.PlainShard.{PlainShard}
 use Rattle.arc_core.specs.Replay.{replay}
 use Rattle.arc_core.specs.declared.config.Config.{Config}
@@ -44,7 +45,8 @@ use Rattle.trace_run.specs.KeptBlocks.{held_in_shard}
 use Rattle.trace_run.specs.KeptReads.{KeptRead}
 use Rattle.trace_run.specs.Lines.{caller_of, shard_of_line}
 use Rattle.trace_run.specs.Meeting.{resizes_in}
-use Rattle.trace_run.specs.dbufs.ObjectLines.{OnObject, TellsBrought, brought_there, events_of_bringing, on_object}
+use Rattle.trace_run.specs.dbufs.Holders.{AreHolders}
+use Rattle.trace_run.specs.dbufs.ObjectLines.{OnObject, TellsBrought, brought_there, events_of_access, events_of_bringing, on_object}
 use Rattle.trace_run.specs.dbufs.ObjectReplies.{ActsFor, AnswersObject, BringsAt}
 use Rattle.trace_run.specs.dbufs.Objects.{Brought, Line, Loaded, Nothing, Refused, Work, no_work, own_event}
 use Rattle.trace_run.specs.Openings.{opening_map}
@@ -107,6 +109,10 @@ IsFoundIn g s (Refused ptr) = AsksPool (access_of (s (shard_of g.shards ptr.key)
 abbrev pub bringing_in : Config → (ℕ → PlainShard) → (n t c : ℕ) → Brought → (shard : ℕ) → List Event
 bringing_in g s n t c brought shard = brought_there g.shards shard brought (events_of_bringing (s shard) n t c brought)
 
+-- the shard of a key behind the caller's access to it
+abbrev pub shard_found : Config → (shards : ℕ → List Event) → (t : ℕ) → Brought → Key → PlainShard
+shard_found g shards t brought k = shard_behind g (λ shard. shards shard ++ brought_there g.shards shard brought (events_of_access (shard_behind g shards shard) 0 t brought)) (shard_of g.shards k)
+
 -- ---- cells
 
 -- what was done to a cell has made this of it
@@ -161,7 +167,8 @@ module _ {P D : Type 0} (pools : Ghosts P) (devices : Devices D) (trace : Trace)
     pub brought : BringsAt (pools.size from.outside.pool) at (outline_behind trace from.cells (cell_of trace.config.cells at)) l.work.brought
     pub found : IsFoundIn trace.config (shard_behind trace.config from.shards) l.work.brought
     pub range : TellsBrought (pools.told from.outside.pool) l.work.brought
-    pub acts : ActsFor trace.config 0 (own_event l.op) (outline_behind trace from.cells (cell_of trace.config.cells at)) l.work l.reply
+    pub acts : ActsFor trace.config 0 (AreHolders (cell_number trace.config (cell_of trace.config.cells at)) (outline_behind trace from.cells (cell_of trace.config.cells at)) (shard_found trace.config from.shards tick l.work.brought))
+        (own_event l.op) (outline_behind trace from.cells (cell_of trace.config.cells at)) l.work l.reply
     pub answer : AnswersObject (pools.size from.outside.pool) (pools.told from.outside.pool) trace.config.dbuf_bytes (opening_map trace (cell_of trace.config.cells at)) (from.cells (cell_of trace.config.cells at)) l.work.brought l.op l.reply
     pub made : List Event
     pub kinds : AllByRecursion HasAct made
