@@ -1,5 +1,5 @@
 -- A dbuf's bytes are brought: its block is marked in one turn of its cell, read with no cell in hand, and kept in a second turn.
-use Rattle.std.specs.Prelude.{◌≡◌, ℕ, false, List, [], ◌∷◌, ◌++◌, Some, Result, Ok, Err}
+use Rattle.std.specs.Prelude.{◌≡◌, ℕ, Bool, true, false, if◌then◌else◌, List, [], ◌∷◌, ◌++◌, Some, Result, Ok, Err}
 use Rattle.blk_ptr.specs.declared.ptr.Ptr.{Ptr}
 use Rattle.vdev_io.specs.declared.device.CacheDev.{Ghosts as DeviceGhosts}
 use Rattle.vdev_io.specs.declared.pool.Pool.{Ghosts as PoolGhosts}
@@ -15,6 +15,7 @@ use Rattle.arc_table.specs.declared.read.Read.{Read}
 use Rattle.arc_table.specs.declared.read.Read.TheVariants as gave
 use Rattle.dbuf_state.specs.Faults.{fault_of}
 use Rattle.dbuf_state.specs.Numbers.{mapping_numbers}
+use Rattle.dbuf_state.specs.Oids.{oid_eq}
 use Rattle.dbuf_state.specs.Outline.{is_cached_at, mapped_at}
 use Rattle.dbuf_state.specs.declared.event.CellEvent.{CellEvent}
 use Rattle.dbuf_state.specs.declared.event.CellEvent.TheVariants.{Load}
@@ -39,6 +40,16 @@ IsUnmarked i at p = (ptr : Ptr) → ¬ Claims i at ptr p
 abbrev pub handed : (n c : ℕ) → Read → List Event
 handed n c (gave.Held hold from) = Hand n hold.key c ∷ []
 handed n c (gave.Past block kept) = []
+
+-- an event was made
+abbrev pub is_some_made : List Event → Bool
+is_some_made [] = false
+is_some_made (e ∷ es) = true
+
+-- Which dbufs keep a hold once the block was brought, where they kept holds so: of a block that was loaded, its own does where a hold was handed to the cell.
+abbrev pub held_behind : Oid → (loads : List CellEvent) → (hands : List Event) → (Oid → Bool) → Oid → Bool
+held_behind at [] hands held b = held b
+held_behind at (e ∷ loads) hands held b = if oid_eq at b then is_some_made hands else held b
 
 -- what a read gave is given back by who read it
 abbrev pub DropsRead : Config → Read → PartyPlace → PartyPlace → Type 0

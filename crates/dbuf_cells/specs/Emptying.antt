@@ -14,8 +14,8 @@ use Rattle.dbuf_state.specs.Outline.{OutlineDbuf, outline_dbuf}
 use Rattle.dbuf_state.specs.Soundness.{IsSound}
 use Rattle.dbuf_state.specs.declared.dbuf.Dbuf.{Dbuf}
 use Rattle.dbuf_cells.specs.Ending.{DropsEach, lower_oid}
-use Rattle.dbuf_cells.specs.InHand.{HasTaken}
-use Rattle.dbuf_cells.specs.Turns.{OnHeap, PartyPlace, holds_of}
+use Rattle.dbuf_cells.specs.InHand.{HasTaken, HoldsStay}
+use Rattle.dbuf_cells.specs.Turns.{OnHeap, PartyPlace, held_in, holds_of}
 use Rattle.dbuf_cells.specs.declared.kept.Kept.{Kept}
 
 -- those of these dbufs that have the bytes of a clean block
@@ -40,7 +40,8 @@ pub record IsEnding (cache : Cache) (i : ℕ) (p : PartyPlace) (before : OnHeap)
   pub rising : IsSortedBy lower_oid gone
   pub lower : AreLower gone (cached_in now.dbufs)
   pub all : IsPermutation (cached_in before.value.dbufs) (gone ++ cached_in now.dbufs)
-  pub dropped : DropsEach (cell_number cache.config i) gone es
+  pub dropped : DropsEach (cell_number cache.config i) (held_in before) gone es
+  pub stay : HoldsStay before.value.dbufs now.dbufs
 
 -- so it is with some party and some cell
 abbrev pub MayEmpty : Cache → (i : ℕ) → (now : CellLog Kept) → (q : PartyPlace) → Type 0
