@@ -1,5 +1,5 @@
 -- One caller's lines in sequence: behind each the pool tells what it told in front of the first place, and what syncs wrote can be read.
-use Rattle.std.proofs.Common.{◌≡◌, ℕ, ◌+◌, ◌%◌, ◌<◌, ◌≤◌, ◌==◌, true, false, List, [], ◌∷◌, ◌++◌, length, map, take, Option, Some, None, refl, sym, ap, ◌∙◌, subst, inl, inr, arith}
+use Rattle.std.proofs.Common.{◌≡◌, ℕ, ◌+◌, ◌%◌, ◌<◌, ◌≤◌, ◌==◌, Bool, true, false, List, [], ◌∷◌, ◌++◌, length, map, take, Option, Some, None, refl, sym, ap, ◌∙◌, subst, inl, inr, arith}
 use Rattle.std.specs.List.{AllByRecursion}
 use Rattle.arc_lists.proofs.Tables.{cases_true}
 use Rattle.blk_ptr.specs.declared.ptr.Ptr.{Ptr}
@@ -65,38 +65,38 @@ in-no-syncs i j (e ∷ es) all = elim (cases_true (i == j)) [
   | inr other ↦ rw other (in-no-syncs i j es all.1)
 ]
 
-acts-no-syncs : (g : Config) (n : ℕ) (own : OwnEvent) (o : Outline) (work : Work) → is_synced own.event ≡ false → ActsAt g n own o work → NotesNoSyncs work
-acts-no-syncs g n own o work un acts i =
+acts-no-syncs : (g : Config) (n : ℕ) (AreHeld : (Oid → Bool) → Type 0) (own : OwnEvent) (o : Outline) (work : Work) → is_synced own.event ≡ false → ActsAt g n AreHeld own o work → NotesNoSyncs work
+acts-no-syncs g n AreHeld own o work un acts i =
     subst (λ (ns : List Noted). AreNoSyncs (events_of_cell i ns)) (sym acts.noted)
     (in-no-syncs (cell_of g.cells own.at) i _ (all-append (λ e. is_synced e ≡ false) (loads_of n own.at work.brought) (own.event ∷ map (events.Evict n) acts.evictions) (loads-no-syncs n own.at work.brought) (un, evicts-no-syncs n acts.evictions)))
 
-reply-no-syncs : (g : Config) (n : ℕ) (own : OwnEvent) (o : Outline) (work : Work) (reply : Reply) → is_synced own.event ≡ false → ActsBy g n own o work reply → NotesNoSyncs work
-reply-no-syncs g n own o work (replies.Got size shown) un acts = acts-no-syncs g n own o work un acts
-reply-no-syncs g n own o work replies.Done un acts = acts-no-syncs g n own o work un acts
-reply-no-syncs g n own o work (replies.Refused refusal) un acts = λ i. subst (λ (ns : List Noted). AreNoSyncs (events_of_cell i ns)) (sym acts.0) tt
-reply-no-syncs g n own o work (replies.Read served digest shown) un acts = absurd acts
-reply-no-syncs g n own o work (replies.Kept served) un acts = absurd acts
-reply-no-syncs g n own o work replies.Dropped un acts = absurd acts
-reply-no-syncs g n own o work (replies.Fed report) un acts = absurd acts
-reply-no-syncs g n own o work replies.FedNone un acts = absurd acts
-reply-no-syncs g n own o work (replies.Synced group blocks bytes) un acts = absurd acts
-reply-no-syncs g n own o work (replies.Capped c) un acts = absurd acts
+reply-no-syncs : (g : Config) (n : ℕ) (AreHeld : (Oid → Bool) → Type 0) (own : OwnEvent) (o : Outline) (work : Work) (reply : Reply) → is_synced own.event ≡ false → ActsBy g n AreHeld own o work reply → NotesNoSyncs work
+reply-no-syncs g n AreHeld own o work (replies.Got size shown) un acts = acts-no-syncs g n AreHeld own o work un acts
+reply-no-syncs g n AreHeld own o work replies.Done un acts = acts-no-syncs g n AreHeld own o work un acts
+reply-no-syncs g n AreHeld own o work (replies.Refused refusal) un acts = λ i. subst (λ (ns : List Noted). AreNoSyncs (events_of_cell i ns)) (sym acts.0) tt
+reply-no-syncs g n AreHeld own o work (replies.Read served digest shown) un acts = absurd acts
+reply-no-syncs g n AreHeld own o work (replies.Kept served) un acts = absurd acts
+reply-no-syncs g n AreHeld own o work replies.Dropped un acts = absurd acts
+reply-no-syncs g n AreHeld own o work (replies.Fed report) un acts = absurd acts
+reply-no-syncs g n AreHeld own o work replies.FedNone un acts = absurd acts
+reply-no-syncs g n AreHeld own o work (replies.Synced group blocks bytes) un acts = absurd acts
+reply-no-syncs g n AreHeld own o work (replies.Capped c) un acts = absurd acts
 
 none-no-syncs : (work : Work) → work ≡ no_work → NotesNoSyncs work
 none-no-syncs work none i = subst (λ (w : Work). AreNoSyncs (events_of_cell i w.noted)) (sym none) tt
 
-pub op-no-syncs : (g : Config) (n : ℕ) (op : Op) (o : Outline) (work : Work) (reply : Reply) → ActsFor g n (own_event op) o work reply → NotesNoSyncs work
-op-no-syncs g n (ops.Get m t at w) o work reply acts = reply-no-syncs g n (record { at = at; event = events.Get m at }) o work reply refl acts
-op-no-syncs g n (ops.Put m t at size fill) o work reply acts = reply-no-syncs g n (record { at = at; event = events.Put m at size fill }) o work reply refl acts
-op-no-syncs g n (ops.Patch m t at from bytes) o work reply acts = reply-no-syncs g n (record { at = at; event = events.Patch m at from bytes }) o work reply refl acts
-op-no-syncs g n (ops.Pin m t at) o work reply acts = reply-no-syncs g n (record { at = at; event = events.Pin m at }) o work reply refl acts
-op-no-syncs g n (ops.Unpin m at) o work reply acts = reply-no-syncs g n (record { at = at; event = events.Unpin m at }) o work reply refl acts
-op-no-syncs g n (ops.Read m t x window) o work reply acts = none-no-syncs work acts
-op-no-syncs g n (ops.Hold m t x) o work reply acts = none-no-syncs work acts
-op-no-syncs g n (ops.Drop m x) o work reply acts = none-no-syncs work acts
-op-no-syncs g n ops.Feed o work reply acts = none-no-syncs work acts
-op-no-syncs g n (ops.Txg t) o work reply acts = none-no-syncs work acts
-op-no-syncs g n (ops.Cap c) o work reply acts = none-no-syncs work acts
+pub op-no-syncs : (g : Config) (n : ℕ) (AreHeld : (Oid → Bool) → Type 0) (op : Op) (o : Outline) (work : Work) (reply : Reply) → ActsFor g n AreHeld (own_event op) o work reply → NotesNoSyncs work
+op-no-syncs g n AreHeld (ops.Get m t at w) o work reply acts = reply-no-syncs g n AreHeld (record { at = at; event = events.Get m at }) o work reply refl acts
+op-no-syncs g n AreHeld (ops.Put m t at size fill) o work reply acts = reply-no-syncs g n AreHeld (record { at = at; event = events.Put m at size fill }) o work reply refl acts
+op-no-syncs g n AreHeld (ops.Patch m t at from bytes) o work reply acts = reply-no-syncs g n AreHeld (record { at = at; event = events.Patch m at from bytes }) o work reply refl acts
+op-no-syncs g n AreHeld (ops.Pin m t at) o work reply acts = reply-no-syncs g n AreHeld (record { at = at; event = events.Pin m at }) o work reply refl acts
+op-no-syncs g n AreHeld (ops.Unpin m at) o work reply acts = reply-no-syncs g n AreHeld (record { at = at; event = events.Unpin m at }) o work reply refl acts
+op-no-syncs g n AreHeld (ops.Read m t x window) o work reply acts = none-no-syncs work acts
+op-no-syncs g n AreHeld (ops.Hold m t x) o work reply acts = none-no-syncs work acts
+op-no-syncs g n AreHeld (ops.Drop m x) o work reply acts = none-no-syncs work acts
+op-no-syncs g n AreHeld ops.Feed o work reply acts = none-no-syncs work acts
+op-no-syncs g n AreHeld (ops.Txg t) o work reply acts = none-no-syncs work acts
+op-no-syncs g n AreHeld (ops.Cap c) o work reply acts = none-no-syncs work acts
 
 -- ---- what a sync notes can be read
 
@@ -190,7 +190,7 @@ module _ {P D : Type 0} (pools : Ghosts P) (devices : Devices D) (told_len : (p 
 
   own-notes : (on : Option OnObject) (l : Line) (from to : BetweenLines P D) → DoesOwn pools devices trace on l from to → NotesOwnLine from to
   own-notes None l from to does = record { noted = []; cells = does.goes_on.cells; un = λ i. tt }
-  own-notes (Some on) l from to does = record { noted = l.work.noted; cells = does.goes_on.cells; un = op-no-syncs trace.config 0 l.op _ l.work l.reply does.acts }
+  own-notes (Some on) l from to does = record { noted = l.work.noted; cells = does.goes_on.cells; un = op-no-syncs trace.config 0 _ l.op _ l.work l.reply does.acts }
 
   own-fine : (l : Line) (from to : BetweenLines P D) → StandsFine from → DoesLine pools devices trace l from to → StandsFine to
   own-fine l from to f does =

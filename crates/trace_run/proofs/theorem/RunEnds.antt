@@ -319,6 +319,10 @@ module _ (cache : Cache) (valid : IsConfig cache.config) (restored : List Restor
   run-shards before own rest i l at = history-is i l at
       ∙ ap (λ (es : List Event). es ++ events_there g i c.ended.drops) (gave.drops i ∙ ap (λ (es : List Event). es ++ drops_from g i 0 crew.kept.items) (gave.same before own rest i))
 
+  -- so the shards were when the cells were ended
+  pub run-fronts : (before : ℕ → List Seen) → IsLevel g before crew.feeder → AllByRecursion (IsLevel g before) crew.parties.items → (i : ℕ) → h.ended.ended.front i ≡ events_in (before i) ++ drops_from g i 0 crew.kept.items
+  run-fronts before own rest i = c.ended.fronts gave.lines levels.1 levels.0 i ∙ (gave.drops i ∙ ap (λ (es : List Event). es ++ drops_from g i 0 crew.kept.items) (gave.same before own rest i))
+
   -- what the feeder had seen between the groups begins it
   pub since : (i : ℕ) (l : ShardLog) → get_elem? closed.shards i ≡ some l → StartsWith l.history (seen_of g i crew.feeder)
   since i l at =
@@ -377,13 +381,22 @@ module _ (cache : Cache) (valid : IsConfig cache.config) (restored : List Restor
     run-whole = crew-seen cache h.parties h.closing c stopped closed h.ends trace config noted knows-last many (λ n o at i range. (caller-tells n o at).entries i range)
         (acts_of_syncs g blocks work) (noted_of_syncs work) (subst (HasToldOthers g (acts_of_syncs g blocks work) (noted_of_syncs work)) (sym same-parties.1) gave.fed.told) feeder-noted
 
+    -- what they kept was given back as they were ended, one after the other
+    pub run-gives : SeesEnds g (openings_of trace) h.ended.last.own.seen h.ended.ended.front g.callers 0 g.cells h.ended.ended.drops
+    run-gives = subst (λ (x : List (List ℕ) × ℕ). SeesEnds g x.0 c.last.own.seen c.ended.front x.1 0 g.cells c.ended.drops)
+        (λ z. ((ap (λ (p : PartyPlace). p.own.about.openings) same-parties.1 ∙ (gave.fed.knows ∙ knows)) z, (ap (λ (p : PartyPlace). p.number) same-parties.1 ∙ same-feeder-number) z)) c.ended.kept
+
+    pub run-last : (entries : ℕ → List Seen) → SeesEntries g entries crew.feeder → AllByRecursion (SeesEntries g entries) crew.parties.items → (i : ℕ) → IsCell g i → front_of i h.ended.last.own.seen ≡ entries i ++ end_entry g.callers i
+    run-last entries own rest i range =
+        let all = all-before (SeesEntries g entries) c.callers c.feeder (subst (AllByRecursion (SeesEntries g entries)) c.are (gave.same_cells entries own rest)) in
+        c.ended.same_cells entries all.1 all.0 i range ∙ ap (λ (n : ℕ). entries i ++ end_entry n i) (ap (λ (p : PartyPlace). p.number) same-parties.1 ∙ same-feeder-number)
+
     -- where all parties had seen the same of cells between the groups, behind it stand their ends, and nothing else
     pub run-entries : (entries : ℕ → List Seen) → SeesEntries g entries crew.feeder → AllByRecursion (SeesEntries g entries) crew.parties.items → (i : ℕ) (x : OnHeap) → get_elem? closed.cells i ≡ some x
         → map line.Entry (map event_numbers x.value.history) ≡ entries i ++ end_entry g.callers i
     run-entries entries own rest i x at =
-        let all = all-before (SeesEntries g entries) c.callers c.feeder (subst (AllByRecursion (SeesEntries g entries)) c.are (gave.same_cells entries own rest)) in
         let range : IsCell g i = subst (λ (k : ℕ). i < k) h.ends.cells (within closed.cells i x at) in
-        run-whole i x at ∙ (c.ended.same_cells entries all.1 all.0 i range ∙ ap (λ (n : ℕ). entries i ++ end_entry n i) (ap (λ (p : PartyPlace). p.number) same-parties.1 ∙ same-feeder-number))
+        run-whole i x at ∙ run-last entries own rest i range
 
     emptied : (j : ℕ) (x : OnHeap) → get_elem? closed.cells j ≡ some x → dbuf_meanings.holds x ≡ []
     emptied = all-empty cache h.closing closed h.ends trace noted run-cells

@@ -1,10 +1,12 @@
 -- How the cells of a run end: the feeder ends them, while all other parties have joined it. And what they come to.
-use Rattle.std.specs.Prelude.{◌≡◌, ℕ, zero, suc, ◌<◌, ◌≤◌, ◌==◌, List, [], ◌∷◌, ◌++◌, Some, filter, length, map, slice_get, slice_index_or}
+use Rattle.std.specs.Prelude.{◌≡◌, ℕ, Bool, zero, suc, ◌<◌, ◌≤◌, ◌==◌, List, [], ◌∷◌, ◌++◌, Some, filter, length, map, slice_get, slice_index_or}
 use Rattle.std.specs.List.{AllByRecursion}
+use Rattle.blk_ptr.specs.Hash.{shard_of}
 use Rattle.blk_ptr.specs.declared.key.Key.{Key}
 use Rattle.arc_core.specs.declared.config.Config.{Config}
 use Rattle.arc_core.specs.declared.event.Event.{Event}
 use Rattle.arc_core.specs.declared.event.Event.TheVariants.{Drop}
+use Rattle.arc_core.specs.Replay.{replay}
 use Rattle.arc_core.specs.Operations.{Act, moments, number_of as number_of_event, own_moments}
 use Rattle.turn_table.specs.Places.{Place, kept as as_kept}
 use Rattle.arc_table.specs.declared.view.Known.{Known}
@@ -21,13 +23,15 @@ use Rattle.dbuf_cells.specs.Turns.{OnHeap, PartyPlace}
 use Rattle.dbuf_state.specs.History.{IsHistory}
 use Rattle.dbuf_state.specs.Numbers.{event_numbers, number_of, opening_numbers}
 use Rattle.dbuf_state.specs.Objects.{PlainCell}
-use Rattle.dbuf_state.specs.Outline.{OutlineDbuf, outline_after}
+use Rattle.dbuf_state.specs.Outline.{Outline, OutlineDbuf, outline_after}
 use Rattle.dbuf_state.specs.declared.event.CellEvent.{CellEvent}
 use Rattle.dbuf_state.specs.declared.event.CellEvent.TheVariants.{End}
+use Rattle.dbuf_state.specs.declared.oid.Oid.{Oid}
 use Rattle.dbuf_state.specs.declared.state.Mapping.{Mapping}
 use Rattle.trace_text.specs.declared.trace.Trace.{Trace}
 use Rattle.trace_run.specs.Deeds.{HasToldOthers, Noted, acts_of_events, events_of_cell, events_there, KeepsCells}
 use Rattle.trace_run.specs.KeptBlocks.{Stands}
+use Rattle.trace_run.specs.dbufs.Holders.{AreHolders, any_held}
 use Rattle.trace_run.specs.Making.{AreEventsSeen, AreNoEntries}
 use Rattle.trace_run.specs.Meeting.{HasSettled, HaveParted, IsLevel, SeesEntries}
 use Rattle.trace_run.specs.Openings.{Knows, opening_map}
@@ -50,23 +54,33 @@ pub record IsCellDrop (g : Config) (e : Event) : Type 0 where
 
 -- ---- what cells kept at their ends
 
--- A cell that began so, and to which this had been done, was ended then: for all that its dbufs kept a hold was dropped, or there was none.
-pub record DropsKept (g : Config) (i limit : ℕ) (opening : List Mapping) (front : List CellEvent) (drops : List Event) : Type 0 where
+-- A cell of this outline was ended then: of all that its dbufs kept, each hold was dropped. Of the dbufs that had one this is so.
+pub record DropsKept (g : Config) (i : ℕ) (o : Outline) (AreHeld : (Oid → Bool) → Type 0) (drops : List Event) : Type 0 where
+  pub held : Oid → Bool
+  pub are_held : AreHeld held
   pub kept : List OutlineDbuf
-  pub all : AreAllCached (outline_after limit opening front) kept
-  pub dropped : DropsEach (cell_number g i) kept drops
+  pub all : AreAllCached o kept
+  pub dropped : DropsEach (cell_number g i) held kept drops
 
--- The cell i was ended so by n, which has seen that as the last that was done to it.
-pub record SeesEnd (g : Config) (openings : List (List ℕ)) (seen : List (List Line)) (n i : ℕ) (drops : List Event) : Type 0 where
+-- which dbufs of the cell i have a hold, as the shards tell it with these histories
+abbrev pub holders_by : Config → (shards : ℕ → List Event) → (i : ℕ) → Outline → (Oid → Bool) → Type 0
+holders_by g shards i o = AreHolders (cell_number g i) o (λ k. replay (opening_of g) (shards (shard_of g.shards k)))
+
+-- these events of shards more
+abbrev pub with_more : Config → (shards : ℕ → List Event) → List Event → (shard : ℕ) → List Event
+with_more g shards es shard = shards shard ++ events_there g shard es
+
+-- The cell i was ended so by n, which has seen that as the last that was done to it. The shards had these histories then.
+pub record SeesEnd (g : Config) (openings : List (List ℕ)) (seen : List (List Line)) (shards : ℕ → List Event) (n i : ℕ) (drops : List Event) : Type 0 where
   pub before : OnHeap
   pub opening : opening_numbers before.value.limit before.value.opening ≡ slice_index_or openings i []
   pub last : front_of i seen ≡ map line.Entry (map event_numbers before.value.history) ++ end_entry n i
-  pub kept : DropsKept g i before.value.limit before.value.opening before.value.history drops
+  pub kept : DropsKept g i (outline_after before.value.limit before.value.opening before.value.history) (holders_by g shards i (outline_after before.value.limit before.value.opening before.value.history)) drops
 
 -- so many cells were, from this one on, one after the other
-abbrev pub SeesEnds : Config → (openings : List (List ℕ)) → (seen : List (List Line)) → (n i count : ℕ) → List Event → Type 0
-SeesEnds g openings seen n i zero es = es ≡ []
-SeesEnds g openings seen n i (suc count) es = (drops : List Event) × (rest : List Event) × (es ≡ drops ++ rest) × SeesEnd g openings seen n i drops × SeesEnds g openings seen n (suc i) count rest
+abbrev pub SeesEnds : Config → (openings : List (List ℕ)) → (seen : List (List Line)) → (shards : ℕ → List Event) → (n i count : ℕ) → List Event → Type 0
+SeesEnds g openings seen shards n i zero es = es ≡ []
+SeesEnds g openings seen shards n i (suc count) es = (drops : List Event) × (rest : List Event) × (es ≡ drops ++ rest) × SeesEnd g openings seen shards n i drops × SeesEnds g openings seen (with_more g shards drops) n (suc i) count rest
 
 module _ {C : Type 0} where
   -- What it comes to where nobody had done anything to a cell: no event of a shard was made, and the party has seen just its ends.
@@ -102,8 +116,11 @@ pub record EndedCells (cache : Cache) (p : PartyPlace) (olds : List PartyPlace) 
   pub one : (o : PartyPlace) → olds ≡ o ∷ [] → AreEventsSeen cache.config p.number p.own.mine o.own.seen
       → (shard : ℕ) → seen_of cache.config shard q ≡ seen_of cache.config shard o ++ events_there cache.config shard drops
   pub idle : AreNoEntries cache.config p.own.mine → AllByRecursion (λ o. AreNoEntries cache.config o.own.mine) olds → EndedIdle cache drops p q
+  -- what had been done to the shards before, by all of them: where they had seen the same, just that
+  pub front : ℕ → List Event
+  pub fronts : (before : ℕ → List Line) → IsLevel cache.config before p → AllByRecursion (IsLevel cache.config before) olds → (shard : ℕ) → front shard ≡ events_in (before shard)
   -- for each cell, all that it kept
-  pub kept : SeesEnds cache.config p.own.about.openings q.own.seen p.number 0 cache.config.cells drops
+  pub kept : SeesEnds cache.config p.own.about.openings q.own.seen front p.number 0 cache.config.cells drops
   -- each is a drop with a cell's number
   pub are : AllByRecursion (IsCellDrop cache.config) drops
   -- the feeder has settled all that it picked, where it had before
@@ -134,7 +151,8 @@ pub record HasSeenEnds (cache : Cache) (openings : List (List ℕ)) (p q : Party
   pub knows : Knows openings feeder
   pub feeder_stands : Stands cache feeder []
   -- for each cell, all that it kept
-  pub kept : SeesEnds cache.config openings feeder.own.seen cache.config.callers 0 cache.config.cells drops
+  pub front : ℕ → List Event
+  pub kept : SeesEnds cache.config openings feeder.own.seen front cache.config.callers 0 cache.config.cells drops
   -- where the caller had done nothing to a cell
   pub idle : AreNoEntries cache.config p.own.mine → (drops ≡ []) × AreNoEntries cache.config q.own.mine
       × ((i : ℕ) → IsCell cache.config i → front_of i feeder.own.seen ≡ end_entry cache.config.callers i)
@@ -164,11 +182,11 @@ pub record AreCellsOf (trace : Trace) (noted : ℕ → List Noted) (closed : End
   pub count : length closed.cells ≡ trace.config.cells
   pub each : (i : ℕ) (cell : OnHeap) → slice_get closed.cells i ≡ Some cell → IsCellOf trace noted i cell
 
--- The cell was ended by the feeder, behind this front of its history, and for all that it kept a hold was dropped, or there was none.
+-- The cell was ended by the feeder, behind this front of its history, and of all that it kept each hold was dropped.
 pub record EndedSo (g : Config) (i : ℕ) (cell : OnHeap) (drops : List Event) : Type 0 where
   pub front : List CellEvent
   pub history : cell.value.history ≡ front ++ End g.callers ∷ []
-  pub kept : DropsKept g i cell.value.limit cell.value.opening front drops
+  pub kept : DropsKept g i (outline_after cell.value.limit cell.value.opening front) any_held drops
 
 -- What each of these cells still kept was given back as it was ended, by rising cells and Oids, from the cell i on; and nothing else was.
 abbrev pub AreEndedSo : Config → (i : ℕ) → List OnHeap → List Event → Type 0

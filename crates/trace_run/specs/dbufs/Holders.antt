@@ -10,3 +10,7 @@ use Rattle.dbuf_state.specs.declared.oid.Oid.{Oid}
 pub record AreHolders (c : ℕ) (o : Outline) (shard : Key → PlainShard) (held : Oid → Bool) : Type 0 where
   pub of_held : (at : Oid) → held at ≡ true → (k : Key) × IsCachedAs at k o × (0 < count_of c k (shard k))
   pub of_key : (k : Key) → 0 < count_of c k (shard k) → (at : Oid) × (held at ≡ true) × IsCachedAs at k o
+
+-- whichever dbufs have one
+abbrev pub any_held : (Oid → Bool) → Type 0
+any_held held = Unit {0}

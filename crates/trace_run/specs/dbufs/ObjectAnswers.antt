@@ -11,8 +11,9 @@ use Rattle.dbuf_state.specs.declared.oid.Oid.{Oid}
 use Rattle.trace_run.specs.dbufs.CellEnds.{done_by}
 use Rattle.trace_run.specs.Deeds.{events_of_cell}
 use Rattle.trace_run.specs.Lines.{is_of_caller}
+use Rattle.trace_run.specs.dbufs.Holders.{any_held}
 use Rattle.trace_run.specs.dbufs.ObjectLines.{OnObject, TellsBrought, on_object}
-use Rattle.trace_run.specs.dbufs.ObjectReplies.{ActsFor, AnswersObject, BringsAt, any_held}
+use Rattle.trace_run.specs.dbufs.ObjectReplies.{ActsFor, AnswersObject, BringsAt}
 use Rattle.trace_run.specs.dbufs.Objects.{Line, own_event}
 use Rattle.trace_run.specs.RunWork.{lines_of_caller, lines_of_feeder}
 use Rattle.trace_run.specs.callers.Together.{ends_group}

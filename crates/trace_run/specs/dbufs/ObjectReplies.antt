@@ -26,6 +26,7 @@ use Rattle.trace_text.specs.declared.reply.Reply.{Reply}
 use Rattle.trace_text.specs.declared.reply.Reply.TheVariants as replies
 use Rattle.trace_run.specs.Answers.{IsReadRefusal}
 use Rattle.trace_run.specs.dbufs.CellEnds.{done_by}
+use Rattle.trace_run.specs.dbufs.Holders.{any_held}
 use Rattle.trace_run.specs.Deeds.{Noted, acts_of_events, events_of_cell, lines_of_cell, noted_in}
 use Rattle.trace_run.specs.dbufs.ObjectLines.{EndsInside, ReleasesFor, TellsBrought, WasToBring, cell_lines}
 use Rattle.trace_run.specs.dbufs.Objects.{AnswersKey, AnswersNoBlock, AnswersRange, Brought, Line, Loaded, NotesNothing, Nothing, OwnEvent, Refused, Work, held_once, loads_of, no_work, own_event}
@@ -146,10 +147,6 @@ ActsBy g n AreHeld own o work (replies.Fed report) = ⊥
 ActsBy g n AreHeld own o work replies.FedNone = ⊥
 ActsBy g n AreHeld own o work (replies.Synced group blocks bytes) = ⊥
 ActsBy g n AreHeld own o work (replies.Capped c) = ⊥
-
--- whichever dbufs had a hold
-abbrev pub any_held : (Oid → Bool) → Type 0
-any_held held = Unit {0}
 
 -- by the line's own event
 abbrev pub ActsFor : Config → (n : ℕ) → ((Oid → Bool) → Type 0) → Option OwnEvent → Outline → Work → Reply → Type 0

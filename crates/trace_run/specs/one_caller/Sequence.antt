@@ -1,6 +1,6 @@
 -- One caller's lines in sequence: what each finds of the shards, of the cells, of the pool and of the cache device, and what it leaves of them (arc_read, dmu_read, dmu_write, spa_sync and
 -- l2arc_feed_thread, for a single thread). Each finds all that the lines before it did, and nothing else.
-use Rattle.std.specs.Prelude.{◌≡◌, ◌≢◌, ℕ, suc, List, [], ◌∷◌, ◌++◌, Option, None, Some, IfSome, length, map, slice_get}
+use Rattle.std.specs.Prelude.{◌≡◌, ◌≢◌, ℕ, zero, suc, List, [], ◌∷◌, ◌++◌, Option, None, Some, IfSome, length, map, slice_get}
 use Rattle.std.specs.List.{AllByRecursion, range_with_len}
 use Rattle.blk_ptr.specs.Hash.{shard_of}
 use Rattle.blk_ptr.specs.declared.key.Key.{Key}
@@ -45,6 +45,7 @@ use Rattle.trace_run.specs.KeptBlocks.{held_in_shard}
 use Rattle.trace_run.specs.KeptReads.{KeptRead}
 use Rattle.trace_run.specs.Lines.{caller_of, shard_of_line}
 use Rattle.trace_run.specs.Meeting.{resizes_in}
+use Rattle.trace_run.specs.dbufs.CellEnds.{DropsKept, holders_by, with_more}
 use Rattle.trace_run.specs.dbufs.Holders.{AreHolders}
 use Rattle.trace_run.specs.dbufs.ObjectLines.{OnObject, TellsBrought, brought_there, events_of_access, events_of_bringing, on_object}
 use Rattle.trace_run.specs.dbufs.ObjectReplies.{ActsFor, AnswersObject, BringsAt}
@@ -253,7 +254,14 @@ module _ {P D : Type 0} (pools : Ghosts P) (devices : Devices D) (trace : Trace)
 
 -- ---- the close
 
+-- Of so many cells of these outlines, from the cell i on, each hold was dropped, of one cell after the other. Which keys a cell held, the shards tell, which had these histories before.
+abbrev pub GivesAllKept : Config → (outlines : ℕ → Outline) → (shards : ℕ → List Event) → (i count : ℕ) → List Event → Type 0
+GivesAllKept g outlines shards i zero es = es ≡ []
+GivesAllKept g outlines shards i (suc count) es = (drops : List Event) × (rest : List Event) × (es ≡ drops ++ rest) × DropsKept g i (outlines i) (holders_by g shards i (outlines i)) drops
+    × GivesAllKept g outlines (with_more g shards drops) (suc i) count rest
+
 -- Behind them the caller's kept reads are dropped, the oldest first, and then what cells keep, which are these drops; then each cell is ended. That is all of the histories.
 pub record ClosesThere {P D : Type 0} (trace : Trace) (at : BetweenLines P D) (ended : List Event) (closed : List OnHeap) (histories : List (List Event)) : Type 0 where
   pub shards : histories ≡ map (λ (shard : ℕ). (at.shards shard ++ events_of_drops 0 (held_in_shard trace.config shard at.kept)) ++ events_there trace.config shard ended) (range_with_len 0 trace.config.shards)
+  pub gives : GivesAllKept trace.config (outline_behind trace at.cells) (λ shard. at.shards shard ++ events_of_drops 0 (held_in_shard trace.config shard at.kept)) 0 trace.config.cells ended
   pub cells : (i : ℕ) (cell : OnHeap) → slice_get closed i ≡ Some cell → cell.value.history ≡ at.cells i ++ End trace.config.callers ∷ []
