@@ -29,8 +29,13 @@ use Rattle.arc_table.specs.pact.Attached.{IsShown}
 use Rattle.arc_table.specs.pact.Logged.{HasPlace, IsSoundItem}
 use Rattle.arc_table.specs.pact.Rule.{Pact}
 use Rattle.arc_table.specs.pact.Scene.{Scene}
-use Rattle.arc_table.proofs.SeenLemmas.{events-map, get-behind, none-there}
+use Rattle.arc_table.proofs.SeenLemmas.{events-map, get-behind}
 use Rattle.dbuf_cells.specs.Turns.{OnHeap, PartyPlace, dbuf_meanings, holds_of}
+
+-- a list of which no item is the first has none
+none-there : {X : Type 0} (xs : List X) → ((x : X) → get_elem? xs 0 ≡ some x → ⊥) → xs ≡ []
+none-there [] none = refl
+none-there (x ∷ xs) none = absurd (none x refl)
 
 -- entries of a cell are no events
 no-events : (es : List (List ℕ)) → events_in (map line.Entry es) ≡ []
