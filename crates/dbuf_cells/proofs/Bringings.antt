@@ -157,6 +157,7 @@ module _ {P D : Type 0} (pools : PoolGhosts P) (devices : DeviceGhosts D) (cache
     number = refl;
     held = free;
     claimed = claimed;
+    holds = λ b. refl;
     others = λ j far. refl;
     cached = cached;
     mapped = refl;
@@ -229,6 +230,7 @@ module _ {P D : Type 0} (pools : PoolGhosts P) (devices : DeviceGhosts D) (cache
             number = number;
             held = back-free (Ok read) a;
             claimed = kept-claimed read a result r e;
+            holds = e.held;
             others = back-else (Ok read) a;
             cached = loaded-cached at ptr result.value.dbufs e.kept.there;
             mapped = mapped-clean at ptr result.value.dbufs (loaded-clean at ptr result.value.dbufs e.kept.there) ∙ sym to.pointer;

@@ -47,15 +47,16 @@ use Rattle.dbuf_state.proofs.FitLemmas.{all-found, from-has}
 use Rattle.dbuf_state.proofs.HandLemmas.{claims-stay, holds-stay-by-note, rest-stays}
 use Rattle.dbuf_state.proofs.IndexLemmas.{and-both, bool_cases}
 use Rattle.dbuf_state.proofs.StepLemmas.{load-follows}
-use Rattle.dbuf_cells.specs.Bringing.{DropsRead, handed}
+use Rattle.dbuf_cells.specs.Bringing.{DropsRead, handed, is_some_made}
 use Rattle.dbuf_cells.specs.InHand.{AsTaken, HasDone, HasTaken, InHand, IsRoomier}
 use Rattle.dbuf_cells.specs.Kept.{bytes_of, is_held, key_of}
-use Rattle.dbuf_cells.specs.Loading.{HandsOn, HasUnread, IsBroughtBy, IsLoaded, IsReadOf, Keeps, SomeTaken}
-use Rattle.dbuf_cells.specs.Turns.{OnHeap, PartyPlace, dbuf_meanings, holds_of}
+use Rattle.dbuf_cells.specs.Loading.{AreHeldBut, HandsOn, HasUnread, IsBroughtBy, IsLoaded, IsReadOf, Keeps, SomeTaken}
+use Rattle.dbuf_cells.specs.Turns.{OnHeap, PartyPlace, dbuf_meanings, held_at, holds_of}
 use Rattle.dbuf_cells.specs.declared.kept.Kept.{Kept}
 use Rattle.dbuf_cells.specs.declared.kept.Kept.TheVariants.{Held, Loose}
 use Rattle.dbuf_cells.proofs.CellSteps.{done-more}
 use Rattle.dbuf_cells.proofs.Evictions.{has-of, is-dbuf}
+use Rattle.dbuf_cells.proofs.Holders.{held-touched, held-with}
 use Rattle.dbuf_cells.proofs.HoldLists.{first-or-later, one-more}
 use Rattle.dbuf_cells.proofs.Loads.{cached-claim, others-mark, put-among, put-count, is-reading, is-unread, reads-nothing, unmarked-as}
 use Rattle.dbuf_cells.proofs.Operations.{as-taken-room, plain-test}
@@ -305,3 +306,21 @@ module _ (g : Config) (ptr : Ptr) (p : PartyPlace) (read : Read) (hold : Hold) (
 
   pub drops-held : (q : PartyPlace) → Does dbuf_meanings g hold.key (Drop hold.owner hold.key ∷ []) p q → DropsRead g read p q
   drops-held q d = subst (λ (x : Read). DropsRead g x p q) (sym is) (subst (λ (n : ℕ). Does dbuf_meanings g hold.key (Drop n hold.key ∷ []) p q) held-own d)
+
+-- ---- which dbufs keep a hold then
+
+-- a hold that is handed on is kept as one
+kept-as-hand : (g : Config) (i n : ℕ) (ptr : Ptr) (read : Read) (q r : PartyPlace) (k : Kept) → HandsOn g i ptr read q r (Ok k) → is_held k ≡ is_some_made (handed n (cell_number g i) read)
+kept-as-hand g i n ptr (gave.Held hold from) q r (Held back) hands = refl
+kept-as-hand g i n ptr (gave.Held hold from) q r (Loose key block) hands = absurd hands
+kept-as-hand g i n ptr (gave.Past shared digest) q r (Held back) hands = absurd hands
+kept-as-hand g i n ptr (gave.Past shared digest) q r (Loose key block) hands = refl
+
+pub kept-held : (g : Config) (i : ℕ) (at : Oid) (ptr : Ptr) (q r : PartyPlace) (old roomy : CellLog Kept) → IsRoomier old roomy → IsBroughtBy q.number at ptr old.dbufs → (read : Read) (k : Kept) (n : ℕ) (kept now : CellLog Kept)
+    → HandsOn g i ptr read q r (Ok k) → kept ≡ record roomy { dbufs = with_dbuf at (cached_with k) roomy.dbufs } → now ≡ noted (Load n at) kept → AreHeldBut at (is_some_made (handed q.number (cell_number g i) read)) old.dbufs now.dbufs
+kept-held g i at ptr q r old roomy log brought read k n kept now hands one two b =
+    ap (λ (x : CellLog Kept). held_at x.dbufs b) (two ∙ ap (noted (Load n at)) one)
+    ∙ (held-touched (length roomy.history + 1) (Some at) (with_dbuf at (cached_with k) roomy.dbufs) b
+    ∙ (ap (λ (x : CellLog Kept). held_at (with_dbuf at (cached_with k) x.dbufs) b) log
+    ∙ (held-with (λ d. (d.content ≡ Clean ptr) × (d.state ≡ state.Read q.number)) at k old.dbufs brought b
+    ∙ ap (λ (h : Bool). if oid_eq at b then h else held_at old.dbufs b) (kept-as-hand g i q.number ptr read q r k hands))))

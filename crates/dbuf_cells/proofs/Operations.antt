@@ -9,7 +9,7 @@ use Rattle.arc_table.specs.Geometry.{cell_number}
 use Rattle.arc_table.specs.Giving.{AreHolds}
 use Rattle.blk_ptr.specs.declared.ptr.Ptr.{Ptr}
 use Rattle.dbuf_state.specs.CellLog.{CellLog, noted}
-use Rattle.dbuf_state.specs.Dbufs.{dbuf_at, dbuf_is, is_passing, plain_dbuf, standing_of, unpinned_by, with_dbuf}
+use Rattle.dbuf_state.specs.Dbufs.{dbuf_at, dbuf_is, is_cached, is_clean_in, is_passing, plain_dbuf, standing_of, unpinned_by, with_dbuf}
 use Rattle.dbuf_state.specs.InHand.{are_at_rest}
 use Rattle.dbuf_state.specs.Numbers.{claims_in, number_of}
 use Rattle.dbuf_state.specs.Objects.{Evicting, IsBase, IsLegal, Must, PlainDbuf, evicting_after, is_due, must_evict, use_of}
@@ -31,9 +31,10 @@ use Rattle.dbuf_state.proofs.OutlineLemmas.{cell-is-in-outline, leads-outline}
 use Rattle.dbuf_state.proofs.StepLemmas.{unpin-follows}
 use Rattle.dbuf_cells.specs.InHand.{AsTaken, HasFinished, InHand}
 use Rattle.dbuf_cells.specs.Kept.{bytes_of, is_held, key_of}
-use Rattle.dbuf_cells.specs.Turns.{AreEvictions, OnHeap, Operates, PartyPlace, outline_in}
+use Rattle.dbuf_cells.specs.Turns.{AreEvictions, OnHeap, Operates, PartyPlace, held_at, outline_in}
 use Rattle.dbuf_cells.specs.declared.kept.Kept.{Kept}
 use Rattle.dbuf_cells.proofs.CellSteps.{done-more, done-roomier}
+use Rattle.dbuf_cells.proofs.Holders.{evictions-held}
 
 -- ---- outlines that differ in what may be evicted alone
 
@@ -41,18 +42,19 @@ pub after-alike : (o a : Outline) (es : List CellEvent) → a.dbufs ≡ o.dbufs 
 after-alike o a [] ds ev = (ds, ev)
 after-alike o a (e ∷ es) ds ev = after-alike (after o e) (after a e) es (λ z. outline.touched (ev z + 1) (use_of e) (effect (ds z) e)) (λ z. ev z + 1)
 
-evictions-alike : (n c : ℕ) (o a : Outline) (evs : List CellEvent) (es : List Event) → a.dbufs ≡ o.dbufs → a.events ≡ o.events → AreEvictions n c o evs es → AreEvictions n c a evs es
-evictions-alike n c o a [] es ds ev are = are
-evictions-alike n c o a (e ∷ evs) es ds ev are = (
+evictions-alike : (n c : ℕ) (held : Oid → Bool) (o a : Outline) (evs : List CellEvent) (es : List Event) → a.dbufs ≡ o.dbufs → a.events ≡ o.events → AreEvictions n c held o evs es → AreEvictions n c held a evs es
+evictions-alike n c held o a [] es ds ev are = are
+evictions-alike n c held o a (e ∷ evs) es ds ev are = (
   are.0,
   are.1,
   are.2,
   are.3,
   are.4,
   ap (λ (l : List OutlineDbuf). option_map (λ (d : OutlineDbuf). d.mapped) (item_at outline.dbuf_oid are.0 l)) ds ∙ are.5,
-  are.6,
+  ap (λ (l : List OutlineDbuf). option_map_or (λ (d : OutlineDbuf). d.cached) (item_at outline.dbuf_oid are.0 l) false) ds ∙ are.6,
   are.7,
-  evictions-alike n c (after o e) (after a e) evs are.3 (λ z. outline.touched (ev z + 1) (use_of e) (effect (ds z) e)) (λ z. ev z + 1) are.8,
+  are.8,
+  evictions-alike n c held (after o e) (after a e) evs are.3 (λ z. outline.touched (ev z + 1) (use_of e) (effect (ds z) e)) (λ z. ev z + 1) are.9,
 )
 
 -- ---- more room
@@ -78,18 +80,19 @@ module _ (cache : Cache) (i : ℕ) (p : PartyPlace) (before : OnHeap) (evicting 
   pub hand-room : (c : CellLog Kept) → c ≡ record now { dbuf_room = c.dbuf_room; event_room = c.event_room } → InHand cache i p before evicting news es c q
   hand-room c is = subst (λ (x : CellLog Kept). InHand cache i p before evicting news es x q) (sym is) (hand-roomier c.dbuf_room c.event_room)
 
-  -- what was evicted goes on from the operation's events
-  pub operates : (r : PartyPlace) → HasFinished cache i p before evicting news es now q r → Operates cache.config i before news es p r
-  operates r f =
+  -- what was evicted goes on from the operation's events, by each function that says of what is cached which dbufs keep a hold
+  pub operates : (held : Oid → Bool) → ((b : Oid) → dbuf_is (is_clean_in is_cached) b now.dbufs ≡ true → held_at now.dbufs b ≡ held b) → (r : PartyPlace) → HasFinished cache i p before evicting news es now q r → Operates cache.config i before held news es p r
+  operates held stay r f =
       let told = leads-outline (plain_cell h.cell.sound.evicting before.value) news h.cell.bases (plain_cell evicting now) h.cell.leads in
       let same = after-alike (outline_of (plain_cell h.cell.sound.evicting before.value)) (outline_in before) news refl refl in
       record {
         evictions = f.evictions;
         drops = f.drops;
         turn = f.given.turn;
-        evicted = subst (λ (n : ℕ). AreEvictions n (cell_number cache.config i) (after_all (outline_in before) news) f.evictions f.drops) h.party.number
-            (evictions-alike q.number (cell_number cache.config i) (after_all (outline_of (plain_cell h.cell.sound.evicting before.value)) news) (after_all (outline_in before) news) f.evictions f.drops same.0 same.1
-            (subst (λ (o : Outline). AreEvictions q.number (cell_number cache.config i) o f.evictions f.drops) told f.evicted));
+        evicted = subst (λ (n : ℕ). AreEvictions n (cell_number cache.config i) held (after_all (outline_in before) news) f.evictions f.drops) h.party.number
+            (evictions-alike q.number (cell_number cache.config i) held (after_all (outline_of (plain_cell h.cell.sound.evicting before.value)) news) (after_all (outline_in before) news) f.evictions f.drops same.0 same.1
+            (subst (λ (o : Outline). AreEvictions q.number (cell_number cache.config i) held o f.evictions f.drops) told
+            (evictions-held q.number (cell_number cache.config i) (held_at now.dbufs) held (outline_of (plain_cell evicting now)) f.evictions f.drops (λ b on. stay b ((cell-is-in-outline evicting now b).cached ∙ on)) f.evicted)));
       }
 
 -- ---- what is not due

@@ -236,8 +236,8 @@ pub record Notes (n : ℕ) (e : CellEvent) (old new : CellLog Kept) : Type 0 whe
   pub stay : HoldsStay roomy.dbufs dbufs
 
 -- in the turn in which these things were done, the event was made too, and evictions, and the cell was given back
-pub record HasOperated (cache : Cache) (i : ℕ) (p : PartyPlace) (before : OnHeap) (held : Oid → Bool) (news : List CellEvent) (es : List Event) (r : PartyPlace) : Type 0 where
-  pub operates : Operates cache.config i before held news es p r
+pub record HasOperated (cache : Cache) (i : ℕ) (p : PartyPlace) (before : OnHeap) (holding : Oid → Bool) (news : List CellEvent) (es : List Event) (r : PartyPlace) : Type 0 where
+  pub operates : Operates cache.config i before holding news es p r
   pub party : IsPartyOf cache r
   pub held : r.held ≡ p.held
   pub number : r.number ≡ p.number

@@ -1,5 +1,5 @@
 -- What `patch` answers, and what is so on the way.
-use Rattle.std.specs.Prelude.{◌≡◌, ◌≢◌, ℕ, ◌+◌, ◌≤◌, Bool, not, IsTrue, List, [], ◌∷◌, ◌++◌, length, Option, Some, IfNone, IfSome, Result, Ok, Err}
+use Rattle.std.specs.Prelude.{◌≡◌, ◌≢◌, ℕ, ◌+◌, ◌≤◌, Bool, false, not, IsTrue, List, [], ◌∷◌, ◌++◌, length, Option, Some, IfNone, IfSome, Result, Ok, Err}
 use Rattle.blk_ptr.specs.Key.{IsFirstKeyFault}
 use Rattle.blk_ptr.specs.Size.{IsBlockSize}
 use Rattle.blk_ptr.specs.declared.ptr.Ptr.{Ptr}
@@ -58,6 +58,7 @@ pub record TakesOver (at : Oid) (kept : Option Kept) (old new : CellLog Kept) : 
   pub of : IfSome kept (λ k. DbufHas (λ d. IsOfContent key_of bytes_of k d.content) (dbuf_at at old.dbufs))
   pub same : IfNone kept (new ≡ old)
   pub dirty : IfNone kept (IsTrue (dbuf_is is_dirty at old.dbufs))
+  pub loose : IfNone kept (held_at old.dbufs at ≡ false)
 
 -- n wrote over a part of the block, and that is noted
 pub record IsPatched (n : ℕ) (at : Oid) (from : ℕ) (bytes : List ℕ) (kept : Option Kept) (old new : CellLog Kept) : Type 0 where
@@ -69,10 +70,10 @@ pub record IsPatched (n : ℕ) (at : Oid) (from : ℕ) (bytes : List ℕ) (kept 
   pub noted_is : new ≡ noted (Patch n at from bytes) (record owned { dbufs = with_dbuf at (written_at from bytes) owned.dbufs })
 
 -- in the turn in which these things were done, the part was written, what was kept released, and dbufs evicted, and the cell was given back
-pub record HasPatched (cache : Cache) (i : ℕ) (at : Oid) (from : ℕ) (bytes : List ℕ) (n : ℕ) (p : PartyPlace) (before : OnHeap) (held : Oid → Bool) (news : List CellEvent) (es : List Event) (r : PartyPlace) : Type 0 where
+pub record HasPatched (cache : Cache) (i : ℕ) (at : Oid) (from : ℕ) (bytes : List ℕ) (n : ℕ) (p : PartyPlace) (before : OnHeap) (holding : Oid → Bool) (news : List CellEvent) (es : List Event) (r : PartyPlace) : Type 0 where
   pub released : List Event
-  pub releases : Releases (cell_number cache.config i) at (held at) (after_all (outline_in before) news) released
-  pub operates : Operates cache.config i before held (news ++ Patch n at from bytes ∷ []) (es ++ released) p r
+  pub releases : Releases (cell_number cache.config i) at (holding at) (after_all (outline_in before) news) released
+  pub operates : Operates cache.config i before holding (news ++ Patch n at from bytes ∷ []) (es ++ released) p r
   pub party : IsPartyOf cache r
   pub held : r.held ≡ p.held
   pub number : r.number ≡ p.number
