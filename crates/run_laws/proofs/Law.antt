@@ -1,11 +1,10 @@
 -- Two runs of one trace by one caller come to the same, or they may part: all lines, the sync that stopped, and the close.
-use Rattle.std.proofs.Common.{◌≡◌, ℕ, zero, suc, List, [], ◌∷◌, ◌++◌, length, Option, None, Some, refl, sym, ap, ◌∙◌, subst, inl, inr, arith}
+use Rattle.std.proofs.Common.{◌≡◌, ℕ, zero, suc, List, [], ◌∷◌, ◌++◌, length, take, Option, None, Some, refl, sym, ap, ◌∙◌, subst, inl, inr, append-nil, arith}
 use Rattle.std.specs.Prelude.{◌⊎◌, slice_get}
 use Rattle.std.proofs.lemmas.Option.{slice_get_within}
-use Rattle.blk_ptr.specs.declared.ptr.Ptr.{Ptr}
-use Rattle.arc_core.specs.declared.served.Served.{Served}
-use Rattle.arc_core.specs.declared.served.Served.TheVariants as served
-use Rattle.dbuf_cells.specs.Turns.{OnHeap}
+use Rattle.arc_table.specs.Geometry.{IsCell}
+use Rattle.dbuf_state.specs.Outline.{outline_after}
+use Rattle.dbuf_state.specs.declared.event.CellEvent.{CellEvent}
 use Rattle.vdev_io.specs.Calls.{Call}
 use Rattle.vdev_io.specs.declared.device.CacheDev.{Ghosts as Devices}
 use Rattle.vdev_io.specs.declared.pool.Pool.{Ghosts}
@@ -16,16 +15,19 @@ use Rattle.trace_text.specs.declared.reply.Reply.{Reply}
 use Rattle.trace_text.specs.declared.trace.Trace.{Trace}
 use Rattle.trace_run.specs.declared.ran.Ending.{Ending}
 use Rattle.trace_run.specs.declared.ran.Ending.TheVariants.{Fork, Full, Sync, Whole}
+use Rattle.trace_run.specs.Deeds.{events_of_cell}
 use Rattle.trace_run.specs.Lines.{caller_of}
+use Rattle.trace_run.specs.Openings.{opening_map}
 use Rattle.trace_run.specs.RunWork.{FitsBy, IsSyncWork}
 use Rattle.trace_run.specs.callers.Together.{StopsAtSync}
 use Rattle.trace_run.specs.callers.WorkLines.{IsWorkOf}
-use Rattle.trace_run.specs.dbufs.Objects.{Brought, Line, Loaded, Nothing, Refused, ops_of}
-use Rattle.trace_run.specs.one_caller.Sequence.{BetweenLines, DoesAnyLine, DoesSync, EndsThere}
+use Rattle.trace_run.specs.dbufs.Objects.{Line, Work, ops_of}
+use Rattle.trace_run.specs.one_caller.Sequence.{BetweenLines, DoesAnyLine, DoesSync, EndsThere, outline_behind}
 use Rattle.trace_run.proofs.callers.GroupLists.{some-same}
-use Rattle.run_laws.specs.Alike.{AreAlikeSoFar, BeginAlike, ComeToTheSame, FailAlike, MayPart, OneRun, ReadsPast, answers_at_stop, at_stop, begun, past as may_past, pool_answers_to}
-use Rattle.run_laws.proofs.Closing.{EndAlike, close-alike, closed-same}
-use Rattle.run_laws.proofs.Facts.{AreCachedValid, AreSettled, GivesUpAll, OfEachLine}
+use Rattle.run_laws.specs.Alike.{AreAlikeSoFar, BeginAlike, ComeToTheSame, FailAlike, MayPart, OneRun, SameUpTo, SharesKey, answers_at_stop, at_stop, before_close as shares_before_close, begun, done_to, front_at, front_last, pool_answers_to, shares as may_share}
+use Rattle.run_laws.proofs.Closing.{EndAlike, close-alike}
+use Rattle.run_laws.proofs.EndedOrder.{SomeShares, drops-or}
+use Rattle.run_laws.proofs.Facts.{AreCachedValid, AreSettled, OfEachLine}
 use Rattle.run_laws.proofs.LinesAlike.{Caps, ComeTo, Feeds, GoesFurther, Kind, Objects, Reads, StepsAlike, Syncs, Together, kind_of, one_further, other_further, parted, together}
 use Rattle.run_laws.proofs.Parting.{parts-may, replays-part, same-there}
 use Rattle.run_laws.proofs.Runs.{its-replies, many-replies, ops-front, runs-come, whole-lines}
@@ -34,45 +36,6 @@ use Rattle.run_laws.proofs.StepKinds.{caps-steps, feeds-steps, reads-steps, unfe
 use Rattle.run_laws.proofs.StopStep.{StopAlike, stop-step, stops-first}
 use Rattle.run_laws.proofs.SyncCells.{CollidesIn}
 use Rattle.run_laws.proofs.SyncStep.{sync-step}
-
--- ---- reads past the cache
-
--- the line read its block past the cache
-abbrev IsPast : Line → Type 0
-IsPast l = (ptr : Ptr) × (l.work.brought ≡ Loaded ptr served.Past)
-
-served-past : (ptr : Ptr) (from : Served) → ((q : Ptr) × (Loaded ptr from ≡ Loaded q served.Past)) ⊎ (((q : Ptr) × (Loaded ptr from ≡ Loaded q served.Past)) → ⊥)
-served-past ptr served.Past = inl (ptr, refl)
-served-past ptr served.Hit = inr (λ is. let same : Loaded ptr served.Hit ≡ Loaded is.0 served.Past = is.1 in cc)
-served-past ptr served.Pool = inr (λ is. let same : Loaded ptr served.Pool ≡ Loaded is.0 served.Past = is.1 in cc)
-served-past ptr served.L2 = inr (λ is. let same : Loaded ptr served.L2 ≡ Loaded is.0 served.Past = is.1 in cc)
-
-brought-past : (brought : Brought) → ((q : Ptr) × (brought ≡ Loaded q served.Past)) ⊎ (((q : Ptr) × (brought ≡ Loaded q served.Past)) → ⊥)
-brought-past (Loaded ptr from) = served-past ptr from
-brought-past Nothing = inr (λ is. let same : Nothing ≡ Loaded is.0 served.Past = is.1 in cc)
-brought-past (Refused ptr) = inr (λ is. let same : Refused ptr ≡ Loaded is.0 served.Past = is.1 in cc)
-
-past-behind : (l : Line) (ls : List Line) → ReadsPast ls → ReadsPast (l ∷ ls)
-past-behind l ls p = record { place = suc p.place; line = p.line; at = p.at; ptr = p.ptr; past = p.past }
-
--- behind a line that did not, one of those behind it did
-past-further : (l : Line) (ls : List Line) → (IsPast l → ⊥) → ReadsPast (l ∷ ls) → ReadsPast ls
-past-further l ls none p = go p.place p.at
-  where
-    go : (k : ℕ) → slice_get (l ∷ ls) k ≡ Some p.line → ReadsPast ls
-    go zero at = let same : l ≡ p.line = some-same l p.line at in absurd (none (p.ptr, ap (λ (x : Line). x.work.brought) same ∙ p.past))
-    go (suc k) at = record { place = k; line = p.line; at = at; ptr = p.ptr; past = p.past }
-
--- some line did, or none
-past-or-none : (ls : List Line) → ReadsPast ls ⊎ (ReadsPast ls → ⊥)
-past-or-none [] = inr (λ p. let clash : ◌≡◌ {A = Option Line} None (Some p.line) = p.at in cc)
-past-or-none (l ∷ ls) = elim (brought-past l.work.brought) [
-  | inl here ↦ inl (record { place = 0; line = l; at = refl; ptr = here.0; past = here.1 })
-  | inr none ↦ (elim (past-or-none ls) [
-    | inl more ↦ inl (past-behind l ls more)
-    | inr never ↦ inr (λ p. never (past-further l ls none p))
-  ])
-]
 
 -- ---- places of lines
 
@@ -99,15 +62,30 @@ IsSyncLine (ops.Unpin n at) = ⊥
 IsSyncLine ops.Feed = ⊥
 IsSyncLine (ops.Cap c) = ⊥
 
+take-whole : {X : Type 0} (xs : List X) → take (length xs) xs ≡ xs
+take-whole [] = refl
+take-whole (x ∷ xs) = ap (λ (l : List _). x ∷ l) (take-whole xs)
+
+-- the front before the place behind all lines is what all did
+front-whole : (ls : List Line) (i : ℕ) → front_at ls (length ls) i ≡ done_to i ls
+front-whole ls i = ap (done_to i) (take-whole ls)
+
 module _ {P D : Type 0} (pools : Ghosts P) (devices : Devices D) (trace : Trace) where
-  -- What is known of a line of one run by itself: its work fits it; no eviction is left over before it and behind it; each block that is cached has a valid key; for each that the line lets go it gives up a hold; and what was done to each
-  -- shard by then was legal.
+  -- what a sync that stopped did to a cell, or nothing
+  ends-notes : (replies : List Reply) (work : Work) (ending : Ending) (from : BetweenLines P D) (after : P) (to : BetweenLines P D) → EndsThere pools devices trace replies work ending from after to → (i : ℕ) → IsCell trace.config i
+      → to.cells i ≡ from.cells i ++ events_of_cell i work.noted
+  ends-notes replies work Whole from after to ends i is_cell =
+      ap (λ (at : BetweenLines P D). at.cells i) ends.2 ∙ (sym (append-nil (from.cells i)) ∙ ap (λ (w : Work). from.cells i ++ events_of_cell i w.noted) (sym ends.0))
+  ends-notes replies work Fork from after to ends i is_cell = absurd ends
+  ends-notes replies work Sync from after to ends i is_cell = ends.leaves.goes_on.cells i is_cell
+  ends-notes replies work (Full need left) from after to ends i is_cell = ends.leaves.goes_on.cells i is_cell
+
+  -- What is known of a line of one run by itself: its work fits it; no eviction is left over before it and behind it; each block that is cached has a valid key; and what was done to each shard by then was legal.
   pub record IsKnown (l : Line) (from to : BetweenLines P D) : Type 0 where
     pub fits : FitsBy trace.config (caller_of l.op) l
     pub settled : AreSettled trace from.cells
     pub then_settled : AreSettled trace to.cells
     pub valid : AreCachedValid trace (pools.size from.outside.pool) from.cells
-    pub gives_up : GivesUpAll trace l from.cells
     pub own : (n : ℕ) → caller_of l.op ≡ Some n → IsWorkOf trace.config 0 l
     pub legal : AreLegalShards trace to.shards
 
@@ -117,16 +95,10 @@ module _ {P D : Type 0} (pools : Ghosts P) (devices : Devices D) (trace : Trace)
 
   -- ---- what others show
 
-  -- what cells give back as they end is one
-  abbrev pub DropsAlike : Type 0
-  DropsAlike = (one other : OneRun pools devices trace) (image : List ℕ) → pools.told one.before ≡ Some image → pools.told other.before ≡ Some image → (ReadsPast one.run.work.lines → ⊥) → (ReadsPast other.run.work.lines → ⊥)
-      → ((i : ℕ) (cell there : OnHeap) → slice_get one.closed.cells i ≡ Some cell → slice_get other.closed.cells i ≡ Some there → there.value.history ≡ cell.value.history) → other.run.work.ended ≡ one.run.work.ended
-
-  -- the step of lines on objects, what is known of each run by itself, and the order of the drops at the close
+  -- the step of lines on objects, and what is known of each run by itself
   pub record IsShown : Type 0 where
     pub objects : StepsAlike pools devices trace IsKnown Objects
-    pub known : (run : OneRun pools devices trace) (image : List ℕ) → pools.told run.before ≡ Some image → (ReadsPast run.run.work.lines → ⊥) → AllKnown run
-    pub drops : DropsAlike
+    pub known : (run : OneRun pools devices trace) (image : List ℕ) → pools.told run.before ≡ Some image → AllKnown run
 
 module _ {P D : Type 0} (pools : Ghosts P) (devices : Devices D) (pool_len : (p : P) (bytes : List ℕ) → pools.told p ≡ Some bytes → length bytes ≡ pools.size p) (trace : Trace) where
   -- ---- a sync is a step
@@ -202,7 +174,7 @@ module _ {P D : Type 0} (pools : Ghosts P) (devices : Devices D) (pool_len : (p 
     known-steps Syncs = syncs-steps
     known-steps Caps = caps-steps pools devices pool_len trace (IsKnown pools devices trace) (λ l from to known. known.fits)
 
-    module _ (one other : OneRun pools devices trace) (begin : BeginAlike pools devices trace one other) (none : ReadsPast one.run.work.lines → ⊥) (other_none : ReadsPast other.run.work.lines → ⊥) where
+    module _ (one other : OneRun pools devices trace) (begin : BeginAlike pools devices trace one other) where
       abbrev SameOrParts : Type 0
       SameOrParts = ComeToTheSame pools devices trace one other ⊎ MayPart pools devices trace one other
 
@@ -225,19 +197,50 @@ module _ {P D : Type 0} (pools : Ghosts P) (devices : Devices D) (pool_len : (p 
         lines-many : length one.run.work.lines ≡ length other.run.work.lines
         lines-many = sym (many-replies pools devices trace one) ∙ (sym (ap (λ (rs : List Reply). length rs) replies-same) ∙ many-replies pools devices trace other)
 
-        last-same : StopsSame → EndAlike pools devices trace one other
-        last-same last = record {
+        last-same : StopsSame → other.run.work.ended ≡ one.run.work.ended → EndAlike pools devices trace one other
+        last-same last dropped = record {
           shards = last.shards;
           cells = last.cells;
           kept = last.kept;
           ending = last.ends;
           replies = replies-same;
-          dropped = shown.drops one other begin.image begin.told begin.other_told none other_none (closed-same pools devices trace one other last.cells);
+          dropped = dropped;
         }
+
+        -- what stands behind all that both did before the close is what the lines and the sync that stopped did
+        before-close : SameUpTo trace one.run.work.lines other.run.work.lines (length one.run.work.lines)
+        before-close = same-there pools devices trace one other (length one.run.work.lines) one.in_turn.reached.cells t.there
+
+        last-is : (i : ℕ) → IsCell trace.config i → one.in_turn.last_line.cells i ≡ front_last one.run.work.lines one.run.work.stopped i
+        last-is i is_cell = ends-notes pools devices trace one.report.replies one.run.work.stopped one.ending one.in_turn.reached one.after one.in_turn.last_line one.in_turn.ended i is_cell
+            ∙ ap (λ (es : List CellEvent). es ++ events_of_cell i one.run.work.stopped.noted) (t.there.did i is_cell ∙ front-whole one.run.work.lines i)
+
+        other-last-is : (i : ℕ) → IsCell trace.config i → other.in_turn.last_line.cells i ≡ front_last other.run.work.lines other.run.work.stopped i
+        other-last-is i is_cell = ends-notes pools devices trace one.report.replies other.run.work.stopped other.ending other.in_turn.reached other.after other.in_turn.last_line other-ends i is_cell
+            ∙ ap (λ (es : List CellEvent). es ++ events_of_cell i other.run.work.stopped.noted)
+            (t.then.cells i is_cell ∙ (t.there.other_did i is_cell ∙ (ap (λ (n : ℕ). front_at other.run.work.lines n i) lines-many ∙ front-whole other.run.work.lines i)))
+
+        last-both : StopsSame → (i : ℕ) → IsCell trace.config i → front_last other.run.work.lines other.run.work.stopped i ≡ front_last one.run.work.lines one.run.work.stopped i
+        last-both last i is_cell = sym (other-last-is i is_cell) ∙ (last.cells i is_cell ∙ last-is i is_cell)
+
+        shares-last : StopsSame → SomeShares trace formed.apart one.in_turn.last_line.cells → MayPart pools devices trace one other
+        shares-last last s =
+            let both : SharesKey (outline_behind trace (front_last one.run.work.lines one.run.work.stopped) s.0)
+            = subst (λ (es : List CellEvent). SharesKey (outline_after trace.config.dbuf_bytes (opening_map trace s.0) es)) (last-is s.0 s.1) s.2 in
+            may_share (shares_before_close before-close (sym lines-many) (last-both last) s.0 s.1 both)
+
+        close-or : StopsSame → (other.run.work.ended ≡ one.run.work.ended) ⊎ SomeShares trace formed.apart one.in_turn.last_line.cells
+        close-or last = drops-or pools devices trace formed.apart one other last.shards last.cells last.kept
+
+        close : StopsSame → SameOrParts
+        close last = elim (close-or last) [
+          | inl dropped ↦ inl (close-alike pools devices trace one other (last-same last dropped) begin.found)
+          | inr s ↦ inr (shares-last last s)
+        ]
 
         come-together : SameOrParts
         come-together = elim stops-same [
-          | inl last ↦ inl (close-alike pools devices trace one other (last-same last) begin.found)
+          | inl last ↦ close last
           | inr x ↦ inr (replays-part pools devices trace one other (length one.run.work.lines) one.in_turn.reached.cells (same-there pools devices trace one other (length one.run.work.lines) one.in_turn.reached.cells t.there) t.there.did
               x.i x.in_range x.bases x.other_bases x.state x.other_state x.leads x.other_leads x.collide (at_stop refl lines-many x.writes))
         ]
@@ -249,14 +252,8 @@ module _ {P D : Type 0} (pools : Ghosts P) (devices : Devices D) (pool_len : (p 
       come (one_further g) = absurd (further-part other one (answers_at_stop one.ending one.run.work.stopped) g)
       come (parted p) = inr (parts-may pools devices trace one other formed.config p)
 
-      unpast : FailAlike pools devices trace one other → SameOrParts
-      unpast fail = come (runs-come pools devices pool_len trace one other begin (IsKnown pools devices trace) (shown.known one begin.image begin.told none) (shown.known other begin.image begin.other_told other_none) fail (λ l from to known. known.fits) known-steps)
+      come-so : FailAlike pools devices trace one other → SameOrParts
+      come-so fail = come (runs-come pools devices pool_len trace one other begin (IsKnown pools devices trace) (shown.known one begin.image begin.told) (shown.known other begin.image begin.other_told) fail (λ l from to known. known.fits) known-steps)
 
     pub runs-alike : (one other : OneRun pools devices trace) → BeginAlike pools devices trace one other → FailAlike pools devices trace one other → ComeToTheSame pools devices trace one other ⊎ MayPart pools devices trace one other
-    runs-alike one other begin fail = elim (past-or-none one.run.work.lines) [
-      | inl past ↦ inr (may_past (inl past))
-      | inr none ↦ (elim (past-or-none other.run.work.lines) [
-        | inl past ↦ inr (may_past (inr past))
-        | inr other_none ↦ unpast one other begin none other_none fail
-      ])
-    ]
+    runs-alike one other begin fail = come-so one other begin fail

@@ -10,12 +10,7 @@ pub mod EndedOrder
 pub mod Facts
 pub mod FeedRows
 pub mod FeedStep
-pub mod FreshKeys
-pub mod GivenUp
 pub mod GotAlike
-pub mod HoldsCount
-pub mod HoldsLines
-pub mod HoldsRun
 pub mod Law
 pub mod LinesAlike
 pub mod MadeActs

@@ -1,10 +1,12 @@
 -- A line on an object of two runs that stand alike: it brings the same block, is answered the same, does the same to its cell and makes the same events, and they stand alike again; or a get shows two contents of one digest,
 -- or the cell has come to two states by one history (dbuf_hold, dbuf_read and dbuf_dirty of dbuf.c, for a single thread).
-use Rattle.std.proofs.Common.{◌≡◌, ◌⊎◌, ℕ, ◌+◌, ◌<◌, false, IsTrue, List, [], ◌++◌, length, Option, Some, None, inl, inr, refl, sym, ap, subst, ◌∙◌, append_assoc, arith}
+use Rattle.std.proofs.Common.{◌≡◌, ◌⊎◌, ℕ, ◌+◌, ◌<◌, Bool, IsTrue, List, [], ◌++◌, length, Option, Some, None, inl, inr, refl, sym, ap, subst, ◌∙◌, append_assoc, arith}
 use Rattle.blk_ptr.specs.Key.{IsValid}
+use Rattle.blk_ptr.specs.declared.key.Key.{Key}
 use Rattle.arc_core.specs.Config.{IsConfig}
 use Rattle.arc_core.specs.declared.config.Config.{Config}
 use Rattle.arc_core.specs.declared.event.Event.{Event}
+use Rattle.arc_core.specs.PlainShard.{PlainShard}
 use Rattle.arc_core.specs.Replay.{is_legal_history}
 use Rattle.arc_table.specs.Geometry.{IsCell, cell_number}
 use Rattle.arc_table.specs.Telling.{opening_of}
@@ -30,22 +32,22 @@ use Rattle.trace_run.specs.Feeds.{FeedDone}
 use Rattle.trace_run.specs.Lines.{caller_of}
 use Rattle.trace_run.specs.Openings.{opening_map}
 use Rattle.trace_run.specs.callers.WorkLines.{IsWorkOf, effect_with}
-use Rattle.trace_run.specs.dbufs.ObjectLines.{TellsBrought, brought_there, events_of_bringing}
+use Rattle.trace_run.specs.dbufs.ObjectLines.{OnObject, TellsBrought, brought_there, events_of_bringing, on_object}
 use Rattle.trace_run.specs.dbufs.ObjectReplies.{ActsAt, ActsBy, AnswersDone, AnswersObject, AnswersWindow, BringsAt, RefusesAt, RefusesWhole}
 use Rattle.trace_run.specs.dbufs.Objects.{Brought, GoesTogether, NotesNothing, OwnEvent, Work}
-use Rattle.trace_run.specs.one_caller.Sequence.{BetweenLines, DoesAnyLine, DoesLine, DoesObject, bringing_in, outline_behind, shard_behind}
+use Rattle.trace_run.specs.one_caller.Sequence.{BetweenLines, DoesAnyLine, DoesLine, DoesObject, bringing_in, outline_behind, shard_behind, shard_found}
 use Rattle.trace_run.proofs.deeds.OperatesDone.{cell-there}
-use Rattle.run_laws.specs.Alike.{AreAlike, AreAlikeSoFar, AreDevicesAlike, device_answers_to, left_behind, pool_answers_to, writes_of}
-use Rattle.run_laws.proofs.ActsAlike.{acts-alike}
+use Rattle.run_laws.specs.Alike.{AreAlike, AreAlikeSoFar, AreDevicesAlike, SharesKey, device_answers_to, left_behind, pool_answers_to, writes_of}
+use Rattle.run_laws.proofs.ActsAlike.{IsHeldSo, acts-alike}
 use Rattle.run_laws.proofs.Behind.{caller-then, goes-cell, goes-shard, same-shard}
 use Rattle.run_laws.proofs.BringAlike.{IsKeptValid, bringing_row, brought-alike, device-same, refusal_of}
-use Rattle.run_laws.proofs.Facts.{AreCachedValid, AreSettled, GivesUp, GivesUpAll, IsSettled, is_eviction, let_go}
+use Rattle.run_laws.proofs.Facts.{AreCachedValid, AreSettled, IsSettled}
 use Rattle.run_laws.proofs.GotAlike.{got-alike}
 use Rattle.run_laws.proofs.ObjectAlike.{AreLegalBehind, Asks, LooksSo, get-asks, made-one, patch-asks, pin-asks, put-done, unpin-done}
 use Rattle.run_laws.proofs.ReadStep.{line_of}
 use Rattle.run_laws.proofs.Rows.{so-far-front}
 use Rattle.run_laws.proofs.ShardsLegal.{AreLegalShards}
-use Rattle.run_laws.proofs.Steps.{PartsAt, StepAlike}
+use Rattle.run_laws.proofs.Steps.{PartsAt, StepAlike, shares}
 
 -- ---- replies
 
@@ -68,33 +70,37 @@ module _ (len : ℕ) (image : Option (List ℕ)) (limit : ℕ) (opening : List M
 
 -- ---- what an answered line did, and one that was refused
 
-abbrev pub ActsSo : (own : OwnEvent) → Outline → (g : Config) → Work → Option Refusal → Type 0
-ActsSo own o g work None = ActsAt g 0 own o work × (length work.acts ≡ let_go own o work)
-ActsSo own o g work (Some refusal) = NotesNothing work
+abbrev pub ActsSo : (AreHeld : (Oid → Bool) → Type 0) → (own : OwnEvent) → Outline → (g : Config) → Work → Option Refusal → Type 0
+ActsSo AreHeld own o g work None = ActsAt g 0 AreHeld own o work
+ActsSo AreHeld own o g work (Some refusal) = NotesNothing work
 
-acts-so : (g : Config) (own : OwnEvent) (o : Outline) (work : Work) (reply : Reply) → ActsBy g 0 own o work reply → GivesUp own o work reply → ActsSo own o g work (refusal_of reply)
-acts-so g own o work (replies.Got size shown) acts gives = (acts, gives)
-acts-so g own o work replies.Done acts gives = (acts, gives)
-acts-so g own o work (replies.Refused refusal) acts gives = acts
-acts-so g own o work (replies.Read from digest shown) acts gives = absurd acts
-acts-so g own o work (replies.Kept from) acts gives = absurd acts
-acts-so g own o work replies.Dropped acts gives = absurd acts
-acts-so g own o work (replies.Fed report) acts gives = absurd acts
-acts-so g own o work replies.FedNone acts gives = absurd acts
-acts-so g own o work (replies.Synced group blocks bytes) acts gives = absurd acts
-acts-so g own o work (replies.Capped c) acts gives = absurd acts
+acts-so : (g : Config) (AreHeld : (Oid → Bool) → Type 0) (own : OwnEvent) (o : Outline) (work : Work) (reply : Reply) → ActsBy g 0 AreHeld own o work reply → ActsSo AreHeld own o g work (refusal_of reply)
+acts-so g AreHeld own o work (replies.Got size shown) acts = acts
+acts-so g AreHeld own o work replies.Done acts = acts
+acts-so g AreHeld own o work (replies.Refused refusal) acts = acts
+acts-so g AreHeld own o work (replies.Read from digest shown) acts = absurd acts
+acts-so g AreHeld own o work (replies.Kept from) acts = absurd acts
+acts-so g AreHeld own o work replies.Dropped acts = absurd acts
+acts-so g AreHeld own o work (replies.Fed report) acts = absurd acts
+acts-so g AreHeld own o work replies.FedNone acts = absurd acts
+acts-so g AreHeld own o work (replies.Synced group blocks bytes) acts = absurd acts
+acts-so g AreHeld own o work (replies.Capped c) acts = absurd acts
 
--- behind the operation's own event evictions have to be made, and it is none
-pub record IsOwn (own : OwnEvent) : Type 0 where
-  pub makes : (x : Evicting) → evicting_after x own.event ≡ Must
-  pub stays : is_eviction own.event ≡ false
+-- behind the operation's own event evictions have to be made
+abbrev pub MustFollow : OwnEvent → Type 0
+MustFollow own = (x : Evicting) → evicting_after x own.event ≡ Must
 
 -- both lines noted the same of their cell, and made the same acts
-work-same : (g : Config) (limit : ℕ) (opening : List Mapping) (front : List CellEvent) (own : OwnEvent) (w v : Work) (refused : Option Refusal) → IsOwn own
+abbrev pub IsSameWork : Work → Work → Type 0
+IsSameWork w v = (v.noted ≡ w.noted) × (v.acts ≡ w.acts)
+
+-- so it is, or two dbufs of the cell are cached under one key
+work-or : (g : Config) (limit : ℕ) (opening : List Mapping) (front : List CellEvent) (s : Key → PlainShard) (own : OwnEvent) (w v : Work) (refused : Option Refusal) → MustFollow own
     → IsSettled limit opening (front ++ events_of_cell (cell_of g.cells own.at) w.noted) → IsSettled limit opening (front ++ events_of_cell (cell_of g.cells own.at) v.noted)
-    → ActsSo own (outline_after limit opening front) g w refused → ActsSo own (outline_after limit opening front) g v refused → v.brought ≡ w.brought → (v.noted ≡ w.noted) × (v.acts ≡ w.acts)
-work-same g limit opening front own w v None is rests other_rests so other_so brings = acts-alike g limit opening front own w v is.makes is.stays rests other_rests so.0 other_so.0 so.1 other_so.1 brings
-work-same g limit opening front own w v (Some refusal) is rests other_rests so other_so brings = (other_so.0 ∙ sym so.0, other_so.1 ∙ sym so.1)
+    → ActsSo (IsHeldSo g own (outline_after limit opening front) s) own (outline_after limit opening front) g w refused → ActsSo (IsHeldSo g own (outline_after limit opening front) s) own (outline_after limit opening front) g v refused
+    → v.brought ≡ w.brought → IsSameWork w v ⊎ SharesKey (outline_after limit opening front)
+work-or g limit opening front s own w v None must rests other_rests so other_so brings = acts-alike g limit opening front s own w v must rests other_rests so other_so brings
+work-or g limit opening front s own w v (Some refusal) must rests other_rests so other_so brings = inl (other_so.0 ∙ sym so.0, other_so.1 ∙ sym so.1)
 
 -- the operation is on an object
 abbrev pub IsOnObject : Op → Type 0
@@ -123,12 +129,17 @@ module _ {P D : Type 0} (pools : Ghosts P) (devices : Devices D) (pool_len : (p 
   abbrev its_outline : (own : OwnEvent) → BetweenLines P D → Outline
   its_outline own from = outline_behind trace from.cells (cell_of trace.config.cells own.at)
 
-  abbrev Looks : (image : List ℕ) → List CellEvent → OwnEvent → Op → Reply → Work → Type 0
-  Looks image front own op reply work = LooksSo trace.config image trace.config.dbuf_bytes (opening_map trace (cell_of trace.config.cells own.at)) front own op reply work
+  -- what is so of the dbufs that had a hold, where the cell had come to this, and the shards too
+  abbrev its_held : (own : OwnEvent) → List CellEvent → (shards : ℕ → List Event) → (tick : ℕ) → Brought → (Oid → Bool) → Type 0
+  its_held own front shards tick brought = IsHeldSo trace.config own (outline_after trace.config.dbuf_bytes (opening_map trace (cell_of trace.config.cells own.at)) front) (shard_found trace.config shards tick brought)
+
+  abbrev Looks : (image : List ℕ) → List CellEvent → (shards : ℕ → List Event) → (tick : ℕ) → OwnEvent → Op → Reply → Work → Type 0
+  Looks image front shards tick own op reply work =
+      LooksSo trace.config image trace.config.dbuf_bytes (opening_map trace (cell_of trace.config.cells own.at)) front (its_held own front shards tick work.brought) own op reply work
 
   one-looks : (op : Op) (own : OwnEvent) (tick : ℕ) (r : Reply) (w : Work) (from to : BetweenLines P D) (image : List ℕ) → pools.told from.outside.pool ≡ Some image → DoesObject pools devices trace own.at tick (line_of op r w) from to
-      → ActsBy trace.config 0 own (its_outline own from) w r → GivesUp own (its_outline own from) w r → GoesTogether op r w.brought → AreSettled trace to.cells → Looks image (its_front own from) own op r w
-  one-looks op own tick r w from to image told did acts gives together settled =
+      → ActsBy trace.config 0 (its_held own (its_front own from) from.shards tick w.brought) own (its_outline own from) w r → GoesTogether op r w.brought → AreSettled trace to.cells → Looks image (its_front own from) from.shards tick own op r w
+  one-looks op own tick r w from to image told did acts together settled =
       let i : ℕ = cell_of trace.config.cells own.at in
       let is_cell : IsCell trace.config i = cell-there trace.config valid own.at in
       let limit : ℕ = trace.config.dbuf_bytes in
@@ -138,7 +149,6 @@ module _ {P D : Type 0} (pools : Ghosts P) (devices : Devices D) (pool_len : (p 
         brings = subst (λ (n : ℕ). BringsAt n own.at (its_outline own from) w.brought) size did.brought;
         range = subst (λ (o : Option (List ℕ)). TellsBrought o w.brought) told did.range;
         acts = acts;
-        gives = gives;
         answer = subst (λ (x : ℕ × Option (List ℕ)). AnswersObject x.0 x.1 limit opening (its_front own from) w.brought op r) (λ h. (size h, told h)) did.answer;
         together = together;
         settled = subst (λ (es : List CellEvent). IsSettled limit opening es) (did.goes_on.cells i is_cell) (settled i is_cell);
@@ -148,11 +158,11 @@ module _ {P D : Type 0} (pools : Ghosts P) (devices : Devices D) (pool_len : (p 
 
   pub record BothOn (op : Op) (own : OwnEvent) (tick : ℕ) (r q : Reply) (w v : Work) (from to other other_to : BetweenLines P D) : Type 0 where
     pub alike : AreAlike pools devices trace from other
-    pub is_own : IsOwn own
+    pub must : MustFollow own
     pub did : DoesObject pools devices trace own.at tick (line_of op r w) from to
     pub other_did : DoesObject pools devices trace own.at tick (line_of op q v) other other_to
-    pub looks : Looks alike.image (its_front own from) own op r w
-    pub other_looks : Looks alike.image (its_front own from) own op q v
+    pub looks : Looks alike.image (its_front own from) from.shards tick own op r w
+    pub other_looks : Looks alike.image (its_front own from) from.shards tick own op q v
     pub kept : IsKeptValid alike.image own.at (its_outline own from)
     pub legal : AreLegalShards trace to.shards
     pub other_legal : AreLegalShards trace other_to.shards
@@ -174,13 +184,15 @@ module _ {P D : Type 0} (pools : Ghosts P) (devices : Devices D) (pool_len : (p 
     brings_in brought at shard = bringing_in trace.config (shard_behind trace.config at.shards) 0 tick (cell_number trace.config (cell_of trace.config.cells own.at)) brought shard
 
     module _ (brings : v.brought ≡ w.brought) (same : q ≡ r) where
-      -- both noted the same and made the same acts
-      works : (v.noted ≡ w.noted) × (v.acts ≡ w.acts)
-      works =
+      -- both noted the same and made the same acts, or two dbufs of the cell are cached under one key
+      works-or : IsSameWork w v ⊎ SharesKey (its_outline own from)
+      works-or =
           let o : Outline = its_outline own from in
-          let mine = acts-so trace.config own o w r both.looks.acts both.looks.gives in
-          let its = subst (λ (k : Option Refusal). ActsSo own o trace.config v k) (ap refusal_of same) (acts-so trace.config own o v q both.other_looks.acts both.other_looks.gives) in
-          work-same trace.config trace.config.dbuf_bytes (opening_map trace (cell_of trace.config.cells own.at)) (its_front own from) own w v (refusal_of r) both.is_own both.looks.settled both.other_looks.settled mine its brings
+          let Held : Brought → (Oid → Bool) → Type 0 = its_held own (its_front own from) from.shards tick in
+          let mine = acts-so trace.config (Held w.brought) own o w r both.looks.acts in
+          let its = subst (λ (z : Brought × Option Refusal). ActsSo (Held z.0) own o trace.config v z.1) (λ h. (brings h, refusal_of (same h))) (acts-so trace.config (Held v.brought) own o v q both.other_looks.acts) in
+          work-or trace.config trace.config.dbuf_bytes (opening_map trace (cell_of trace.config.cells own.at)) (its_front own from) (shard_found trace.config from.shards tick w.brought) own w v (refusal_of r) both.must
+          both.looks.settled both.other_looks.settled mine its brings
 
       brings-same : (shard : ℕ) → brings_in v.brought other shard ≡ brings_in w.brought from shard
       brings-same shard = λ h. brought_there trace.config.shards shard (brings h)
@@ -204,26 +216,27 @@ module _ {P D : Type 0} (pools : Ghosts P) (devices : Devices D) (pool_len : (p 
           = both.other_did.goes_on.shards shard ∙ (moved ∙ sym (append_assoc (from.shards shard) (brings_in w.brought from shard) made)) in
           subst (λ (es : List Event). IsTrue (is_legal_history (opening_of trace.config) es)) goes (both.other_legal shard there)
 
-      -- and the same events
-      made-same : both.other_did.made ≡ both.did.made
-      made-same = made-one trace.config (opening_of trace.config) shards_there fronts both.did.made both.other_did.made both.did.kinds both.other_did.kinds
-          (sym both.other_did.are ∙ (works.1 ∙ both.did.are)) mine-legal its-legal
-
       device-then : (bringing_row pools devices trace (shard_behind trace.config other.shards) v.brought q other.device other_to.device both.other_did.asks
           ≡ bringing_row pools devices trace (shard_behind trace.config from.shards) w.brought r from.device to.device both.did.asks) × AreDevicesAlike pools devices trace to.device other_to.device
       device-then = device-same pools devices trace (shard_behind trace.config from.shards) (shard_behind trace.config other.shards) (same-shard pools devices trace from other both.alike) from.device to.device other.device other_to.device both.alike.device
           w.brought v.brought r q brings same both.did.asks both.other_did.asks both.rows
 
-      -- so what stands behind the line is alike
-      object-then : DoesLine pools devices trace (line_of op r w) from to → DoesLine pools devices trace (line_of op q v) other other_to → AreAlike pools devices trace to other_to
-      object-then does other_does =
-          let es : ℕ → List Event = λ shard. brings_in w.brought from shard ++ events_there trace.config shard both.did.made in
-          let fs : ℕ → List Event = λ shard. brings_in v.brought other shard ++ events_there trace.config shard both.other_did.made in
-          let same_events : (shard : ℕ) → fs shard ≡ es shard = λ shard h. brings-same shard h ++ events_there trace.config shard (made-same h) in
-          caller-then pools devices trace (line_of op r w) (line_of op q v) from to other other_to both.alike does other_does device-then.1
-          (λ shard. goes-shard trace.config es fs w.noted v.noted from to other other_to both.did.goes_on both.other_did.goes_on shard (both.alike.shards shard) (same_events shard))
-          (λ i is. goes-cell trace.config es fs w.noted v.noted from to other other_to both.did.goes_on both.other_did.goes_on i is (both.alike.cells i is) works.0)
-          (both.other_did.kept ∙ (both.alike.kept ∙ sym both.did.kept))
+      module _ (works : IsSameWork w v) where
+        -- and the same events
+        made-same : both.other_did.made ≡ both.did.made
+        made-same = made-one trace.config (opening_of trace.config) shards_there fronts both.did.made both.other_did.made both.did.kinds both.other_did.kinds
+            (sym both.other_did.are ∙ (works.1 ∙ both.did.are)) mine-legal its-legal
+
+        -- so what stands behind the line is alike
+        object-then : DoesLine pools devices trace (line_of op r w) from to → DoesLine pools devices trace (line_of op q v) other other_to → AreAlike pools devices trace to other_to
+        object-then does other_does =
+            let es : ℕ → List Event = λ shard. brings_in w.brought from shard ++ events_there trace.config shard both.did.made in
+            let fs : ℕ → List Event = λ shard. brings_in v.brought other shard ++ events_there trace.config shard both.other_did.made in
+            let same_events : (shard : ℕ) → fs shard ≡ es shard = λ shard h. brings-same shard h ++ events_there trace.config shard (made-same h) in
+            caller-then pools devices trace (line_of op r w) (line_of op q v) from to other other_to both.alike does other_does device-then.1
+            (λ shard. goes-shard trace.config es fs w.noted v.noted from to other other_to both.did.goes_on both.other_did.goes_on shard (both.alike.shards shard) (same_events shard))
+            (λ i is. goes-cell trace.config es fs w.noted v.noted from to other other_to both.did.goes_on both.other_did.goes_on i is (both.alike.cells i is) works.0)
+            (both.other_did.kept ∙ (both.alike.kept ∙ sym both.did.kept))
 
   -- ---- what both lines come to
 
@@ -235,8 +248,7 @@ module _ {P D : Type 0} (pools : Ghosts P) (devices : Devices D) (pool_len : (p 
   none-left : (here there : List FeedDone) (behind other_behind : Option D) → here ≡ [] → there ≡ [] → left_behind devices there other_behind ≡ left_behind devices here behind
   none-left here there behind other_behind none other_none = ap (λ (fs : List FeedDone). left_behind devices fs other_behind) other_none ∙ sym (ap (λ (fs : List FeedDone). left_behind devices fs behind) none)
 
-  -- What is known of two lines of one operation: what stood before them was alike; each line's work fits its reply; each leaves its cell with no eviction due; a cached block's key is valid; each gave up a hold for each block that its cell
-  -- keeps no longer; the histories of shards behind them are legal; and of their calls the same failed.
+  -- What is known of two lines of one operation: what stood before them was alike; each line's work fits its reply; each leaves its cell with no eviction due; a cached block's key is valid; the histories of shards behind them are legal; and of their calls the same failed.
   pub record BothObjects (op : Op) (r q : Reply) (w v : Work) (here there : List FeedDone) (from to other other_to : BetweenLines P D) (did : DoesAnyLine pools devices trace (caller_of op) (line_of op r w) here from to)
       (other_did : DoesAnyLine pools devices trace (caller_of op) (line_of op q v) there other other_to) : Type 0 where
     pub alike : AreAlike pools devices trace from other
@@ -245,8 +257,6 @@ module _ {P D : Type 0} (pools : Ghosts P) (devices : Devices D) (pool_len : (p 
     pub settled : AreSettled trace to.cells
     pub other_settled : AreSettled trace other_to.cells
     pub cached : AreCachedValid trace (pools.size from.outside.pool) from.cells
-    pub gives : GivesUpAll trace (line_of op r w) from.cells
-    pub other_gives : GivesUpAll trace (line_of op q v) other.cells
     pub legal : AreLegalShards trace to.shards
     pub other_legal : AreLegalShards trace other_to.shards
     pub pool : AreAlikeSoFar (pool_answers_to (line_of op r w)) (pool_answers_to (line_of op q v))
@@ -255,25 +265,25 @@ module _ {P D : Type 0} (pools : Ghosts P) (devices : Devices D) (pool_len : (p 
   module _ (op : Op) (own : OwnEvent) (tick : ℕ) (r q : Reply) (w v : Work) (here there : List FeedDone) (from to other other_to : BetweenLines P D) (line : DoesAnyLine pools devices trace (caller_of op) (line_of op r w) here from to)
       (other_line : DoesAnyLine pools devices trace (caller_of op) (line_of op q v) there other other_to) (b : BothObjects op r q w v here there from to other other_to line other_line) where
     -- so both are known by one front of the cell's history
-    both-on : IsOwn own → (did : DoesObject pools devices trace own.at tick (line_of op r w) from to) (other_did : DoesObject pools devices trace own.at tick (line_of op q v) other other_to)
-        → ActsBy trace.config 0 own (its_outline own from) w r → ActsBy trace.config 0 own (its_outline own other) v q → GivesUp own (its_outline own from) w r → GivesUp own (its_outline own other) v q
+    both-on : MustFollow own → (did : DoesObject pools devices trace own.at tick (line_of op r w) from to) (other_did : DoesObject pools devices trace own.at tick (line_of op q v) other other_to)
+        → ActsBy trace.config 0 (its_held own (its_front own from) from.shards tick w.brought) own (its_outline own from) w r → ActsBy trace.config 0 (its_held own (its_front own other) other.shards tick v.brought) own (its_outline own other) v q
         → AreAlikeSoFar (bringing_row pools devices trace (shard_behind trace.config from.shards) w.brought r from.device to.device did.asks)
         (bringing_row pools devices trace (shard_behind trace.config other.shards) v.brought q other.device other_to.device other_did.asks)
         → BothOn op own tick r q w v from to other other_to
-    both-on is_own did other_did acts other_acts gives other_gives rows =
+    both-on must did other_did acts other_acts rows =
         let i : ℕ = cell_of trace.config.cells own.at in
         let is_cell : IsCell trace.config i = cell-there trace.config valid own.at in
         let alike = b.alike in
-        let mine : Looks alike.image (its_front own from) own op r w = one-looks op own tick r w from to alike.image alike.told did acts gives b.fits.together b.settled in
-        let its : Looks alike.image (its_front own other) own op q v = one-looks op own tick q v other other_to alike.image alike.other_told other_did other_acts other_gives b.other_fits.together b.other_settled in
+        let mine : Looks alike.image (its_front own from) from.shards tick own op r w = one-looks op own tick r w from to alike.image alike.told did acts b.fits.together b.settled in
+        let its : Looks alike.image (its_front own other) other.shards tick own op q v = one-looks op own tick q v other other_to alike.image alike.other_told other_did other_acts b.other_fits.together b.other_settled in
         let size : pools.size from.outside.pool ≡ length alike.image = sym (pool_len from.outside.pool alike.image alike.told) in
         record {
           alike = alike;
-          is_own = is_own;
+          must = must;
           did = did;
           other_did = other_did;
           looks = mine;
-          other_looks = subst (λ (front : List CellEvent). Looks alike.image front own op q v) (alike.cells i is_cell) its;
+          other_looks = subst (λ (z : List CellEvent × (ℕ → List Event)). Looks alike.image z.0 z.1 tick own op q v) (λ h. (alike.cells i is_cell h, λ shard. alike.shards shard h)) its;
           kept = λ ptr cached mapped. subst (λ (n : ℕ). IsValid n ptr.key) size (b.cached i is_cell own.at ptr cached mapped);
           legal = b.legal;
           other_legal = b.other_legal;
@@ -282,10 +292,9 @@ module _ {P D : Type 0} (pools : Ghosts P) (devices : Devices D) (pool_len : (p 
         }
 
   -- both read the pool alike
-  pool-then : (op : Op) (own : OwnEvent) (tick : ℕ) (r q : Reply) (w v : Work) (from to other other_to : BetweenLines P D) → BothOn op own tick r q w v from to other other_to → v.brought ≡ w.brought → q ≡ r
+  pool-then : (op : Op) (r q : Reply) (w v : Work) → v.brought ≡ w.brought → q ≡ r → IsSameWork w v
       → pool_answers_to (line_of op q v) ≡ pool_answers_to (line_of op r w)
-  pool-then op own tick r q w v from to other other_to both brings same =
-      let did = works op own tick r q w v from to other other_to both brings same in
+  pool-then op r q w v brings same did =
       let one : v ≡ w = λ h. record { brought = brings h; noted = did.0 h; acts = did.1 h } in
       λ h. pool_answers_to (line_of op (same h) (one h))
 
@@ -305,6 +314,13 @@ module _ {P D : Type 0} (pools : Ghosts P) (devices : Devices D) (pool_len : (p 
   get-reply cells n t at window image (replies.Refused x) q w v here there answer other_answer same = absurd other_answer
   get-reply cells n t at window image r q w v here there answer other_answer same = absurd answer
 
+  -- the line did the same in both, and then both come to the same; or two dbufs of its cell are cached under one key
+  come-or : (op : Op) (r q : Reply) (w v : Work) (here there : List FeedDone) (from to other other_to : BetweenLines P D) (line : DoesAnyLine pools devices trace (caller_of op) (line_of op r w) here from to)
+      (other_line : DoesAnyLine pools devices trace (caller_of op) (line_of op q v) there other other_to) (on : OnObject) → on_object op ≡ Some on → IsSameWork w v ⊎ SharesKey (outline_behind trace from.cells (cell_of trace.config.cells on.at))
+      → (IsSameWork w v → StepAlike pools devices trace (line_of op r w) (line_of op q v) here there from to other other_to line other_line) → ComesOn op r q w v here there from to other other_to line other_line
+  come-or op r q w v here there from to other other_to line other_line on is (inl works) then = inl (then works)
+  come-or op r q w v here there from to other other_to line other_line on is (inr both) then = inr (shares on is both)
+
   -- Two lines of one operation on an object, over cells, shards, pools and devices that are alike, come to the same; or the runs part there.
   pub object-step : (op : Op) → IsOnObject op → (r q : Reply) (w v : Work) (here there : List FeedDone) (from to other other_to : BetweenLines P D) (line : DoesAnyLine pools devices trace (caller_of op) (line_of op r w) here from to)
       (other_line : DoesAnyLine pools devices trace (caller_of op) (line_of op q v) there other other_to) → BothObjects op r q w v here there from to other other_to line other_line
@@ -315,16 +331,16 @@ module _ {P D : Type 0} (pools : Ghosts P) (devices : Devices D) (pool_len : (p 
       let own : OwnEvent = record { at = at; event = events.Get n at } in
       let did = line.1.did in
       let other_did = other_line.1.did in
-      let both : BothOn op own t r q w v from to other other_to = both-on op own t r q w v here there from to other other_to line other_line b (record { makes = λ x. refl; stays = refl }) did other_did did.acts other_did.acts b.gives b.other_gives b.device in
+      let both : BothOn op own t r q w v from to other other_to = both-on op own t r q w v here there from to other other_to line other_line b (λ x. refl) did other_did did.acts other_did.acts b.device in
       let limit : ℕ = trace.config.dbuf_bytes in
       let opening : List Mapping = opening_map trace (cell_of trace.config.cells at) in
       let came = asks-alike op own t r q w v from to other other_to both (window.at + window.len)
       (get-asks trace.config both.alike.image limit opening (its_front own from) n t at window r w both.looks) (get-asks trace.config both.alike.image limit opening (its_front own from) n t at window q v both.other_looks) in
       elim (get-reply from.cells n t at window both.alike.image r q w v here there both.looks.answer both.other_looks.answer came.1) [
-        | inl same ↦ inl (record {
-          then = object-then op own t r q w v from to other other_to both came.0 same line.1 other_line.1;
+        | inl same ↦ come-or op r q w v here there from to other other_to line other_line (record { at = at; tick = t }) refl (works-or op own t r q w v from to other other_to both came.0 same) (λ works. record {
+          then = object-then op own t r q w v from to other other_to both came.0 same works line.1 other_line.1;
           reply = same;
-          pool = pool-then op own t r q w v from to other other_to both came.0 same;
+          pool = pool-then op r q w v came.0 same works;
           device = (device-then op own t r q w v from to other other_to both came.0 same).0;
           left = none-left here there to.device other_to.device line.0 other_line.0;
           many = ap (λ (fs : List FeedDone). length fs) (other_line.0 ∙ sym line.0);
@@ -336,17 +352,17 @@ module _ {P D : Type 0} (pools : Ghosts P) (devices : Devices D) (pool_len : (p 
       let own : OwnEvent = record { at = at; event = events.Patch n at start bytes } in
       let did = line.1.did in
       let other_did = other_line.1.did in
-      let both : BothOn op own t r q w v from to other other_to = both-on op own t r q w v here there from to other other_to line other_line b (record { makes = λ x. refl; stays = refl }) did other_did did.acts other_did.acts b.gives b.other_gives b.device in
+      let both : BothOn op own t r q w v from to other other_to = both-on op own t r q w v here there from to other other_to line other_line b (λ x. refl) did other_did did.acts other_did.acts b.device in
       let limit : ℕ = trace.config.dbuf_bytes in
       let opening : List Mapping = opening_map trace (cell_of trace.config.cells at) in
       let came = asks-alike op own t r q w v from to other other_to both (start + length bytes)
       (patch-asks trace.config both.alike.image limit opening (its_front own from) n t at start bytes r w both.looks) (patch-asks trace.config both.alike.image limit opening (its_front own from) n t at start bytes q v both.other_looks) in
       let why : Brought → Refusal → Type 0 = λ brought. RefusesAt (length both.alike.image) (Some both.alike.image) limit opening (its_front own from) brought at (start + length bytes) in
       let same : q ≡ r = done-reply (length both.alike.image) (Some both.alike.image) limit opening (its_front own from) w.brought v.brought (why w.brought) (why v.brought) r q both.looks.answer both.other_looks.answer came.1 in
-      inl (record {
-        then = object-then op own t r q w v from to other other_to both came.0 same line.1 other_line.1;
+      come-or op r q w v here there from to other other_to line other_line (record { at = at; tick = t }) refl (works-or op own t r q w v from to other other_to both came.0 same) (λ works. record {
+        then = object-then op own t r q w v from to other other_to both came.0 same works line.1 other_line.1;
         reply = same;
-        pool = pool-then op own t r q w v from to other other_to both came.0 same;
+        pool = pool-then op r q w v came.0 same works;
         device = (device-then op own t r q w v from to other other_to both came.0 same).0;
         left = none-left here there to.device other_to.device line.0 other_line.0;
         many = ap (λ (fs : List FeedDone). length fs) (other_line.0 ∙ sym line.0);
@@ -356,17 +372,17 @@ module _ {P D : Type 0} (pools : Ghosts P) (devices : Devices D) (pool_len : (p 
       let own : OwnEvent = record { at = at; event = events.Pin n at } in
       let did = line.1.did in
       let other_did = other_line.1.did in
-      let both : BothOn op own t r q w v from to other other_to = both-on op own t r q w v here there from to other other_to line other_line b (record { makes = λ x. refl; stays = refl }) did other_did did.acts other_did.acts b.gives b.other_gives b.device in
+      let both : BothOn op own t r q w v from to other other_to = both-on op own t r q w v here there from to other other_to line other_line b (λ x. refl) did other_did did.acts other_did.acts b.device in
       let limit : ℕ = trace.config.dbuf_bytes in
       let opening : List Mapping = opening_map trace (cell_of trace.config.cells at) in
       let came = asks-alike op own t r q w v from to other other_to both 0
       (pin-asks trace.config both.alike.image limit opening (its_front own from) n t at r w both.looks) (pin-asks trace.config both.alike.image limit opening (its_front own from) n t at q v both.other_looks) in
       let why : Brought → Refusal → Type 0 = λ brought. RefusesWhole (length both.alike.image) (Some both.alike.image) limit opening (its_front own from) brought at in
       let same : q ≡ r = done-reply (length both.alike.image) (Some both.alike.image) limit opening (its_front own from) w.brought v.brought (why w.brought) (why v.brought) r q both.looks.answer both.other_looks.answer came.1 in
-      inl (record {
-        then = object-then op own t r q w v from to other other_to both came.0 same line.1 other_line.1;
+      come-or op r q w v here there from to other other_to line other_line (record { at = at; tick = t }) refl (works-or op own t r q w v from to other other_to both came.0 same) (λ works. record {
+        then = object-then op own t r q w v from to other other_to both came.0 same works line.1 other_line.1;
         reply = same;
-        pool = pool-then op own t r q w v from to other other_to both came.0 same;
+        pool = pool-then op r q w v came.0 same works;
         device = (device-then op own t r q w v from to other other_to both came.0 same).0;
         left = none-left here there to.device other_to.device line.0 other_line.0;
         many = ap (λ (fs : List FeedDone). length fs) (other_line.0 ∙ sym line.0);
@@ -376,15 +392,15 @@ module _ {P D : Type 0} (pools : Ghosts P) (devices : Devices D) (pool_len : (p 
       let own : OwnEvent = record { at = at; event = events.Put n at size fill } in
       let did = line.1.did in
       let other_did = other_line.1.did in
-      let both : BothOn op own 0 r q w v from to other other_to = both-on op own 0 r q w v here there from to other other_to line other_line b (record { makes = λ x. refl; stays = refl }) did other_did did.acts other_did.acts b.gives b.other_gives b.device in
+      let both : BothOn op own 0 r q w v from to other other_to = both-on op own 0 r q w v here there from to other other_to line other_line b (λ x. refl) did other_did did.acts other_did.acts b.device in
       let limit : ℕ = trace.config.dbuf_bytes in
       let opening : List Mapping = opening_map trace (cell_of trace.config.cells at) in
       let brings : v.brought ≡ w.brought = both.other_looks.together ∙ sym both.looks.together in
       let same : q ≡ r = put-done trace.config both.alike.image limit opening (its_front own from) n t at size fill q v both.other_looks ∙ sym (put-done trace.config both.alike.image limit opening (its_front own from) n t at size fill r w both.looks) in
-      inl (record {
-        then = object-then op own 0 r q w v from to other other_to both brings same line.1 other_line.1;
+      come-or op r q w v here there from to other other_to line other_line (record { at = at; tick = 0 }) refl (works-or op own 0 r q w v from to other other_to both brings same) (λ works. record {
+        then = object-then op own 0 r q w v from to other other_to both brings same works line.1 other_line.1;
         reply = same;
-        pool = pool-then op own 0 r q w v from to other other_to both brings same;
+        pool = pool-then op r q w v brings same works;
         device = (device-then op own 0 r q w v from to other other_to both brings same).0;
         left = none-left here there to.device other_to.device line.0 other_line.0;
         many = ap (λ (fs : List FeedDone). length fs) (other_line.0 ∙ sym line.0);
@@ -394,15 +410,15 @@ module _ {P D : Type 0} (pools : Ghosts P) (devices : Devices D) (pool_len : (p 
       let own : OwnEvent = record { at = at; event = events.Unpin n at } in
       let did = line.1.did in
       let other_did = other_line.1.did in
-      let both : BothOn op own 0 r q w v from to other other_to = both-on op own 0 r q w v here there from to other other_to line other_line b (record { makes = λ x. refl; stays = refl }) did other_did did.acts other_did.acts b.gives b.other_gives b.device in
+      let both : BothOn op own 0 r q w v from to other other_to = both-on op own 0 r q w v here there from to other other_to line other_line b (λ x. refl) did other_did did.acts other_did.acts b.device in
       let limit : ℕ = trace.config.dbuf_bytes in
       let opening : List Mapping = opening_map trace (cell_of trace.config.cells at) in
       let brings : v.brought ≡ w.brought = both.other_looks.together ∙ sym both.looks.together in
       let same : q ≡ r = unpin-done trace.config both.alike.image limit opening (its_front own from) n at q v both.other_looks ∙ sym (unpin-done trace.config both.alike.image limit opening (its_front own from) n at r w both.looks) in
-      inl (record {
-        then = object-then op own 0 r q w v from to other other_to both brings same line.1 other_line.1;
+      come-or op r q w v here there from to other other_to line other_line (record { at = at; tick = 0 }) refl (works-or op own 0 r q w v from to other other_to both brings same) (λ works. record {
+        then = object-then op own 0 r q w v from to other other_to both brings same works line.1 other_line.1;
         reply = same;
-        pool = pool-then op own 0 r q w v from to other other_to both brings same;
+        pool = pool-then op r q w v brings same works;
         device = (device-then op own 0 r q w v from to other other_to both brings same).0;
         left = none-left here there to.device other_to.device line.0 other_line.0;
         many = ap (λ (fs : List FeedDone). length fs) (other_line.0 ∙ sym line.0);

@@ -1,5 +1,5 @@
 -- Between two lines of a run of one caller each clean block that a cell keeps has a key that names one of the pool: it was loaded by a pointer with such a key, or a sync wrote it.
-use Rattle.std.proofs.Common.{◌≡◌, ℕ, ◌+◌, ◌%◌, ◌≤◌, ◌==◌, true, false, List, [], ◌∷◌, ◌++◌, length, map, Option, Some, None, inl, inr, refl, sym, ap, subst, ◌∙◌, arith}
+use Rattle.std.proofs.Common.{◌≡◌, ℕ, ◌+◌, ◌%◌, ◌≤◌, ◌==◌, Bool, true, false, List, [], ◌∷◌, ◌++◌, length, map, Option, Some, None, inl, inr, refl, sym, ap, subst, ◌∙◌, arith}
 use Rattle.std.proofs.lemmas.Bool.{cases_Bool, false≢true}
 use Rattle.std.specs.List.{AllByRecursion}
 use Rattle.std.specs.Option.{option_map, option_map_or}
@@ -177,60 +177,60 @@ module _ (len : ℕ) where
       (λ same. subst (λ (k : ℕ). AreValidNotes (outlines k) (events_of_cell k (noted_in i es))) same (subst (AreValidNotes (outlines i)) (sym (noted-here i es)) notes))
       (λ differs. subst (AreValidNotes (outlines j)) (sym (noted-else i j es differs)) tt)
 
-  acts-noted : (g : Config) (n : ℕ) (own : OwnEvent) (outlines : ℕ → Outline) (work : Work) → ((q : Outline) → IsValidNote q own.event) → BringsAt len own.at (outlines (cell_of g.cells own.at)) work.brought
-      → ActsAt g n own (outlines (cell_of g.cells own.at)) work → AreNotedHere outlines work.noted
-  acts-noted g n own outlines work plain brings acts =
+  acts-noted : (g : Config) (n : ℕ) (AreHeld : (Oid → Bool) → Type 0) (own : OwnEvent) (outlines : ℕ → Outline) (work : Work) → ((q : Outline) → IsValidNote q own.event) → BringsAt len own.at (outlines (cell_of g.cells own.at)) work.brought
+      → ActsAt g n AreHeld own (outlines (cell_of g.cells own.at)) work → AreNotedHere outlines work.noted
+  acts-noted g n AreHeld own outlines work plain brings acts =
       subst (AreNotedHere outlines) (sym acts.noted)
       (in-noted outlines (cell_of g.cells own.at) _ (line-noted n own.at work.brought own.event acts.evictions (outlines (cell_of g.cells own.at)) plain brings))
 
   none-noted : (outlines : ℕ → Outline) (work : Work) → work.noted ≡ [] → AreNotedHere outlines work.noted
   none-noted outlines work none = subst (AreNotedHere outlines) (sym none) (λ i. tt)
 
-  reply-noted : (g : Config) (n : ℕ) (own : OwnEvent) (outlines : ℕ → Outline) (work : Work) (reply : Reply) → ((q : Outline) → IsValidNote q own.event) → BringsAt len own.at (outlines (cell_of g.cells own.at)) work.brought
-      → ActsBy g n own (outlines (cell_of g.cells own.at)) work reply → AreNotedHere outlines work.noted
-  reply-noted g n own outlines work (replies.Got size shown) plain brings acts = acts-noted g n own outlines work plain brings acts
-  reply-noted g n own outlines work replies.Done plain brings acts = acts-noted g n own outlines work plain brings acts
-  reply-noted g n own outlines work (replies.Refused refusal) plain brings acts = none-noted outlines work acts.0
-  reply-noted g n own outlines work (replies.Read served digest shown) plain brings acts = absurd acts
-  reply-noted g n own outlines work (replies.Kept served) plain brings acts = absurd acts
-  reply-noted g n own outlines work replies.Dropped plain brings acts = absurd acts
-  reply-noted g n own outlines work (replies.Fed report) plain brings acts = absurd acts
-  reply-noted g n own outlines work replies.FedNone plain brings acts = absurd acts
-  reply-noted g n own outlines work (replies.Synced group blocks bytes) plain brings acts = absurd acts
-  reply-noted g n own outlines work (replies.Capped c) plain brings acts = absurd acts
+  reply-noted : (g : Config) (n : ℕ) (AreHeld : (Oid → Bool) → Type 0) (own : OwnEvent) (outlines : ℕ → Outline) (work : Work) (reply : Reply) → ((q : Outline) → IsValidNote q own.event) → BringsAt len own.at (outlines (cell_of g.cells own.at)) work.brought
+      → ActsBy g n AreHeld own (outlines (cell_of g.cells own.at)) work reply → AreNotedHere outlines work.noted
+  reply-noted g n AreHeld own outlines work (replies.Got size shown) plain brings acts = acts-noted g n AreHeld own outlines work plain brings acts
+  reply-noted g n AreHeld own outlines work replies.Done plain brings acts = acts-noted g n AreHeld own outlines work plain brings acts
+  reply-noted g n AreHeld own outlines work (replies.Refused refusal) plain brings acts = none-noted outlines work acts.0
+  reply-noted g n AreHeld own outlines work (replies.Read served digest shown) plain brings acts = absurd acts
+  reply-noted g n AreHeld own outlines work (replies.Kept served) plain brings acts = absurd acts
+  reply-noted g n AreHeld own outlines work replies.Dropped plain brings acts = absurd acts
+  reply-noted g n AreHeld own outlines work (replies.Fed report) plain brings acts = absurd acts
+  reply-noted g n AreHeld own outlines work replies.FedNone plain brings acts = absurd acts
+  reply-noted g n AreHeld own outlines work (replies.Synced group blocks bytes) plain brings acts = absurd acts
+  reply-noted g n AreHeld own outlines work (replies.Capped c) plain brings acts = absurd acts
 
   plain-noted : (outlines : ℕ → Outline) (work : Work) → work ≡ no_work → AreNotedHere outlines work.noted
   plain-noted outlines work none = none-noted outlines work (ap (λ (w : Work). w.noted) none)
 
   -- the line's block is that of its operation
-  on-noted : (g : Config) (op : Op) (on : OnObject) (outlines : ℕ → Outline) (work : Work) (reply : Reply) → on_object op ≡ Some on → BringsAt len on.at (outlines (cell_of g.cells on.at)) work.brought
-      → ActsFor g 0 (own_event op) (outlines (cell_of g.cells on.at)) work reply → AreNotedHere outlines work.noted
-  on-noted g (ops.Get m t at w) on outlines work reply is brings acts =
+  on-noted : (g : Config) (AreHeld : (Oid → Bool) → Type 0) (op : Op) (on : OnObject) (outlines : ℕ → Outline) (work : Work) (reply : Reply) → on_object op ≡ Some on → BringsAt len on.at (outlines (cell_of g.cells on.at)) work.brought
+      → ActsFor g 0 AreHeld (own_event op) (outlines (cell_of g.cells on.at)) work reply → AreNotedHere outlines work.noted
+  on-noted g AreHeld (ops.Get m t at w) on outlines work reply is brings acts =
       let same : on.at ≡ at = same-on _ on is in
-      reply-noted g 0 (record { at = at; event = events.Get m at }) outlines work reply (λ q. tt) (subst (λ (b : Oid). BringsAt len b (outlines (cell_of g.cells b)) work.brought) same brings)
-      (subst (λ (b : Oid). ActsBy g 0 (record { at = at; event = events.Get m at }) (outlines (cell_of g.cells b)) work reply) same acts)
-  on-noted g (ops.Put m t at size fill) on outlines work reply is brings acts =
+      reply-noted g 0 AreHeld (record { at = at; event = events.Get m at }) outlines work reply (λ q. tt) (subst (λ (b : Oid). BringsAt len b (outlines (cell_of g.cells b)) work.brought) same brings)
+      (subst (λ (b : Oid). ActsBy g 0 AreHeld (record { at = at; event = events.Get m at }) (outlines (cell_of g.cells b)) work reply) same acts)
+  on-noted g AreHeld (ops.Put m t at size fill) on outlines work reply is brings acts =
       let same : on.at ≡ at = same-on _ on is in
-      reply-noted g 0 (record { at = at; event = events.Put m at size fill }) outlines work reply (λ q. tt) (subst (λ (b : Oid). BringsAt len b (outlines (cell_of g.cells b)) work.brought) same brings)
-      (subst (λ (b : Oid). ActsBy g 0 (record { at = at; event = events.Put m at size fill }) (outlines (cell_of g.cells b)) work reply) same acts)
-  on-noted g (ops.Patch m t at from bytes) on outlines work reply is brings acts =
+      reply-noted g 0 AreHeld (record { at = at; event = events.Put m at size fill }) outlines work reply (λ q. tt) (subst (λ (b : Oid). BringsAt len b (outlines (cell_of g.cells b)) work.brought) same brings)
+      (subst (λ (b : Oid). ActsBy g 0 AreHeld (record { at = at; event = events.Put m at size fill }) (outlines (cell_of g.cells b)) work reply) same acts)
+  on-noted g AreHeld (ops.Patch m t at from bytes) on outlines work reply is brings acts =
       let same : on.at ≡ at = same-on _ on is in
-      reply-noted g 0 (record { at = at; event = events.Patch m at from bytes }) outlines work reply (λ q. tt) (subst (λ (b : Oid). BringsAt len b (outlines (cell_of g.cells b)) work.brought) same brings)
-      (subst (λ (b : Oid). ActsBy g 0 (record { at = at; event = events.Patch m at from bytes }) (outlines (cell_of g.cells b)) work reply) same acts)
-  on-noted g (ops.Pin m t at) on outlines work reply is brings acts =
+      reply-noted g 0 AreHeld (record { at = at; event = events.Patch m at from bytes }) outlines work reply (λ q. tt) (subst (λ (b : Oid). BringsAt len b (outlines (cell_of g.cells b)) work.brought) same brings)
+      (subst (λ (b : Oid). ActsBy g 0 AreHeld (record { at = at; event = events.Patch m at from bytes }) (outlines (cell_of g.cells b)) work reply) same acts)
+  on-noted g AreHeld (ops.Pin m t at) on outlines work reply is brings acts =
       let same : on.at ≡ at = same-on _ on is in
-      reply-noted g 0 (record { at = at; event = events.Pin m at }) outlines work reply (λ q. tt) (subst (λ (b : Oid). BringsAt len b (outlines (cell_of g.cells b)) work.brought) same brings)
-      (subst (λ (b : Oid). ActsBy g 0 (record { at = at; event = events.Pin m at }) (outlines (cell_of g.cells b)) work reply) same acts)
-  on-noted g (ops.Unpin m at) on outlines work reply is brings acts =
+      reply-noted g 0 AreHeld (record { at = at; event = events.Pin m at }) outlines work reply (λ q. tt) (subst (λ (b : Oid). BringsAt len b (outlines (cell_of g.cells b)) work.brought) same brings)
+      (subst (λ (b : Oid). ActsBy g 0 AreHeld (record { at = at; event = events.Pin m at }) (outlines (cell_of g.cells b)) work reply) same acts)
+  on-noted g AreHeld (ops.Unpin m at) on outlines work reply is brings acts =
       let same : on.at ≡ at = same-on _ on is in
-      reply-noted g 0 (record { at = at; event = events.Unpin m at }) outlines work reply (λ q. tt) (subst (λ (b : Oid). BringsAt len b (outlines (cell_of g.cells b)) work.brought) same brings)
-      (subst (λ (b : Oid). ActsBy g 0 (record { at = at; event = events.Unpin m at }) (outlines (cell_of g.cells b)) work reply) same acts)
-  on-noted g (ops.Read m t x window) on outlines work reply is brings acts = plain-noted outlines work acts
-  on-noted g (ops.Hold m t x) on outlines work reply is brings acts = plain-noted outlines work acts
-  on-noted g (ops.Drop m x) on outlines work reply is brings acts = plain-noted outlines work acts
-  on-noted g ops.Feed on outlines work reply is brings acts = plain-noted outlines work acts
-  on-noted g (ops.Txg t) on outlines work reply is brings acts = plain-noted outlines work acts
-  on-noted g (ops.Cap c) on outlines work reply is brings acts = plain-noted outlines work acts
+      reply-noted g 0 AreHeld (record { at = at; event = events.Unpin m at }) outlines work reply (λ q. tt) (subst (λ (b : Oid). BringsAt len b (outlines (cell_of g.cells b)) work.brought) same brings)
+      (subst (λ (b : Oid). ActsBy g 0 AreHeld (record { at = at; event = events.Unpin m at }) (outlines (cell_of g.cells b)) work reply) same acts)
+  on-noted g AreHeld (ops.Read m t x window) on outlines work reply is brings acts = plain-noted outlines work acts
+  on-noted g AreHeld (ops.Hold m t x) on outlines work reply is brings acts = plain-noted outlines work acts
+  on-noted g AreHeld (ops.Drop m x) on outlines work reply is brings acts = plain-noted outlines work acts
+  on-noted g AreHeld ops.Feed on outlines work reply is brings acts = plain-noted outlines work acts
+  on-noted g AreHeld (ops.Txg t) on outlines work reply is brings acts = plain-noted outlines work acts
+  on-noted g AreHeld (ops.Cap c) on outlines work reply is brings acts = plain-noted outlines work acts
 
   -- ---- a sync
 
@@ -276,7 +276,7 @@ module _ {P D : Type 0} (pools : Ghosts P) (devices : Devices D) (told_len : (p 
       → (i : ℕ) → AreValidNotes len (outline_behind trace from.cells i) (events_of_cell i l.work.noted)
   own-noted None l from to is size does = plain-noted len (outline_behind trace from.cells) l.work does.work
   own-noted (Some on) l from to is size does =
-      on-noted len trace.config l.op on (outline_behind trace from.cells) l.work l.reply is
+      on-noted len trace.config _ l.op on (outline_behind trace from.cells) l.work l.reply is
       (subst (λ (s : ℕ). BringsAt s on.at (outline_behind trace from.cells (cell_of trace.config.cells on.at)) l.work.brought) size does.brought) does.acts
 
   other-noted : (op : Op) (reply : Reply) (work : Work) (feeds : List FeedDone) (from to : BetweenLines P D) → FitsFeeder trace.config op work → DoesOther pools devices trace op reply work feeds from to → StandsTold to

@@ -1,5 +1,6 @@
 -- Two runs of one trace by one caller, over the same bytes, of which the same calls failed: they come to the same (arc_read, dmu_read, dmu_write, spa_sync and l2arc_feed_thread, for a single thread).
 use Rattle.std.specs.Prelude.{◌≡◌, ◌≢◌, ◌⊎◌, ℕ, zero, suc, true, false, if◌then◌else◌, List, [], ◌∷◌, ◌++◌, length, map, take, Option, None, Some, slice_get}
+use Rattle.blk_ptr.specs.declared.key.Key.{Key}
 use Rattle.blk_ptr.specs.declared.ptr.Ptr.{Ptr}
 use Rattle.blk_ptr.specs.Ptr.{IsOf}
 use Rattle.arc_core.specs.PlainShard.{PlainShard}
@@ -8,11 +9,11 @@ use Rattle.arc_core.specs.declared.served.Served.TheVariants as served
 use Rattle.arc_table.specs.Ended.{Ended}
 use Rattle.arc_table.specs.Geometry.{IsCell}
 use Rattle.dbuf_cells.specs.Places.{cell_of}
-use Rattle.dbuf_cells.specs.Turns.{OnHeap}
+use Rattle.dbuf_cells.specs.Turns.{IsCachedAs, OnHeap}
 use Rattle.dbuf_state.specs.Dbufs.{window_of}
 use Rattle.dbuf_state.specs.History.{Collide, Leads}
 use Rattle.dbuf_state.specs.Objects.{Dirty, PlainCell, PlainDbuf, dbuf_at, opening_cell}
-use Rattle.dbuf_state.specs.Outline.{mapped_at}
+use Rattle.dbuf_state.specs.Outline.{Outline, mapped_at}
 use Rattle.dbuf_state.specs.declared.event.CellEvent.{CellEvent}
 use Rattle.dbuf_state.specs.declared.event.CellEvent.TheVariants.{Synced as WasSynced}
 use Rattle.dbuf_state.specs.declared.oid.Oid.{Oid}
@@ -313,13 +314,25 @@ pub record WantsMemory (feeds : List FeedDone) : Type 0 where
   pub at : slice_get feeds place ≡ Some feed
   pub wants : (feed.report.end ≡ stop.NoMemory) ⊎ (¬ NoneRefused feed.acts)
 
--- the block of one of these lines on objects was read past the cache
-pub record ReadsPast (lines : List Line) : Type 0 where
-  pub place : ℕ
-  pub line : Line
-  pub at : slice_get lines place ≡ Some line
-  pub ptr : Ptr
-  pub past : line.work.brought ≡ Loaded ptr served.Past
+-- The blocks of two dbufs of a cell are cached under one key. The shards tell that the cell holds the key, and not for which of the two.
+pub record SharesKey (o : Outline) : Type 0 where
+  pub at : Oid
+  pub other : Oid
+  pub differ : at ≢ other
+  pub key : Key
+  pub cached : IsCachedAs at key o
+  pub other_cached : IsCachedAs other key o
+
+-- what all lines did to a cell, and the sync that stopped behind them
+abbrev pub front_last : List Line → (stopped : Work) → (i : ℕ) → List CellEvent
+front_last lines stopped i = done_to i lines ++ events_of_cell i stopped.noted
+
+-- It is so of the cell of a line of both on an object, before that line; or of some cell behind all that both did before the close.
+pub data SharesAt (trace : Trace) (lines others : List Line) (stopped other_stopped : Work) : Type 0 where
+  before_line : (place : ℕ) → SameUpTo trace lines others place → (line other : Line) → slice_get lines place ≡ Some line → slice_get others place ≡ Some other → other.op ≡ line.op → (on : OnObject) → on_object line.op ≡ Some on
+      → SharesKey (outline_behind trace (front_at lines place) (cell_of trace.config.cells on.at)) → SharesAt trace lines others stopped other_stopped
+  before_close : SameUpTo trace lines others (length lines) → length others ≡ length lines → ((i : ℕ) → IsCell trace.config i → front_last others other_stopped i ≡ front_last lines stopped i) → (i : ℕ) → IsCell trace.config i
+      → SharesKey (outline_behind trace (front_last lines stopped) i) → SharesAt trace lines others stopped other_stopped
 
 -- ---- the law
 
@@ -394,13 +407,14 @@ module _ {P D : Type 0} (pools : Ghosts P) (devices : Devices D) (trace : Trace)
     pub ending : other.ending ≡ one.ending
     pub cells : (i : ℕ) (cell there : OnHeap) → slice_get one.closed.cells i ≡ Some cell → slice_get other.closed.cells i ≡ Some there → there.value.history ≡ cell.value.history
 
-  -- At a line before which both came to the same, two contents of one digest are in hand, which a reply shows, a patch began from or a feed picked; or a feed wanted memory there. Or a line on an object was read past the cache.
+  -- At a line before which both came to the same, two contents of one digest are in hand, which a reply shows, a patch began from or a feed picked; or a feed wanted memory there. Or a cell that gives up holds there, or at the close,
+  -- has two dbufs whose blocks are cached under one key.
   pub data MayPart : Type 0 where
     shows : ShowsTwo trace one.run.work.lines other.run.work.lines → MayPart
     replays : ReplaysTwo trace one.run.work.lines other.run.work.lines one.run.work.stopped other.run.work.stopped → MayPart
     picks : PicksThere → MayPart
     memory : WantsMemoryThere → MayPart
-    past : ReadsPast one.run.work.lines ⊎ ReadsPast other.run.work.lines → MayPart
+    shares : SharesAt trace one.run.work.lines other.run.work.lines one.run.work.stopped other.run.work.stopped → MayPart
 
 -- Two runs of one trace with one caller, over a pool and a device that tell the same bytes, of which the same calls failed, come to the same; but for these cases.
 abbrev pub RunsAreAlike : {P D : Type 0} → Ghosts P → Devices D → Type 0
