@@ -1,23 +1,25 @@
 -- Which dbufs keep a hold: what a change of a dbuf leaves of it, and that each hold is of a block that is cached.
-use Rattle.std.proofs.Common.{◌≡◌, ◌⊎◌, ℕ, zero, suc, Bool, true, false, not, if◌then◌else◌, IsTrue, List, [], ◌∷◌, Option, Some, None, refl, sym, ap, ◌∙◌, subst, inl, inr, ⊎_elim, arith}
+use Rattle.std.proofs.Common.{◌≡◌, ◌⊎◌, ℕ, ◌+◌, ◌&&◌, ◌++◌, map, cond, Bool, true, false, not, if◌then◌else◌, IsTrue, List, [], ◌∷◌, Option, Some, None, refl, sym, ap, ◌∙◌, subst, inl, inr, arith}
 use Rattle.std.proofs.lemmas.Bool.Decides.{nat_tests}
-use Rattle.std.specs.Prelude.{is_some}
+use Rattle.std.specs.Prelude.{count_by}
+use Rattle.std.proofs.lemmas.List.Sums.{sum_by-append, sum_by-cons}
+use Rattle.blk_ptr.specs.Order.{key_eq}
+use Rattle.arc_table.proofs.Bookings.{holds_cons}
 use Rattle.std.specs.List.{AllByRecursion}
 use Rattle.std.specs.Option.{option_map, option_map_or}
 use Rattle.std.proofs.lemmas.Bool.{false≢true}
-use mathlib.Core.Option.{some, some-injective, some-ne-none}
-use lib.ListN.{get_elem?}
 use Rattle.blk_ptr.specs.Ptr.{sha256_of}
+use Rattle.blk_ptr.specs.declared.key.Key.{Key}
 use Rattle.blk_ptr.specs.declared.ptr.Ptr.{Ptr}
+use Rattle.arc_core.specs.Keeps.{holds_on}
 use Rattle.arc_core.specs.declared.config.Config.{Config}
 use Rattle.arc_core.specs.declared.event.Event.{Event}
-use Rattle.arc_table.specs.Holding.{IsOneOf}
 use Rattle.dbuf_state.specs.CellLog.{CellLog, noted, touched}
-use Rattle.dbuf_state.specs.Dbufs.{DbufHas, Fits, IsFit, cached_with, dbuf_at, dbuf_is, dbuf_oid, is_cached, is_clean, is_clean_in, mapped_of, used_at, with_dbuf}
+use Rattle.dbuf_state.specs.Dbufs.{plain_block, plain_dbuf, DbufHas, Fits, IsFit, cached_with, dbuf_at, dbuf_is, dbuf_oid, is_cached, is_clean, is_clean_in, mapped_of, used_at, with_dbuf}
 use Rattle.dbuf_state.specs.Objects.{use_of}
 use Rattle.dbuf_state.specs.Objects as plain
 use Rattle.dbuf_state.specs.Oids.{has_item, is_distinct, item_at, oid_eq, with_change, with_item}
-use Rattle.dbuf_state.specs.Outline.{Outline, OutlineDbuf, after, is_cached_at, mapped_at}
+use Rattle.dbuf_state.specs.Outline.{Outline, OutlineDbuf, after, is_cached_at, mapped_at, mapped_in, outline_dbuf}
 use Rattle.dbuf_state.specs.Outline as outline
 use Rattle.dbuf_state.specs.Soundness.{hold_in, holds_in}
 use Rattle.dbuf_state.specs.declared.dbuf.Content.{Content}
@@ -33,10 +35,10 @@ use Rattle.dbuf_state.proofs.OutlineLemmas.{cell-is-in-outline}
 use Rattle.dbuf_cells.specs.InHand.{HoldsStay, IsRoomier}
 use Rattle.dbuf_cells.specs.Kept.{bytes_of, is_held, key_of}
 use Rattle.dbuf_cells.specs.Loading.{AreHeldBut}
-use Rattle.dbuf_cells.specs.Turns.{AreEvictions, HoldsStand, IsCachedAs, OnHeap, Operates, PartyPlace, drops_if, held_at, held_in, holds_of, outline_in}
+use Rattle.dbuf_cells.specs.Turns.{AreEvictions, HoldsStand, IsCachedAs, OnHeap, Operates, PartyPlace, drops_if, is_under, held_at, held_in, holds_of, outline_in}
 use Rattle.dbuf_cells.specs.declared.kept.Kept.{Kept}
 use Rattle.dbuf_cells.proofs.CellSteps.{oid-is}
-use Rattle.dbuf_cells.proofs.HoldLists.{first-or-behind, hold-counts, hold-there, kept-one}
+use Rattle.dbuf_cells.proofs.HoldLists.{hold-counts, kept-one}
 
 -- the dbuf keeps a hold
 abbrev pub keeps_hold : Dbuf Kept → Bool
@@ -209,92 +211,99 @@ kept-cached b at d k found fit kept =
     }
 
 -- the dbuf that keeps a hold, and what it keeps
-record Holds (P : Dbuf Kept → Kept → Type 0) (at : Oid) (ds : List (Dbuf Kept)) : Type 0 where
+record Holds (at : Oid) (ds : List (Dbuf Kept)) : Type 0 where
   pub dbuf : Dbuf Kept
   pub kept : Kept
   pub found : dbuf_at at ds ≡ Some dbuf
   pub there : dbuf.kept ≡ Some kept
   pub held : is_held kept ≡ true
-  pub has : P dbuf kept
 
-holder : (at : Oid) (ds : List (Dbuf Kept)) → held_at ds at ≡ true → Holds (λ d k. Unit {0}) at ds
+holder : (at : Oid) (ds : List (Dbuf Kept)) → held_at ds at ≡ true → Holds at ds
 holder at ds held = go (dbuf_at at ds) refl held
   where
-    one : (d : Dbuf Kept) (o : Option Kept) → dbuf_at at ds ≡ Some d → d.kept ≡ o → option_map_or is_held o false ≡ true → Holds (λ d k. Unit {0}) at ds
+    one : (d : Dbuf Kept) (o : Option Kept) → dbuf_at at ds ≡ Some d → d.kept ≡ o → option_map_or is_held o false ≡ true → Holds at ds
     one d None found there h = absurd (false≢true h)
-    one d (Some k) found there h = record { dbuf = d; kept = k; found = found; there = there; held = h; has = tt }
+    one d (Some k) found there h = record { dbuf = d; kept = k; found = found; there = there; held = h }
 
-    go : (o : Option (Dbuf Kept)) → dbuf_at at ds ≡ o → option_map_or keeps_hold o false ≡ true → Holds (λ d k. Unit {0}) at ds
+    go : (o : Option (Dbuf Kept)) → dbuf_at at ds ≡ o → option_map_or keeps_hold o false ≡ true → Holds at ds
     go None found h = absurd (false≢true h)
     go (Some d) found h = one d d.kept found refl h
-
-nothing : (x : Ptr) → IsOneOf x [] → ⊥
-nothing x one = some-ne-none x (sym one.1)
-
--- a dbuf of another Oid stands behind the first
-found-behind : (at : Oid) (x d : Dbuf Kept) (ds : List (Dbuf Kept)) → has_item dbuf_oid x.at ds ≡ false → dbuf_at at ds ≡ Some d → dbuf_at at (x ∷ ds) ≡ Some d
-found-behind at x d ds none found = go (bool_cases (oid_eq at x.at))
-  where
-    go : (oid_eq at x.at ≡ true) ⊎ (oid_eq at x.at ≡ false) → dbuf_at at (x ∷ ds) ≡ Some d
-    go (inl near) =
-        let there : has_item dbuf_oid x.at ds ≡ true = ap (λ (a : Oid). has_item dbuf_oid a ds) (sym (oid-is at x.at near)) ∙ ap is_some found in
-        absurd (false≢true (sym none ∙ there))
-    go (inr far) = rw far found
 
 not-true : (b : Bool) → not b ≡ true → b ≡ false
 not-true true h = absurd (false≢true h)
 not-true false h = refl
 
--- whose hold is one of these
-holder-of : (x : Ptr) (ds : List (Dbuf Kept)) → is_distinct dbuf_oid ds ≡ true → IsOneOf x (holds_in key_of bytes_of is_held ds) → (at : Oid) × Holds (λ d k. key_of k ≡ x.key) at ds
-holder-of x [] once one = absurd (nothing x one)
-holder-of x (d ∷ ds) once one = ⊎_elim (λ mine. (d.at, first d.kept refl mine)) (λ rest. later (holder-of x ds parts.1 rest)) (first-or-behind d.kept x (holds_in key_of bytes_of is_held ds) one)
+and-true : (a : Bool) → (a && true) ≡ a
+and-true true = refl
+and-true false = refl
+
+-- ---- as many holds as there are such blocks
+
+-- one dbuf
+one-holds : (k : Key) (d : Dbuf Kept) → IsFit key_of bytes_of d
+    → holds_on k (hold_in key_of bytes_of is_held d.kept) ≡ cond ((plain.is_cached (plain_block d.content d.state) && is_under k (mapped_in (plain_block d.content d.state))) && keeps_hold d) 1 0
+one-holds k d fit = go d.content d.state d.kept fit
   where
-    parts : (not (has_item dbuf_oid d.at ds) ≡ true) × (is_distinct dbuf_oid ds ≡ true)
-    parts = and-parts (not (has_item dbuf_oid d.at ds)) (is_distinct dbuf_oid ds) once
+    and-false : (a : Bool) → (a && false) ≡ false
+    and-false true = refl
+    and-false false = refl
 
-    here : oid_eq d.at d.at ≡ true → dbuf_at d.at (d ∷ ds) ≡ Some d
-    here same = rw same refl
+    by : (ptr : Ptr) (h : Kept) (held : Bool) → key_of h ≡ ptr.key → holds_on k (if held then (record { key = key_of h; digest = sha256_of (bytes_of h) } ∷ []) else []) ≡ cond ((true && key_eq k ptr.key) && held) 1 0
+    by ptr h true same =
+        let one : holds_on k (record { key = key_of h; digest = sha256_of (bytes_of h) } ∷ []) ≡ cond (key_eq k (key_of h)) 1 0 + holds_on k [] = holds_cons k (record { key = key_of h; digest = sha256_of (bytes_of h) }) [] in
+        let none : holds_on k [] ≡ 0 = refl in
+        let mine : cond {A = ℕ} (key_eq k (key_of h)) 1 0 ≡ cond (key_eq k ptr.key) 1 0 = ap (λ (x : Key). cond {A = ℕ} (key_eq k x) 1 0) same in
+        let its : cond {A = ℕ} (key_eq k ptr.key && true) 1 0 ≡ cond (key_eq k ptr.key) 1 0 = ap (λ (b : Bool). cond {A = ℕ} b 1 0) (and-true (key_eq k ptr.key)) in
+        omega (arith, one, none, mine, its)
+    by ptr h false same = sym (ap (λ (b : Bool). cond {A = ℕ} b 1 0) (and-false (true && key_eq k ptr.key)))
 
-    first : (o : Option Kept) → d.kept ≡ o → IsOneOf x (hold_in key_of bytes_of is_held o) → Holds (λ d k. key_of k ≡ x.key) d.at (d ∷ ds)
-    first None there mine = absurd (nothing x mine)
-    first (Some k) there mine = by (is_held k) refl mine
-      where
-        by : (c : Bool) → is_held k ≡ c → IsOneOf x (if c then (record { key = key_of k; digest = sha256_of (bytes_of k) } ∷ []) else []) → Holds (λ d k. key_of k ≡ x.key) d.at (d ∷ ds)
-        by true held one = record { dbuf = d; kept = k; found = here (oid-same d.at); there = there; held = held; has = its one.0 one.1 }
-          where
-            its : (q : ℕ) → get_elem? (record { key = key_of k; digest = sha256_of (bytes_of k) } ∷ []) q ≡ some x → key_of k ≡ x.key
-            its zero e = ap (λ (p : Ptr). p.key) (some-injective (record { key = key_of k; digest = sha256_of (bytes_of k) }) x e)
-            its (suc q) e = absurd (some-ne-none x (sym e))
-        by false held one = absurd (nothing x one)
+    go : (c : Content) (s : DbState) (o : Option Kept) → Fits key_of bytes_of c s o
+        → holds_on k (hold_in key_of bytes_of is_held o) ≡ cond ((plain.is_cached (plain_block c s) && is_under k (mapped_in (plain_block c s))) && option_map_or is_held o false) 1 0
+    go (Dirty bytes) s None fit = refl
+    go (Dirty bytes) s (Some h) fit = absurd (false≢true (and-parts (is_cached s) false fit.0).1)
+    go (Clean ptr) s None fit = sym (ap (λ (b : Bool). cond {A = ℕ} b 1 0) (and-false (plain.is_cached (plain_block (Clean ptr) s) && is_under k (mapped_in (plain_block (Clean ptr) s)))))
+    go (Clean ptr) s (Some h) fit = let there : is_cached s ≡ true = fit.0 in rw there (by ptr h (is_held h) fit.1.key)
 
-    later : (at : Oid) × Holds (λ d k. key_of k ≡ x.key) at ds → (at : Oid) × Holds (λ d k. key_of k ≡ x.key) at (d ∷ ds)
-    later h = (
-      h.0,
-      record {
-        dbuf = h.1.dbuf;
-        kept = h.1.kept;
-        found = found-behind h.0 d h.1.dbuf ds (not-true (has_item dbuf_oid d.at ds) parts.0) h.1.found;
-        there = h.1.there;
-        held = h.1.held;
-        has = h.1.has;
-      },
-    )
+-- each dbuf of the list is the one of its Oid there
+else-first : (x : Dbuf Kept) (ds : List (Dbuf Kept)) → has_item dbuf_oid x.at ds ≡ false → AllByRecursion (λ d. oid_eq d.at x.at ≡ false) ds
+else-first x [] none = tt
+else-first x (d ∷ ds) none = go (bool_cases (oid_eq x.at d.at)) (λ h. else-first x ds h)
+  where
+    go : (oid_eq x.at d.at ≡ true) ⊎ (oid_eq x.at d.at ≡ false) → (has_item dbuf_oid x.at ds ≡ false → AllByRecursion (λ d. oid_eq d.at x.at ≡ false) ds) → AllByRecursion (λ d. oid_eq d.at x.at ≡ false) (d ∷ ds)
+    go (inl near) ih = let found : true ≡ false = rw near at none in absurd (false≢true (sym found))
+    go (inr far) ih = (oid_eq-sym d.at x.at ∙ far, ih (rw far at none))
+
+all-behind : (x : Dbuf Kept) (all : List (Dbuf Kept)) (ds : List (Dbuf Kept)) → AllByRecursion (λ d. oid_eq d.at x.at ≡ false) ds → AllByRecursion (λ d. held_at all d.at ≡ keeps_hold d) ds → AllByRecursion (λ d. held_at (x ∷ all) d.at ≡ keeps_hold d) ds
+all-behind x all [] far each = tt
+all-behind x all (d ∷ ds) far each = (let other : oid_eq d.at x.at ≡ false = far.0 in rw other each.0, all-behind x all ds far.1 each.1)
+
+each-its : (ds : List (Dbuf Kept)) → is_distinct dbuf_oid ds ≡ true → AllByRecursion (λ d. held_at ds d.at ≡ keeps_hold d) ds
+each-its [] once = tt
+each-its (x ∷ ds) once =
+    let parts = and-parts (not (has_item dbuf_oid x.at ds)) (is_distinct dbuf_oid ds) once in
+    (let same : oid_eq x.at x.at ≡ true = oid-same x.at in rw same refl, all-behind x ds ds (else-first x ds (not-true (has_item dbuf_oid x.at ds) parts.0)) (each-its ds parts.1))
+
+holds-count : (k : Key) (held : Oid → Bool) (ds : List (Dbuf Kept)) → AllByRecursion (IsFit key_of bytes_of) ds → AllByRecursion (λ d. held d.at ≡ keeps_hold d) ds
+    → holds_on k (holds_in key_of bytes_of is_held ds) ≡ count_by (λ (d : OutlineDbuf). (d.cached && is_under k d.mapped) && held d.at) (map outline_dbuf (map plain_dbuf ds))
+holds-count k held [] fit each = refl
+holds-count k held (d ∷ ds) fit each =
+    let rest = holds-count k held ds fit.1 each.1 in
+    let test : OutlineDbuf → Bool = λ d. (d.cached && is_under k d.mapped) && held d.at in
+    let both : holds_on k (hold_in key_of bytes_of is_held d.kept ++ holds_in key_of bytes_of is_held ds) ≡ holds_on k (hold_in key_of bytes_of is_held d.kept) + holds_on k (holds_in key_of bytes_of is_held ds)
+    = sum_by-append (λ (h : Ptr). cond {A = ℕ} (key_eq k h.key) 1 0) (hold_in key_of bytes_of is_held d.kept) (holds_in key_of bytes_of is_held ds) in
+    let more : count_by test (outline_dbuf (plain_dbuf d) ∷ map outline_dbuf (map plain_dbuf ds)) ≡ cond {A = ℕ} (test (outline_dbuf (plain_dbuf d))) 1 0 + count_by test (map outline_dbuf (map plain_dbuf ds))
+    = sum_by-cons (λ (y : OutlineDbuf). cond {A = ℕ} (test y) 1 0) (outline_dbuf (plain_dbuf d)) (map outline_dbuf (map plain_dbuf ds)) in
+    let one : holds_on k (hold_in key_of bytes_of is_held d.kept) ≡ cond {A = ℕ} (test (outline_dbuf (plain_dbuf d))) 1 0
+    = one-holds k d fit.0 ∙ ap (λ (b : Bool). cond {A = ℕ} ((plain.is_cached (plain_block d.content d.state) && is_under k (mapped_in (plain_block d.content d.state))) && b) 1 0) (sym each.0) in
+    omega (arith, rest, both, more, one)
 
 pub holds-stand : (b : OnHeap) → AllByRecursion (IsFit key_of bytes_of) b.value.dbufs → IsTrue (is_distinct dbuf_oid b.value.dbufs) → HoldsStand b
 holds-stand b fit once = record {
   of_held = λ at held.
       let h = holder at b.value.dbufs held in
       (key_of h.kept, kept-cached b at h.dbuf h.kept h.found (fit-found at b.value.dbufs h.dbuf fit h.found) h.there, hold-counts (holds_of b.value) _ (kept-one at b.value.dbufs h.dbuf h.kept h.found h.there h.held));
-  of_key = λ k some_hold.
-      let one = hold-there k (holds_of b.value) some_hold in
-      let h = holder-of one.0 b.value.dbufs once one.1 in
-      let has = kept-cached b h.0 h.1.dbuf h.1.kept h.1.found (fit-found h.0 b.value.dbufs h.1.dbuf fit h.1.found) h.1.there in
-      (h.0, held-there h.0 h.1, record { ptr = has.ptr; mapped = has.mapped; cached = has.cached; key = has.key ∙ (h.1.has ∙ sym one.2) });
+  count = λ k. holds-count k (held_in b) b.value.dbufs fit (each-its b.value.dbufs once);
 }
-  where
-    held-there : {P : Dbuf Kept → Kept → Type 0} (at : Oid) → Holds P at b.value.dbufs → held_in b at ≡ true
-    held-there at h = ap (λ (o : Option (Dbuf Kept)). option_map_or keeps_hold o false) h.found ∙ (ap (λ (o : Option Kept). option_map_or is_held o false) h.there ∙ h.held)
 
 -- ---- evictions by what dbufs keep
 

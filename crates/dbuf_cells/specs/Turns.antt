@@ -1,10 +1,11 @@
 -- A party takes a cell of dbufs, does things to it and makes events of shards meanwhile, and gives it back.
-use Rattle.std.specs.Prelude.{◌≡◌, ◌≢◌, ℕ, zero, suc, ◌<◌, Bool, true, false, List, [], ◌∷◌, ◌++◌, map, Some}
+use Rattle.std.specs.Prelude.{◌≡◌, ◌≢◌, ℕ, zero, suc, ◌<◌, Bool, true, false, List, [], ◌∷◌, ◌++◌, ◌&&◌, count_by, map, Some}
 use Rattle.std.specs.Option.{option_map_or}
 use mathlib.Core.Option.{some}
 use lib.ListN.{get_elem?}
 use Rattle.std.specs.declared.alloc.Global.{Global}
 use Rattle.std.specs.declared.boxed.Box.{Box}
+use Rattle.blk_ptr.specs.Order.{key_eq}
 use Rattle.blk_ptr.specs.declared.key.Key.{Key}
 use Rattle.blk_ptr.specs.declared.ptr.Ptr.{Ptr}
 use Rattle.arc_core.specs.Keeps.{holds_on}
@@ -35,7 +36,8 @@ use Rattle.dbuf_state.specs.declared.event.CellEvent.{CellEvent}
 use Rattle.dbuf_state.specs.declared.event.CellEvent.TheVariants.{Evict}
 use Rattle.dbuf_state.specs.declared.oid.Oid.{Oid}
 use Rattle.dbuf_state.specs.declared.state.DbState.TheVariants as state
-use Rattle.dbuf_state.specs.declared.state.Mapped.TheVariants.{Clean}
+use Rattle.dbuf_state.specs.declared.state.Mapped.{Mapped}
+use Rattle.dbuf_state.specs.declared.state.Mapped.TheVariants.{Clean, Dirty}
 use Rattle.dbuf_cells.specs.Places.{cell_of}
 use Rattle.dbuf_cells.specs.Kept.{bytes_of, is_held, key_of}
 use Rattle.dbuf_cells.specs.declared.kept.Kept.{Kept}
@@ -72,10 +74,22 @@ pub record IsCachedAs (at : Oid) (k : Key) (o : Outline) : Type 0 where
   pub cached : is_cached_at at o ≡ true
   pub key : ptr.key ≡ k
 
--- Where a dbuf keeps a hold, its block is cached under a key on which the cell has a hold. And a key on which it has one is that of such a block.
+-- what is mapped is a clean block of this key
+abbrev pub is_under : Key → Mapped → Bool
+is_under k (Clean ptr) = key_eq k ptr.key
+is_under k (Dirty size) = false
+
+-- how many blocks of an outline are cached under a key, and how many of these have a dbuf that keeps a hold
+abbrev pub cached_under : Key → Outline → ℕ
+cached_under k o = count_by (λ d. d.cached && is_under k d.mapped) o.dbufs
+
+abbrev pub held_under : Key → (held : Oid → Bool) → Outline → ℕ
+held_under k held o = count_by (λ d. (d.cached && is_under k d.mapped) && held d.at) o.dbufs
+
+-- Where a dbuf keeps a hold, its block is cached under a key on which the cell has a hold. And of each key the cell has as many holds as blocks are cached under it whose dbuf keeps one.
 pub record HoldsStand (b : OnHeap) : Type 0 where
   pub of_held : (at : Oid) → held_in b at ≡ true → (k : Key) × IsCachedAs at k (outline_in b) × (0 < holds_on k (holds_of b.value))
-  pub of_key : (k : Key) → 0 < holds_on k (holds_of b.value) → (at : Oid) × (held_in b at ≡ true) × IsCachedAs at k (outline_in b)
+  pub count : (k : Key) → holds_on k (holds_of b.value) ≡ held_under k (held_in b) (outline_in b)
 
 -- ---- what a cell means to the shared cache
 
