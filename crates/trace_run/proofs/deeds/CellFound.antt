@@ -165,5 +165,5 @@ module _ (g : Config) (valid : IsConfig g) (i : ℕ) (in_range : IsCell g i) (ce
       ∙ ap (λ (s : List (List Line)). count_of (cell_number g i) k (replay (opening_of g) (events_in (front_of (turn_of g (shard_of g.shards k)) s)))) knew.seen in
       record {
         of_held = λ at is. let h = t.stands.of_held at is in (h.0, h.1, subst (λ (n : ℕ). 0 < n) (counted h.0) h.2);
-        of_key = λ k some_hold. t.stands.of_key k (subst (λ (n : ℕ). 0 < n) (sym (counted k)) some_hold);
+        count = λ k. sym (counted k) ∙ t.stands.count k;
       }

@@ -1,5 +1,6 @@
 -- What a line on an object was answered, and what it did beside its reply, by the cell that its party found: as the contract of its call says it.
 use Rattle.std.proofs.Common.{◌≡◌, ◌⊎◌, ℕ, Bool, List, [], ◌∷◌, ◌++◌, map, Option, inl, inr, refl, sym, ap, ◌∙◌, subst, append-nil}
+use Rattle.std.specs.Prelude.{◌&&◌, count_by}
 use Rattle.std.specs.List.{AllByRecursion}
 use Rattle.blk_ptr.specs.declared.key.Key.{Key}
 use Rattle.blk_ptr.specs.declared.key.KeyFault.{KeyFault}
@@ -17,7 +18,7 @@ use Rattle.arc_table.specs.Geometry.{cell_number}
 use Rattle.arc_table.specs.Reading.{Outside}
 use Rattle.arc_table.specs.Seen.{HasAll}
 use Rattle.dbuf_cells.specs.Places.{cell_of}
-use Rattle.dbuf_cells.specs.Turns.{AreEvictions, IsCachedAs, OnHeap, PartyPlace, held_in, outline_in}
+use Rattle.dbuf_cells.specs.Turns.{AreEvictions, IsCachedAs, OnHeap, PartyPlace, held_in, is_under, outline_in}
 use Rattle.dbuf_state.proofs.OutlineLemmas.{leads-outline}
 use Rattle.dbuf_state.specs.Objects.{Evicting, Never, opening_cell}
 use Rattle.dbuf_state.specs.Outline.{Outline, OutlineDbuf, after_all, has_pin_at, is_cached_at, mapped_at, outline_after}
@@ -80,7 +81,7 @@ module _ (at : Oid) (o x : Outline) (same : o.dbufs ≡ x.dbufs) where
 pub holders-so : (c : ℕ) (o x : Outline) → o.dbufs ≡ x.dbufs → (s : Key → PlainShard) (held : Oid → Bool) → AreHolders c o s held → AreHolders c x s held
 holders-so c o x same s held h = record {
   of_held = λ at is. let w = h.of_held at is in (w.0, as-cached at o x same w.0 w.1, w.2);
-  of_key = λ k some_hold. let w = h.of_key k some_hold in (w.0, w.1, as-cached w.0 o x same k w.2);
+  count = λ k. h.count k ∙ ap (λ (ds : List OutlineDbuf). count_by (λ d. (d.cached && is_under k d.mapped) && held d.at) ds) same;
 }
 
 -- the outline that was found, by what had been done
