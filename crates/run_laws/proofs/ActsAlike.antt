@@ -1,5 +1,5 @@
--- What two answered lines on an object gave up of blocks that their cell keeps no longer: where the cell stood alike in both, and the shards tell the same of what it holds, they made the same acts; or two of its dbufs are cached under
--- one key (dbuf_evict_one and dbuf_dirty of dbuf.c, which destroy the ARC buffer).
+-- What two answered lines on an object gave up of blocks that their cell keeps no longer: where the cell stood alike in both, and the shards tell the same of what it holds, they made the same acts; or the cell holds fewer entries
+-- under a key than it has blocks cached (dbuf_evict_one and dbuf_dirty of dbuf.c, which destroy the ARC buffer).
 use Rattle.std.proofs.Common.{◌≡◌, ◌≢◌, ◌⊎◌, ℕ, ◌<◌, Bool, true, false, if◌then◌else◌, List, [], ◌∷◌, ◌++◌, map, Option, Some, refl, sym, ap, subst, ◌∙◌, inl, inr, append_assoc}
 use Rattle.std.proofs.lemmas.Bool.{false≢true}
 use Rattle.blk_ptr.specs.declared.key.Key.{Key}
@@ -13,7 +13,7 @@ use Rattle.arc_table.specs.Geometry.{cell_number}
 use Rattle.dbuf_cells.specs.Ending.{DropsEach}
 use Rattle.dbuf_cells.specs.Places.{cell_of}
 use Rattle.dbuf_cells.specs.Putting.{Releases, no_hold, one_hold}
-use Rattle.dbuf_cells.specs.Turns.{AreEvictions, IsCachedAs, drops_if}
+use Rattle.dbuf_cells.specs.Turns.{AreEvictions, cached_under, drops_if}
 use Rattle.dbuf_state.specs.History.{Leads}
 use Rattle.dbuf_state.specs.Objects.{Evicting, Must, evicting_after, opening_cell}
 use Rattle.dbuf_state.specs.Oids.{oid_eq}
@@ -31,30 +31,23 @@ use Rattle.trace_run.specs.dbufs.ObjectReplies.{ActsAt}
 use Rattle.trace_run.specs.dbufs.Objects.{Brought, Loaded, Nothing, OwnEvent, Refused, Work, gives_hold, held_once, loads_of}
 use Rattle.trace_run.proofs.deeds.CellsDone.{noted-here}
 use Rattle.trace_run.proofs.deeds.DeedLemmas.{events-acts}
-use Rattle.run_laws.specs.Alike.{SharesKey}
+use Rattle.run_laws.specs.Alike.{HoldsFewer}
 use Rattle.run_laws.proofs.Due.{evictions-behind}
+use Rattle.run_laws.proofs.Fewer.{fewer-held}
 use Rattle.run_laws.proofs.Facts.{IsSettled}
 
 -- ---- two that the shards tell alike
 
--- where only one of two says of a dbuf that it has a hold, the other says so of another dbuf under that key
-one-holds : (c : ℕ) (o : Outline) (s : Key → PlainShard) (held other : Oid → Bool) → AreHolders c o s held → AreHolders c o s other → (at : Oid) → held at ≡ true → other at ≡ false → SharesKey o
+-- where only one of two says of a dbuf that it has a hold, the number holds fewer under its key than are cached
+one-holds : (c : ℕ) (o : Outline) (s : Key → PlainShard) (held other : Oid → Bool) → AreHolders c o s held → AreHolders c o s other → (at : Oid) → held at ≡ true → other at ≡ false → HoldsFewer c o s
 one-holds c o s held other one two at is not =
     let h = one.of_held at is in
-    let w = two.of_key h.0 h.2 in
-    record {
-      at = at;
-      other = w.0;
-      differ = λ same. false≢true (sym not ∙ (ap other same ∙ w.1));
-      key = h.0;
-      cached = h.1;
-      other_cached = w.2;
-    }
+    record { key = h.0; some = h.2; fewer = subst (λ (n : ℕ). n < cached_under h.0 o) (sym (two.count h.0)) (fewer-held h.0 other at o h.1 not) }
 
-pub holders-or : (c : ℕ) (o : Outline) (s : Key → PlainShard) (held other : Oid → Bool) → AreHolders c o s held → AreHolders c o s other → (at : Oid) → (other at ≡ held at) ⊎ SharesKey o
+pub holders-or : (c : ℕ) (o : Outline) (s : Key → PlainShard) (held other : Oid → Bool) → AreHolders c o s held → AreHolders c o s other → (at : Oid) → (other at ≡ held at) ⊎ HoldsFewer c o s
 holders-or c o s held other one two at = go (held at) (other at) refl refl
   where
-    go : (a b : Bool) → held at ≡ a → other at ≡ b → (other at ≡ held at) ⊎ SharesKey o
+    go : (a b : Bool) → held at ≡ a → other at ≡ b → (other at ≡ held at) ⊎ HoldsFewer c o s
     go true true is other_is = inl (other_is ∙ sym is)
     go false false is other_is = inl (other_is ∙ sym is)
     go true false is other_is = inr (one-holds c o s held other one two at is other_is)
@@ -167,10 +160,10 @@ module _ (g : Config) (own : OwnEvent) (o : Outline) (s : Key → PlainShard) wh
   done_of brought = after_all o (loads_of 0 own.at brought ++ own.event ∷ [])
 
   -- two such lines, for which the same was brought, and which evicted the same blocks, made the same acts
-  acts-one : (w v : Work) (acts : ActsAt g 0 IsHeldSo own o w) (other : ActsAt g 0 IsHeldSo own o v) → v.brought ≡ w.brought → other.evictions ≡ acts.evictions → (v.acts ≡ w.acts) ⊎ SharesKey o
+  acts-one : (w v : Work) (acts : ActsAt g 0 IsHeldSo own o w) (other : ActsAt g 0 IsHeldSo own o v) → v.brought ≡ w.brought → other.evictions ≡ acts.evictions → (v.acts ≡ w.acts) ⊎ HoldsFewer its_number o s
   acts-one w v acts other brings evicts = both
-      (releases-or (SharesKey o) its_number held other_held alike own.event (loaded_of w.brought) acts.released other.released acts.releases releases)
-      (drops-or (SharesKey o) 0 its_number held other_held alike (done_of w.brought) evs acts.drops other.drops acts.evicted evicted)
+      (releases-or (HoldsFewer its_number o s) its_number held other_held alike own.event (loaded_of w.brought) acts.released other.released acts.releases releases)
+      (drops-or (HoldsFewer its_number o s) 0 its_number held other_held alike (done_of w.brought) evs acts.drops other.drops acts.evicted evicted)
     where
       held : Oid → Bool
       held = held_once own.at w.brought acts.held
@@ -178,8 +171,8 @@ module _ (g : Config) (own : OwnEvent) (o : Outline) (s : Key → PlainShard) wh
       other_held : Oid → Bool
       other_held = held_once own.at w.brought other.held
 
-      alike : SayAlike (SharesKey o) held other_held
-      alike = once-alike (SharesKey o) own.at w.brought acts.held other.held (holders-or its_number o s acts.held other.held acts.are_held other.are_held)
+      alike : SayAlike (HoldsFewer its_number o s) held other_held
+      alike = once-alike (HoldsFewer its_number o s) own.at w.brought acts.held other.held (holders-or its_number o s acts.held other.held acts.are_held other.are_held)
 
       evs : List CellEvent
       evs = map (events.Evict 0) acts.evictions
@@ -190,7 +183,7 @@ module _ (g : Config) (own : OwnEvent) (o : Outline) (s : Key → PlainShard) wh
       evicted : AreEvictions 0 its_number other_held (done_of w.brought) evs other.drops
       evicted = subst (λ (z : Brought × List Oid). AreEvictions 0 its_number (held_once own.at z.0 other.held) (done_of z.0) (map (events.Evict 0) z.1) other.drops) (λ h. (brings h, evicts h)) other.evicted
 
-      both : (acts_of_events other.released ≡ acts_of_events acts.released) ⊎ SharesKey o → (other.drops ≡ acts.drops) ⊎ SharesKey o → (v.acts ≡ w.acts) ⊎ SharesKey o
+      both : (acts_of_events other.released ≡ acts_of_events acts.released) ⊎ HoldsFewer its_number o s → (other.drops ≡ acts.drops) ⊎ HoldsFewer its_number o s → (v.acts ≡ w.acts) ⊎ HoldsFewer its_number o s
       both (inr shares) drops = inr shares
       both (inl released) (inr shares) = inr shares
       both (inl released) (inl drops) =
@@ -203,11 +196,11 @@ module _ (g : Config) (own : OwnEvent) (o : Outline) (s : Key → PlainShard) wh
 abbrev done_on : OwnEvent → Brought → (evictions : List Oid) → List CellEvent
 done_on own brought evictions = loads_of 0 own.at brought ++ own.event ∷ map (events.Evict 0) evictions
 
--- Two answered lines of one operation, which found the cell with one history, and the shards alike, and left none due, noted the same and made the same acts; or two dbufs of the cell are cached under one key.
+-- Two answered lines of one operation, which found the cell with one history, and the shards alike, and left none due, noted the same and made the same acts; or the cell holds fewer entries under a key than it has blocks cached.
 pub acts-alike : (g : Config) (limit : ℕ) (opening : List Mapping) (front : List CellEvent) (s : Key → PlainShard) (own : OwnEvent) (w v : Work) → ((x : Evicting) → evicting_after x own.event ≡ Must)
     → IsSettled limit opening (front ++ events_of_cell (cell_of g.cells own.at) w.noted) → IsSettled limit opening (front ++ events_of_cell (cell_of g.cells own.at) v.noted)
     → ActsAt g 0 (IsHeldSo g own (outline_after limit opening front) s) own (outline_after limit opening front) w → ActsAt g 0 (IsHeldSo g own (outline_after limit opening front) s) own (outline_after limit opening front) v
-    → v.brought ≡ w.brought → ((v.noted ≡ w.noted) × (v.acts ≡ w.acts)) ⊎ SharesKey (outline_after limit opening front)
+    → v.brought ≡ w.brought → ((v.noted ≡ w.noted) × (v.acts ≡ w.acts)) ⊎ HoldsFewer (cell_number g (cell_of g.cells own.at)) (outline_after limit opening front) s
 acts-alike g limit opening front s own w v makes rests other_rests acts other brings =
     let i : ℕ = cell_of g.cells own.at in
     let loads : List CellEvent = loads_of 0 own.at w.brought in

@@ -1,5 +1,5 @@
--- Two ends of cells to which the same was done, over shards that stand alike, dropped the same holds; or a cell has two dbufs that are cached under one key.
-use Rattle.std.proofs.Common.{◌≡◌, ◌⊎◌, ℕ, zero, suc, ◌+◌, ◌<◌, ◌≤◌, Bool, List, [], ◌∷◌, ◌++◌, map, sym, ap, subst, ◌∙◌, inl, inr, arith}
+-- Two ends of cells to which the same was done, over shards that stand alike, dropped the same holds; or a cell holds fewer entries under a key than it has blocks cached.
+use Rattle.std.proofs.Common.{◌≡◌, ◌⊎◌, ℕ, zero, suc, ◌+◌, ◌<◌, ◌≤◌, Bool, List, [], ◌∷◌, ◌++◌, map, refl, sym, ap, subst, ◌∙◌, inl, inr, arith, append-nil, append_assoc}
 use Rattle.blk_ptr.specs.Hash.{shard_of}
 use Rattle.blk_ptr.specs.declared.key.Key.{Key}
 use Rattle.arc_core.specs.PlainShard.{PlainShard}
@@ -18,14 +18,16 @@ use Rattle.trace_text.specs.Grammar.{AreApart}
 use Rattle.vdev_io.specs.declared.device.CacheDev.{Ghosts as Devices}
 use Rattle.vdev_io.specs.declared.pool.Pool.{Ghosts}
 use Rattle.trace_run.specs.KeptBlocks.{held_in_shard}
+use Rattle.trace_run.specs.Deeds.{events_there}
 use Rattle.trace_run.specs.Openings.{opening_map}
 use Rattle.trace_run.specs.dbufs.CellEnds.{DropsKept, holders_by, with_more}
 use Rattle.trace_run.specs.one_caller.OneCaller.{events_of_drops}
 use Rattle.trace_run.specs.one_caller.Sequence.{BetweenLines, GivesAllKept, outline_behind}
+use Rattle.trace_run.proofs.deeds.TurnMakes.{there-append}
 use Rattle.trace_run.proofs.in_place.DirtySizes.{distinct-all, mapping_oid, names, names-opened}
 use Rattle.trace_run.proofs.in_place.RoomLists.{opening-once}
 use Rattle.trace_run.proofs.in_place.Sums.{AreDistinct}
-use Rattle.run_laws.specs.Alike.{OneRun, SharesKey}
+use Rattle.run_laws.specs.Alike.{HoldsFewer, OneRun}
 use Rattle.run_laws.proofs.ActsAlike.{SayAlike, each-or, holders-or}
 use Rattle.run_laws.proofs.Sorted.{cached-one}
 
@@ -34,43 +36,75 @@ distinct-behind : (limit : ℕ) (opening : List Mapping) (es : List CellEvent) �
 distinct-behind limit opening es once = distinct-all (outline_of (opening_cell limit opening)) es (subst AreDistinct (sym (names-opened opening)) once)
 
 module _ (trace : Trace) (apart : AreApart trace.objects) (cells : ℕ → List CellEvent) where
-  -- some cell has two such dbufs
-  abbrev pub SomeShares : Type 0
-  SomeShares = (i : ℕ) × IsCell trace.config i × SharesKey (outline_behind trace cells i)
-
   -- the shard of a key, where the shards have these histories
   abbrev shard_with : (shards : ℕ → List Event) → Key → PlainShard
   shard_with shards k = replay (opening_of trace.config) (shards (shard_of trace.config.shards k))
+
+  -- some cell holds fewer, behind these of the drops
+  pub record SomeHoldsFewer (shards : ℕ → List Event) (es : List Event) : Type 0 where
+    pub i : ℕ
+    pub in_range : IsCell trace.config i
+    pub drops : List Event
+    pub rest : List Event
+    pub are : es ≡ drops ++ rest
+    pub fewer : HoldsFewer (cell_number trace.config i) (outline_behind trace cells i) (shard_with (with_more trace.config shards drops))
+
+  -- before the first of them
+  fewer-now : (i : ℕ) → IsCell trace.config i → (shards : ℕ → List Event) (es : List Event) → HoldsFewer (cell_number trace.config i) (outline_behind trace cells i) (shard_with shards) → SomeHoldsFewer shards es
+  fewer-now i in_range shards es f = record {
+    i = i;
+    in_range = in_range;
+    drops = [];
+    rest = es;
+    are = refl;
+    fewer = subst (λ (s : ℕ → List Event). HoldsFewer (cell_number trace.config i) (outline_behind trace cells i) (shard_with s)) (λ z shard. sym (append-nil (shards shard)) z) f;
+  }
+
+  -- or behind those of a cell
+  fewer-then : (shards : ℕ → List Event) (es one behind : List Event) → es ≡ one ++ behind → SomeHoldsFewer (with_more trace.config shards one) behind → SomeHoldsFewer shards es
+  fewer-then shards es one behind are f = record {
+    i = f.i;
+    in_range = f.in_range;
+    drops = one ++ f.drops;
+    rest = f.rest;
+    are = are ∙ (ap (λ (l : List Event). one ++ l) f.are ∙ sym (append_assoc one f.drops f.rest));
+    fewer = subst (λ (s : ℕ → List Event). HoldsFewer (cell_number trace.config f.i) (outline_behind trace cells f.i) (shard_with s)) (λ z shard. both shard z) f.fewer;
+  }
+    where
+      both : (shard : ℕ) → with_more trace.config (with_more trace.config shards one) f.drops shard ≡ with_more trace.config shards (one ++ f.drops) shard
+      both shard = append_assoc (shards shard) (events_there trace.config shard one) (events_there trace.config shard f.drops) ∙ ap (λ (l : List Event). shards shard ++ l) (sym (there-append trace.config shard one f.drops))
 
   -- all that the cell i kept was given back
   abbrev GivesKept : (shards : ℕ → List Event) → (i : ℕ) → List Event → Outline → Type 0
   GivesKept shards i drops o = DropsKept trace.config i o (holders_by trace.config shards i o) drops
 
-  one-or : (i : ℕ) (shards : ℕ → List Event) (es fs : List Event) → GivesKept shards i es (outline_behind trace cells i) → GivesKept shards i fs (outline_behind trace cells i) → (fs ≡ es) ⊎ SharesKey (outline_behind trace cells i)
+  one-or : (i : ℕ) (shards : ℕ → List Event) (es fs : List Event) → GivesKept shards i es (outline_behind trace cells i) → GivesKept shards i fs (outline_behind trace cells i) → (fs ≡ es) ⊎ HoldsFewer (cell_number trace.config i) (outline_behind trace cells i) (shard_with shards)
   one-or i shards es fs one two =
       let o : Outline = outline_behind trace cells i in
       let once : AreDistinct (names o.dbufs) = distinct-behind trace.config.dbuf_bytes (opening_map trace i) (cells i) (opening-once trace apart i) in
       let kept : two.kept ≡ one.kept = sym (cached-one o one.kept two.kept once one.all two.all) in
       let others : DropsEach (cell_number trace.config i) two.held one.kept fs = subst (λ (ds : List OutlineDbuf). DropsEach (cell_number trace.config i) two.held ds fs) kept two.dropped in
-      let alike : SayAlike (SharesKey o) one.held two.held = holders-or (cell_number trace.config i) o (shard_with shards) one.held two.held one.are_held two.are_held in
-      each-or (SharesKey o) (cell_number trace.config i) one.held two.held alike one.kept es fs one.dropped others
+      let alike : SayAlike (HoldsFewer (cell_number trace.config i) o (shard_with shards)) one.held two.held = holders-or (cell_number trace.config i) o (shard_with shards) one.held two.held one.are_held two.are_held in
+      each-or (HoldsFewer (cell_number trace.config i) o (shard_with shards)) (cell_number trace.config i) one.held two.held alike one.kept es fs one.dropped others
 
   -- all cells, from this one on
   pub all-or : (i count : ℕ) → i + count ≤ trace.config.cells → (shards : ℕ → List Event) (es fs : List Event) → GivesAllKept trace.config (outline_behind trace cells) shards i count es
-      → GivesAllKept trace.config (outline_behind trace cells) shards i count fs → (fs ≡ es) ⊎ SomeShares
+      → GivesAllKept trace.config (outline_behind trace cells) shards i count fs → (fs ≡ es) ⊎ SomeHoldsFewer shards es
   all-or i zero inside shards es fs one two = inl (two ∙ sym one)
-  all-or i (suc count) inside shards es fs one two = go (one-or i shards one.0 two.0 one.3 two.3)
+  all-or i (suc count) inside shards es fs one two =
+      go (one-or i shards one.0 two.0 one.3 two.3) (λ rest. all-or (suc i) count (omega (arith, inside)) (with_more trace.config shards one.0) one.1 two.1 one.4 rest)
     where
-      go : (two.0 ≡ one.0) ⊎ SharesKey (outline_behind trace cells i) → (fs ≡ es) ⊎ SomeShares
-      go (inr shares) = inr (i, (let in_range : i < trace.config.cells = omega (arith, inside) in in_range), shares)
-      go (inl same) =
+      go : (two.0 ≡ one.0) ⊎ HoldsFewer (cell_number trace.config i) (outline_behind trace cells i) (shard_with shards)
+          → (GivesAllKept trace.config (outline_behind trace cells) (with_more trace.config shards one.0) (suc i) count two.1 → (two.1 ≡ one.1) ⊎ SomeHoldsFewer (with_more trace.config shards one.0) one.1) → (fs ≡ es) ⊎ SomeHoldsFewer shards es
+      go (inr fewer) later = inr (fewer-now i (let in_range : i < trace.config.cells = omega (arith, inside) in in_range) shards es fewer)
+      go (inl same) later =
           let rest : GivesAllKept trace.config (outline_behind trace cells) (with_more trace.config shards one.0) (suc i) count two.1
           = subst (λ (drops : List Event). GivesAllKept trace.config (outline_behind trace cells) (with_more trace.config shards drops) (suc i) count two.1) same two.4 in
-          elim (all-or (suc i) count (omega (arith, inside)) (with_more trace.config shards one.0) one.1 two.1 one.4 rest) [
+          elim (later rest) [
             | inl behind ↦
                 let both : two.0 ++ two.1 ≡ one.0 ++ one.1 = λ h. same h ++ behind h in
                 inl (two.2 ∙ (both ∙ sym one.2))
-            | inr shares ↦ inr shares
+            | inr fewer ↦ inr (fewer-then shards es one.0 one.1 one.2 fewer)
           ]
 
 -- cells to which the same was done have the same outlines
@@ -104,7 +138,7 @@ module _ {P D : Type 0} (pools : Ghosts P) (devices : Devices D) (trace : Trace)
 
   -- which stood alike before the close
   pub drops-or : ((shard : ℕ) → other_last.shards shard ≡ last.shards shard) → ((i : ℕ) → IsCell trace.config i → other_last.cells i ≡ last.cells i) → other_last.kept ≡ last.kept
-      → (other.run.work.ended ≡ one.run.work.ended) ⊎ SomeShares trace apart last.cells
+      → (other.run.work.ended ≡ one.run.work.ended) ⊎ SomeHoldsFewer trace apart last.cells (dropped_kept last) one.run.work.ended
   drops-or shards cells kept =
       let its : GivesAllKept trace.config (outline_behind trace last.cells) (dropped_kept other_last) 0 trace.config.cells other.run.work.ended =
       gives-as trace last.cells other_last.cells cells 0 trace.config.cells (omega arith) (dropped_kept other_last) other.run.work.ended other.in_turn.closes.gives in

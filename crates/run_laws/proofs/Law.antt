@@ -2,7 +2,8 @@
 use Rattle.std.proofs.Common.{◌≡◌, ℕ, zero, suc, List, [], ◌∷◌, ◌++◌, length, take, Option, None, Some, refl, sym, ap, ◌∙◌, subst, inl, inr, append-nil, arith}
 use Rattle.std.specs.Prelude.{◌⊎◌, slice_get}
 use Rattle.std.proofs.lemmas.Option.{slice_get_within}
-use Rattle.arc_table.specs.Geometry.{IsCell}
+use Rattle.arc_core.specs.declared.event.Event.{Event}
+use Rattle.arc_table.specs.Geometry.{IsCell, cell_number}
 use Rattle.dbuf_state.specs.Outline.{outline_after}
 use Rattle.dbuf_state.specs.declared.event.CellEvent.{CellEvent}
 use Rattle.vdev_io.specs.Calls.{Call}
@@ -22,11 +23,13 @@ use Rattle.trace_run.specs.RunWork.{FitsBy, IsSyncWork}
 use Rattle.trace_run.specs.callers.Together.{StopsAtSync}
 use Rattle.trace_run.specs.callers.WorkLines.{IsWorkOf}
 use Rattle.trace_run.specs.dbufs.Objects.{Line, Work, ops_of}
+use Rattle.trace_run.specs.KeptBlocks.{held_in_shard}
+use Rattle.trace_run.specs.one_caller.OneCaller.{events_of_drops}
 use Rattle.trace_run.specs.one_caller.Sequence.{BetweenLines, DoesAnyLine, DoesSync, EndsThere, outline_behind}
 use Rattle.trace_run.proofs.callers.GroupLists.{some-same}
-use Rattle.run_laws.specs.Alike.{AreAlikeSoFar, BeginAlike, ComeToTheSame, FailAlike, MayPart, OneRun, SameUpTo, SharesKey, answers_at_stop, at_stop, before_close as shares_before_close, begun, done_to, front_at, front_last, pool_answers_to, shares as may_share}
+use Rattle.run_laws.specs.Alike.{AreAlikeSoFar, BeginAlike, ComeToTheSame, FailAlike, MayPart, OneRun, SameUpTo, HoldsFewer, answers_at_stop, at_stop, before_close as fewer_before_close, begun, done_to, front_at, front_last, pool_answers_to, shard_closing, fewer as may_fewer}
 use Rattle.run_laws.proofs.Closing.{EndAlike, close-alike}
-use Rattle.run_laws.proofs.EndedOrder.{SomeShares, drops-or}
+use Rattle.run_laws.proofs.EndedOrder.{SomeHoldsFewer, drops-or}
 use Rattle.run_laws.proofs.Facts.{AreCachedValid, AreSettled, OfEachLine}
 use Rattle.run_laws.proofs.LinesAlike.{Caps, ComeTo, Feeds, GoesFurther, Kind, Objects, Reads, StepsAlike, Syncs, Together, kind_of, one_further, other_further, parted, together}
 use Rattle.run_laws.proofs.Parting.{parts-may, replays-part, same-there}
@@ -223,19 +226,23 @@ module _ {P D : Type 0} (pools : Ghosts P) (devices : Devices D) (pool_len : (p 
         last-both : StopsSame → (i : ℕ) → IsCell trace.config i → front_last other.run.work.lines other.run.work.stopped i ≡ front_last one.run.work.lines one.run.work.stopped i
         last-both last i is_cell = sym (other-last-is i is_cell) ∙ (last.cells i is_cell ∙ last-is i is_cell)
 
-        shares-last : StopsSame → SomeShares trace formed.apart one.in_turn.last_line.cells → MayPart pools devices trace one other
-        shares-last last s =
-            let both : SharesKey (outline_behind trace (front_last one.run.work.lines one.run.work.stopped) s.0)
-            = subst (λ (es : List CellEvent). SharesKey (outline_after trace.config.dbuf_bytes (opening_map trace s.0) es)) (last-is s.0 s.1) s.2 in
-            may_share (shares_before_close before-close (sym lines-many) (last-both last) s.0 s.1 both)
+        -- what the shards are before the close
+        abbrev closing_shards : ℕ → List Event
+        closing_shards shard = one.in_turn.last_line.shards shard ++ events_of_drops 0 (held_in_shard trace.config shard one.in_turn.last_line.kept)
 
-        close-or : StopsSame → (other.run.work.ended ≡ one.run.work.ended) ⊎ SomeShares trace formed.apart one.in_turn.last_line.cells
+        fewer-last : StopsSame → SomeHoldsFewer trace formed.apart one.in_turn.last_line.cells closing_shards one.run.work.ended → MayPart pools devices trace one other
+        fewer-last last s =
+            let both : HoldsFewer (cell_number trace.config s.i) (outline_behind trace (front_last one.run.work.lines one.run.work.stopped) s.i) (shard_closing pools devices trace one s.drops)
+            = subst (λ (es : List CellEvent). HoldsFewer (cell_number trace.config s.i) (outline_after trace.config.dbuf_bytes (opening_map trace s.i) es) (shard_closing pools devices trace one s.drops)) (last-is s.i s.in_range) s.fewer in
+            may_fewer (fewer_before_close before-close (sym lines-many) (last-both last) s.i s.in_range s.drops s.rest s.are both)
+
+        close-or : StopsSame → (other.run.work.ended ≡ one.run.work.ended) ⊎ SomeHoldsFewer trace formed.apart one.in_turn.last_line.cells closing_shards one.run.work.ended
         close-or last = drops-or pools devices trace formed.apart one other last.shards last.cells last.kept
 
         close : StopsSame → SameOrParts
         close last = elim (close-or last) [
           | inl dropped ↦ inl (close-alike pools devices trace one other (last-same last dropped) begin.found)
-          | inr s ↦ inr (shares-last last s)
+          | inr s ↦ inr (fewer-last last s)
         ]
 
         come-together : SameOrParts

@@ -10,6 +10,7 @@ pub mod EndedOrder
 pub mod Facts
 pub mod FeedRows
 pub mod FeedStep
+pub mod Fewer
 pub mod GotAlike
 pub mod Law
 pub mod LinesAlike

@@ -37,7 +37,7 @@ use Rattle.trace_run.specs.dbufs.ObjectReplies.{ActsAt, ActsBy, AnswersDone, Ans
 use Rattle.trace_run.specs.dbufs.Objects.{Brought, GoesTogether, NotesNothing, OwnEvent, Work}
 use Rattle.trace_run.specs.one_caller.Sequence.{BetweenLines, DoesAnyLine, DoesLine, DoesObject, bringing_in, outline_behind, shard_behind, shard_found}
 use Rattle.trace_run.proofs.deeds.OperatesDone.{cell-there}
-use Rattle.run_laws.specs.Alike.{AreAlike, AreAlikeSoFar, AreDevicesAlike, SharesKey, device_answers_to, left_behind, pool_answers_to, writes_of}
+use Rattle.run_laws.specs.Alike.{AreAlike, AreAlikeSoFar, AreDevicesAlike, HoldsFewer, device_answers_to, left_behind, pool_answers_to, writes_of}
 use Rattle.run_laws.proofs.ActsAlike.{IsHeldSo, acts-alike}
 use Rattle.run_laws.proofs.Behind.{caller-then, goes-cell, goes-shard, same-shard}
 use Rattle.run_laws.proofs.BringAlike.{IsKeptValid, bringing_row, brought-alike, device-same, refusal_of}
@@ -47,7 +47,7 @@ use Rattle.run_laws.proofs.ObjectAlike.{AreLegalBehind, Asks, LooksSo, get-asks,
 use Rattle.run_laws.proofs.ReadStep.{line_of}
 use Rattle.run_laws.proofs.Rows.{so-far-front}
 use Rattle.run_laws.proofs.ShardsLegal.{AreLegalShards}
-use Rattle.run_laws.proofs.Steps.{PartsAt, StepAlike, shares}
+use Rattle.run_laws.proofs.Steps.{PartsAt, StepAlike, fewer}
 
 -- ---- replies
 
@@ -94,11 +94,11 @@ MustFollow own = (x : Evicting) → evicting_after x own.event ≡ Must
 abbrev pub IsSameWork : Work → Work → Type 0
 IsSameWork w v = (v.noted ≡ w.noted) × (v.acts ≡ w.acts)
 
--- so it is, or two dbufs of the cell are cached under one key
+-- so it is, or the cell holds fewer entries under a key than it has blocks cached
 work-or : (g : Config) (limit : ℕ) (opening : List Mapping) (front : List CellEvent) (s : Key → PlainShard) (own : OwnEvent) (w v : Work) (refused : Option Refusal) → MustFollow own
     → IsSettled limit opening (front ++ events_of_cell (cell_of g.cells own.at) w.noted) → IsSettled limit opening (front ++ events_of_cell (cell_of g.cells own.at) v.noted)
     → ActsSo (IsHeldSo g own (outline_after limit opening front) s) own (outline_after limit opening front) g w refused → ActsSo (IsHeldSo g own (outline_after limit opening front) s) own (outline_after limit opening front) g v refused
-    → v.brought ≡ w.brought → IsSameWork w v ⊎ SharesKey (outline_after limit opening front)
+    → v.brought ≡ w.brought → IsSameWork w v ⊎ HoldsFewer (cell_number g (cell_of g.cells own.at)) (outline_after limit opening front) s
 work-or g limit opening front s own w v None must rests other_rests so other_so brings = acts-alike g limit opening front s own w v must rests other_rests so other_so brings
 work-or g limit opening front s own w v (Some refusal) must rests other_rests so other_so brings = inl (other_so.0 ∙ sym so.0, other_so.1 ∙ sym so.1)
 
@@ -172,8 +172,8 @@ module _ {P D : Type 0} (pools : Ghosts P) (devices : Devices D) (pool_len : (p 
 
   module _ (op : Op) (own : OwnEvent) (tick : ℕ) (r q : Reply) (w v : Work) (from to other other_to : BetweenLines P D) (both : BothOn op own tick r q w v from to other other_to) where
     -- one block is brought, or none, and both are answered or refused for one cause
-    asks-alike : (last : ℕ) → Asks trace.config both.alike.image trace.config.dbuf_bytes (opening_map trace (cell_of trace.config.cells own.at)) (its_front own from) own.at last w.brought r
-        → Asks trace.config both.alike.image trace.config.dbuf_bytes (opening_map trace (cell_of trace.config.cells own.at)) (its_front own from) own.at last v.brought q → (v.brought ≡ w.brought) × (refusal_of q ≡ refusal_of r)
+    asks-alike : (last : ℕ) → Asks trace.config both.alike.image trace.config.dbuf_bytes (opening_map trace (cell_of trace.config.cells own.at)) (its_front own from) (its_held own (its_front own from) from.shards tick w.brought) own.at last w.brought r
+        → Asks trace.config both.alike.image trace.config.dbuf_bytes (opening_map trace (cell_of trace.config.cells own.at)) (its_front own from) (its_held own (its_front own from) from.shards tick v.brought) own.at last v.brought q → (v.brought ≡ w.brought) × (refusal_of q ≡ refusal_of r)
     asks-alike last asks other_asks =
         brought-alike pools devices trace (shard_behind trace.config from.shards) (shard_behind trace.config other.shards) (same-shard pools devices trace from other both.alike)
         from.device to.device other.device other_to.device both.alike.device both.alike.image trace.config.dbuf_bytes (opening_map trace (cell_of trace.config.cells own.at)) (its_front own from) own.at last w.brought v.brought r q
@@ -184,8 +184,8 @@ module _ {P D : Type 0} (pools : Ghosts P) (devices : Devices D) (pool_len : (p 
     brings_in brought at shard = bringing_in trace.config (shard_behind trace.config at.shards) 0 tick (cell_number trace.config (cell_of trace.config.cells own.at)) brought shard
 
     module _ (brings : v.brought ≡ w.brought) (same : q ≡ r) where
-      -- both noted the same and made the same acts, or two dbufs of the cell are cached under one key
-      works-or : IsSameWork w v ⊎ SharesKey (its_outline own from)
+      -- both noted the same and made the same acts, or the cell holds fewer entries under a key than it has blocks cached
+      works-or : IsSameWork w v ⊎ HoldsFewer (cell_number trace.config (cell_of trace.config.cells own.at)) (its_outline own from) (shard_found trace.config from.shards tick w.brought)
       works-or =
           let o : Outline = its_outline own from in
           let Held : Brought → (Oid → Bool) → Type 0 = its_held own (its_front own from) from.shards tick in
@@ -243,7 +243,7 @@ module _ {P D : Type 0} (pools : Ghosts P) (devices : Devices D) (pool_len : (p 
   abbrev pub ComesOn : (op : Op) (r q : Reply) (w v : Work) (here there : List FeedDone) (from to other other_to : BetweenLines P D) → DoesAnyLine pools devices trace (caller_of op) (line_of op r w) here from to
       → DoesAnyLine pools devices trace (caller_of op) (line_of op q v) there other other_to → Type 0
   ComesOn op r q w v here there from to other other_to did other_did =
-      StepAlike pools devices trace (line_of op r w) (line_of op q v) here there from to other other_to did other_did ⊎ PartsAt pools devices trace from.cells (line_of op r w) (line_of op q v) here there
+      StepAlike pools devices trace (line_of op r w) (line_of op q v) here there from to other other_to did other_did ⊎ PartsAt pools devices trace from.cells from.shards (line_of op r w) (line_of op q v) here there
 
   none-left : (here there : List FeedDone) (behind other_behind : Option D) → here ≡ [] → there ≡ [] → left_behind devices there other_behind ≡ left_behind devices here behind
   none-left here there behind other_behind none other_none = ap (λ (fs : List FeedDone). left_behind devices fs other_behind) other_none ∙ sym (ap (λ (fs : List FeedDone). left_behind devices fs behind) none)
@@ -301,25 +301,25 @@ module _ {P D : Type 0} (pools : Ghosts P) (devices : Devices D) (pool_len : (p 
   -- ---- by the operation
 
   -- a get shows the same in both runs, or they part at it
-  get-reply : (cells : ℕ → List CellEvent) (n t : ℕ) (at : Oid) (window : Window) (image : List ℕ) (r q : Reply) (w v : Work) (here there : List FeedDone)
+  get-reply : (cells : ℕ → List CellEvent) (shards : ℕ → List Event) (n t : ℕ) (at : Oid) (window : Window) (image : List ℕ) (r q : Reply) (w v : Work) (here there : List FeedDone)
       → AnswersWindow (length image) (Some image) trace.config.dbuf_bytes (opening_map trace (cell_of trace.config.cells at)) (cells (cell_of trace.config.cells at)) w.brought at window r
       → AnswersWindow (length image) (Some image) trace.config.dbuf_bytes (opening_map trace (cell_of trace.config.cells at)) (cells (cell_of trace.config.cells at)) v.brought at window q → refusal_of q ≡ refusal_of r
-      → (q ≡ r) ⊎ PartsAt pools devices trace cells (line_of (ops.Get n t at window) r w) (line_of (ops.Get n t at window) q v) here there
-  get-reply cells n t at window image (replies.Got size shown) (replies.Got z s) w v here there answer other_answer same =
-      got-alike pools devices trace cells n t at window size z shown s w v here there (cell-there trace.config valid at) answer other_answer
-  get-reply cells n t at window image (replies.Got size shown) (replies.Refused y) w v here there answer other_answer same = absurd (not-refused y same)
-  get-reply cells n t at window image (replies.Got size shown) q w v here there answer other_answer same = absurd other_answer
-  get-reply cells n t at window image (replies.Refused x) (replies.Got z s) w v here there answer other_answer same = absurd (not-refused x (sym same))
-  get-reply cells n t at window image (replies.Refused x) (replies.Refused y) w v here there answer other_answer same = inl (same-refusal x y same)
-  get-reply cells n t at window image (replies.Refused x) q w v here there answer other_answer same = absurd other_answer
-  get-reply cells n t at window image r q w v here there answer other_answer same = absurd answer
+      → (q ≡ r) ⊎ PartsAt pools devices trace cells shards (line_of (ops.Get n t at window) r w) (line_of (ops.Get n t at window) q v) here there
+  get-reply cells shards n t at window image (replies.Got size shown) (replies.Got z s) w v here there answer other_answer same =
+      got-alike pools devices trace cells shards n t at window size z shown s w v here there (cell-there trace.config valid at) answer other_answer
+  get-reply cells shards n t at window image (replies.Got size shown) (replies.Refused y) w v here there answer other_answer same = absurd (not-refused y same)
+  get-reply cells shards n t at window image (replies.Got size shown) q w v here there answer other_answer same = absurd other_answer
+  get-reply cells shards n t at window image (replies.Refused x) (replies.Got z s) w v here there answer other_answer same = absurd (not-refused x (sym same))
+  get-reply cells shards n t at window image (replies.Refused x) (replies.Refused y) w v here there answer other_answer same = inl (same-refusal x y same)
+  get-reply cells shards n t at window image (replies.Refused x) q w v here there answer other_answer same = absurd other_answer
+  get-reply cells shards n t at window image r q w v here there answer other_answer same = absurd answer
 
-  -- the line did the same in both, and then both come to the same; or two dbufs of its cell are cached under one key
+  -- the line did the same in both, and then both come to the same; or its cell holds fewer entries under a key than it has blocks cached
   come-or : (op : Op) (r q : Reply) (w v : Work) (here there : List FeedDone) (from to other other_to : BetweenLines P D) (line : DoesAnyLine pools devices trace (caller_of op) (line_of op r w) here from to)
-      (other_line : DoesAnyLine pools devices trace (caller_of op) (line_of op q v) there other other_to) (on : OnObject) → on_object op ≡ Some on → IsSameWork w v ⊎ SharesKey (outline_behind trace from.cells (cell_of trace.config.cells on.at))
+      (other_line : DoesAnyLine pools devices trace (caller_of op) (line_of op q v) there other other_to) (on : OnObject) → on_object op ≡ Some on → IsSameWork w v ⊎ HoldsFewer (cell_number trace.config (cell_of trace.config.cells on.at)) (outline_behind trace from.cells (cell_of trace.config.cells on.at)) (shard_found trace.config from.shards on.tick w.brought)
       → (IsSameWork w v → StepAlike pools devices trace (line_of op r w) (line_of op q v) here there from to other other_to line other_line) → ComesOn op r q w v here there from to other other_to line other_line
   come-or op r q w v here there from to other other_to line other_line on is (inl works) then = inl (then works)
-  come-or op r q w v here there from to other other_to line other_line on is (inr both) then = inr (shares on is both)
+  come-or op r q w v here there from to other other_to line other_line on is (inr both) then = inr (fewer on is both)
 
   -- Two lines of one operation on an object, over cells, shards, pools and devices that are alike, come to the same; or the runs part there.
   pub object-step : (op : Op) → IsOnObject op → (r q : Reply) (w v : Work) (here there : List FeedDone) (from to other other_to : BetweenLines P D) (line : DoesAnyLine pools devices trace (caller_of op) (line_of op r w) here from to)
@@ -332,11 +332,12 @@ module _ {P D : Type 0} (pools : Ghosts P) (devices : Devices D) (pool_len : (p 
       let did = line.1.did in
       let other_did = other_line.1.did in
       let both : BothOn op own t r q w v from to other other_to = both-on op own t r q w v here there from to other other_to line other_line b (λ x. refl) did other_did did.acts other_did.acts b.device in
+      let held : Brought → (Oid → Bool) → Type 0 = its_held own (its_front own from) from.shards t in
       let limit : ℕ = trace.config.dbuf_bytes in
       let opening : List Mapping = opening_map trace (cell_of trace.config.cells at) in
       let came = asks-alike op own t r q w v from to other other_to both (window.at + window.len)
-      (get-asks trace.config both.alike.image limit opening (its_front own from) n t at window r w both.looks) (get-asks trace.config both.alike.image limit opening (its_front own from) n t at window q v both.other_looks) in
-      elim (get-reply from.cells n t at window both.alike.image r q w v here there both.looks.answer both.other_looks.answer came.1) [
+      (get-asks trace.config both.alike.image limit opening (its_front own from) (held w.brought) n t at window r w both.looks) (get-asks trace.config both.alike.image limit opening (its_front own from) (held v.brought) n t at window q v both.other_looks) in
+      elim (get-reply from.cells from.shards n t at window both.alike.image r q w v here there both.looks.answer both.other_looks.answer came.1) [
         | inl same ↦ come-or op r q w v here there from to other other_to line other_line (record { at = at; tick = t }) refl (works-or op own t r q w v from to other other_to both came.0 same) (λ works. record {
           then = object-then op own t r q w v from to other other_to both came.0 same works line.1 other_line.1;
           reply = same;
@@ -353,10 +354,11 @@ module _ {P D : Type 0} (pools : Ghosts P) (devices : Devices D) (pool_len : (p 
       let did = line.1.did in
       let other_did = other_line.1.did in
       let both : BothOn op own t r q w v from to other other_to = both-on op own t r q w v here there from to other other_to line other_line b (λ x. refl) did other_did did.acts other_did.acts b.device in
+      let held : Brought → (Oid → Bool) → Type 0 = its_held own (its_front own from) from.shards t in
       let limit : ℕ = trace.config.dbuf_bytes in
       let opening : List Mapping = opening_map trace (cell_of trace.config.cells at) in
       let came = asks-alike op own t r q w v from to other other_to both (start + length bytes)
-      (patch-asks trace.config both.alike.image limit opening (its_front own from) n t at start bytes r w both.looks) (patch-asks trace.config both.alike.image limit opening (its_front own from) n t at start bytes q v both.other_looks) in
+      (patch-asks trace.config both.alike.image limit opening (its_front own from) (held w.brought) n t at start bytes r w both.looks) (patch-asks trace.config both.alike.image limit opening (its_front own from) (held v.brought) n t at start bytes q v both.other_looks) in
       let why : Brought → Refusal → Type 0 = λ brought. RefusesAt (length both.alike.image) (Some both.alike.image) limit opening (its_front own from) brought at (start + length bytes) in
       let same : q ≡ r = done-reply (length both.alike.image) (Some both.alike.image) limit opening (its_front own from) w.brought v.brought (why w.brought) (why v.brought) r q both.looks.answer both.other_looks.answer came.1 in
       come-or op r q w v here there from to other other_to line other_line (record { at = at; tick = t }) refl (works-or op own t r q w v from to other other_to both came.0 same) (λ works. record {
@@ -373,10 +375,11 @@ module _ {P D : Type 0} (pools : Ghosts P) (devices : Devices D) (pool_len : (p 
       let did = line.1.did in
       let other_did = other_line.1.did in
       let both : BothOn op own t r q w v from to other other_to = both-on op own t r q w v here there from to other other_to line other_line b (λ x. refl) did other_did did.acts other_did.acts b.device in
+      let held : Brought → (Oid → Bool) → Type 0 = its_held own (its_front own from) from.shards t in
       let limit : ℕ = trace.config.dbuf_bytes in
       let opening : List Mapping = opening_map trace (cell_of trace.config.cells at) in
       let came = asks-alike op own t r q w v from to other other_to both 0
-      (pin-asks trace.config both.alike.image limit opening (its_front own from) n t at r w both.looks) (pin-asks trace.config both.alike.image limit opening (its_front own from) n t at q v both.other_looks) in
+      (pin-asks trace.config both.alike.image limit opening (its_front own from) (held w.brought) n t at r w both.looks) (pin-asks trace.config both.alike.image limit opening (its_front own from) (held v.brought) n t at q v both.other_looks) in
       let why : Brought → Refusal → Type 0 = λ brought. RefusesWhole (length both.alike.image) (Some both.alike.image) limit opening (its_front own from) brought at in
       let same : q ≡ r = done-reply (length both.alike.image) (Some both.alike.image) limit opening (its_front own from) w.brought v.brought (why w.brought) (why v.brought) r q both.looks.answer both.other_looks.answer came.1 in
       come-or op r q w v here there from to other other_to line other_line (record { at = at; tick = t }) refl (works-or op own t r q w v from to other other_to both came.0 same) (λ works. record {
@@ -393,10 +396,11 @@ module _ {P D : Type 0} (pools : Ghosts P) (devices : Devices D) (pool_len : (p 
       let did = line.1.did in
       let other_did = other_line.1.did in
       let both : BothOn op own 0 r q w v from to other other_to = both-on op own 0 r q w v here there from to other other_to line other_line b (λ x. refl) did other_did did.acts other_did.acts b.device in
+      let held : Brought → (Oid → Bool) → Type 0 = its_held own (its_front own from) from.shards 0 in
       let limit : ℕ = trace.config.dbuf_bytes in
       let opening : List Mapping = opening_map trace (cell_of trace.config.cells at) in
       let brings : v.brought ≡ w.brought = both.other_looks.together ∙ sym both.looks.together in
-      let same : q ≡ r = put-done trace.config both.alike.image limit opening (its_front own from) n t at size fill q v both.other_looks ∙ sym (put-done trace.config both.alike.image limit opening (its_front own from) n t at size fill r w both.looks) in
+      let same : q ≡ r = put-done trace.config both.alike.image limit opening (its_front own from) (held v.brought) n t at size fill q v both.other_looks ∙ sym (put-done trace.config both.alike.image limit opening (its_front own from) (held w.brought) n t at size fill r w both.looks) in
       come-or op r q w v here there from to other other_to line other_line (record { at = at; tick = 0 }) refl (works-or op own 0 r q w v from to other other_to both brings same) (λ works. record {
         then = object-then op own 0 r q w v from to other other_to both brings same works line.1 other_line.1;
         reply = same;
@@ -411,10 +415,11 @@ module _ {P D : Type 0} (pools : Ghosts P) (devices : Devices D) (pool_len : (p 
       let did = line.1.did in
       let other_did = other_line.1.did in
       let both : BothOn op own 0 r q w v from to other other_to = both-on op own 0 r q w v here there from to other other_to line other_line b (λ x. refl) did other_did did.acts other_did.acts b.device in
+      let held : Brought → (Oid → Bool) → Type 0 = its_held own (its_front own from) from.shards 0 in
       let limit : ℕ = trace.config.dbuf_bytes in
       let opening : List Mapping = opening_map trace (cell_of trace.config.cells at) in
       let brings : v.brought ≡ w.brought = both.other_looks.together ∙ sym both.looks.together in
-      let same : q ≡ r = unpin-done trace.config both.alike.image limit opening (its_front own from) n at q v both.other_looks ∙ sym (unpin-done trace.config both.alike.image limit opening (its_front own from) n at r w both.looks) in
+      let same : q ≡ r = unpin-done trace.config both.alike.image limit opening (its_front own from) (held v.brought) n at q v both.other_looks ∙ sym (unpin-done trace.config both.alike.image limit opening (its_front own from) (held w.brought) n at r w both.looks) in
       come-or op r q w v here there from to other other_to line other_line (record { at = at; tick = 0 }) refl (works-or op own 0 r q w v from to other other_to both brings same) (λ works. record {
         then = object-then op own 0 r q w v from to other other_to both brings same works line.1 other_line.1;
         reply = same;

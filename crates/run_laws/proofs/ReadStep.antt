@@ -188,7 +188,7 @@ module _ {P D : Type 0} (pools : Ghosts P) (devices : Devices D) (pool_len : (p 
   abbrev Comes : (op : Op) (r q : Reply) (w v : Work) (here there : List FeedDone) (from to other other_to : BetweenLines P D) → DoesAnyLine pools devices trace (caller_of op) (line_of op r w) here from to
       → DoesAnyLine pools devices trace (caller_of op) (line_of op q v) there other other_to → Type 0
   Comes op r q w v here there from to other other_to did other_did =
-      StepAlike pools devices trace (line_of op r w) (line_of op q v) here there from to other other_to did other_did ⊎ PartsAt pools devices trace from.cells (line_of op r w) (line_of op q v) here there
+      StepAlike pools devices trace (line_of op r w) (line_of op q v) here there from to other other_to did other_did ⊎ PartsAt pools devices trace from.cells from.shards (line_of op r w) (line_of op q v) here there
 
   none-left : (here there : List FeedDone) (behind other_behind : Option D) → here ≡ [] → there ≡ [] → left_behind devices there other_behind ≡ left_behind devices here behind
   none-left here there behind other_behind none other_none = ap (λ (fs : List FeedDone). left_behind devices fs other_behind) other_none ∙ sym (ap (λ (fs : List FeedDone). left_behind devices fs behind) none)

@@ -113,7 +113,7 @@ module _ {P D : Type 0} (pools : Ghosts P) (devices : Devices D) (trace : Trace)
   -- no bytes were brought, since the line is a sync's
   pub sync-step : (t : ℕ) (r q : Reply) (v w : Work) (here there : List FeedDone) (from to other other_to : BetweenLines P D) (did : (here ≡ []) × DoesSync pools devices trace t r v from to)
       (other_did : (there ≡ []) × DoesSync pools devices trace t q w other other_to) → v.brought ≡ Nothing → w.brought ≡ Nothing → AreAlike pools devices trace from other
-      → StepAlike pools devices trace (sync_line t r v) (sync_line t q w) here there from to other other_to did other_did ⊎ PartsAt pools devices trace from.cells (sync_line t r v) (sync_line t q w) here there
+      → StepAlike pools devices trace (sync_line t r v) (sync_line t q w) here there from to other other_to did other_did ⊎ PartsAt pools devices trace from.cells from.shards (sync_line t r v) (sync_line t q w) here there
   sync-step t r q v w here there from to other other_to did other_did none other_none like =
       let one = did.1.synced.answer in
       let two = other_did.1.synced.answer in
