@@ -1,4 +1,4 @@
--- Two feeds of the same shards over alike cursors, of which the same calls failed: they make the same events, leave alike cursors and have the same report, and where no call failed they asked the device for the same; or they picked two
+-- Two feeds of the same shards over alike cursors, of which the same calls failed: they make the same events, leave alike cursors and have the same report, and they asked the device for the same; or they picked two
 -- contents of one digest (l2arc_feed_thread for a single thread).
 use Rattle.std.proofs.Common.{◌≡◌, ◌≢◌, ◌⊎◌, ◌==◌, ℕ, true, false, if◌then◌else◌, List, [], ◌∷◌, ◌++◌, map, refl, sym, ap, ◌∙◌, inl, inr, append-nil}
 use Rattle.std.proofs.lemmas.Bool.{cases_Bool}
@@ -11,7 +11,7 @@ use Rattle.l2_dev.specs.declared.report.FeedReport.{FeedReport}
 use Rattle.l2_dev.specs.declared.report.FeedStop.{FeedStop}
 use Rattle.l2_dev.specs.declared.report.FeedStop.TheVariants as stop
 use Rattle.l2_feed.specs.Acts.{Act, Absent, Cleared, Left, Picked, Placed, Refused, Unpicked}
-use Rattle.l2_feed.specs.Alike.{AreCursorsAlike, PicksTwo, has_failed}
+use Rattle.l2_feed.specs.Alike.{AreCursorsAlike, PicksTwo}
 use Rattle.l2_feed.specs.Alone.{events_at}
 use Rattle.l2_feed.specs.Plain.{IsPlainFeed, PlainFed, all_after, answers_of, bare, fed_of, report_of, told_of}
 use Rattle.l2_feed.specs.Shape.{IsRefusal, NoneRefused}
@@ -146,7 +146,7 @@ plain-known feed = elim (end-known feed.report.end) [
 pub record AreFedAlike (g : Config) (feed fed : FeedDone) : Type 0 where
   pub used : AreUsedAlike g g.callers feed.acts fed.acts feed.calls fed.calls feed.after.ring fed.after.ring feed.report fed.report
   pub cursors : AreCursorsAlike feed.after fed.after
-  pub calls : has_failed (answers_of feed.calls) ≡ false → fed.calls ≡ feed.calls
+  pub calls : fed.calls ≡ feed.calls
 
 -- both are the plain one, so what they wrote is one too; or they picked two contents of one digest
 plain-alike : (g : Config) (s : ℕ → PlainShard) (feed fed : FeedDone) → IsFeedHere g s feed → IsFeedHere g s fed → IsFeedOf g.shards feed → IsFeedOf g.shards fed → AreCursorsAlike feed.before fed.before

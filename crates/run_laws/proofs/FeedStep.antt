@@ -1,17 +1,24 @@
 -- The step of a line `feed` of two runs: with alike cursors before it, and the same calls of the device failed, both are answered the same, and what stands behind the line is alike again; or a feed picked two contents of one digest, or
 -- wanted memory (l2arc_feed_thread for a single thread).
-use Rattle.std.proofs.Common.{◌≡◌, ◌⊎◌, ℕ, Bool, true, false, if◌then◌else◌, List, [], ◌∷◌, ◌++◌, length, Option, Some, None, refl, sym, ap, ◌∙◌, subst, inl, inr, arith, append-nil}
+use Rattle.std.proofs.Common.{◌≡◌, ◌⊎◌, ℕ, ◌+◌, List, [], ◌∷◌, ◌++◌, length, take, drop, Option, Some, None, refl, sym, ap, ◌∙◌, subst, inl, inr, arith, append-nil}
 use Rattle.std.specs.List.{AllByRecursion}
-use Rattle.std.proofs.lemmas.Bool.{cases_Bool}
+use Rattle.std.proofs.lemmas.List.{take-append-drop}
 use Rattle.arc_core.specs.declared.config.Config.{Config}
 use Rattle.arc_core.specs.declared.event.Event.{Event}
 use Rattle.arc_core.specs.PlainShard.{PlainShard}
-use Rattle.vdev_io.specs.Calls.{Asked, Call, DeviceCall, Failed, Flush, Gave, IsImageAfter, IsToldAfter, MakesDeviceCall, MakesDeviceCalls, Read, Write}
+use Rattle.vdev_io.specs.Calls.{Asked, Call, DeviceCall, Failed, Flush, Gave, IsImageAfter, IsToldAfter, MakesDeviceCall, MakesDeviceCalls, Read, Write, answered}
+use Rattle.vdev_io.specs.Device.{IsTorn}
 use Rattle.vdev_io.specs.declared.device.CacheDev.{Ghosts as Devices}
 use Rattle.vdev_io.specs.declared.pool.Pool.{Ghosts}
 use Rattle.l2_dev.specs.Cursor.{CursorState}
-use Rattle.l2_feed.specs.Alike.{AreCursorsAlike, has_failed}
+use Rattle.l2_dev.specs.declared.report.FeedStop.{FeedStop}
+use Rattle.l2_feed.specs.Acts.{Act}
+use Rattle.l2_feed.specs.Alike.{AreCursorsAlike}
+use Rattle.l2_feed.specs.Asking.{all_gave}
 use Rattle.l2_feed.specs.Plain.{answers_of}
+use Rattle.l2_feed.specs.Shape.{AreFed}
+use Rattle.l2_feed.proofs.Asking.{fails_last}
+use Rattle.l2_feed.proofs.Running.{drop_more}
 use Rattle.trace_text.specs.declared.op.Op.TheVariants as ops
 use Rattle.trace_text.specs.declared.reply.Reply.{Reply}
 use Rattle.trace_text.specs.declared.reply.Reply.TheVariants.{Fed}
@@ -24,7 +31,7 @@ use Rattle.trace_run.specs.callers.Together.{BetweenGroups}
 use Rattle.trace_run.specs.dbufs.Objects.{Line, Work, no_work}
 use Rattle.trace_run.specs.one_caller.Sequence.{BetweenLines, DoesFeed, IsFeedHere, shard_behind}
 use Rattle.trace_run.proofs.callers.GroupLists.{some-same}
-use Rattle.run_laws.specs.Alike.{AreAlike, AreAlikeSoFar, AreDevicesAlike, FeedsPickTwo, WantsMemory, feed_answers, left_behind, pool_answers_to}
+use Rattle.run_laws.specs.Alike.{AreAlike, AreAlikeSoFar, AreDevicesAlike, FeedsPickTwo, WantsMemory, feed_answers, left_behind, left_in, left_in_told, left_of, pool_answers_to}
 use Rattle.run_laws.proofs.Behind.{goes-cell, goes-shard, same-shard}
 use Rattle.run_laws.proofs.FeedRows.{AreFedAlike, feeds-alike, told-at}
 use Rattle.run_laws.proofs.Steps.{PartsAt, StepAlike, memory, picks}
@@ -59,40 +66,100 @@ module _ {D : Type 0} (devices : Devices D) where
   feeds-tell [] was now asks = same-tells was now asks
   feeds-tell (feed ∷ feeds) was now asks = then-tells was asks.0 now (calls-tell feed.calls was asks.0 asks.1) (feeds-tell feeds asks.0 now asks.2)
 
--- ---- calls of which none failed leave one image
-
-none-first : (a : Call) (rest : List Call) → has_failed (a ∷ rest) ≡ false → (a ≡ Gave) × (has_failed rest ≡ false)
-none-first Gave rest none = (refl, none)
-none-first Failed rest none = absurd (let clash : true ≡ false = none in cc)
+-- ---- the same calls leave one image, but where a write failed
 
 image-one : (asked : Asked) (image later other : List ℕ) → IsImageAfter asked Gave image later → IsImageAfter asked Gave image other → other ≡ later
 image-one (Read at n) image later other is other_is = other_is ∙ sym is
 image-one (Write at bytes) image later other is other_is = other_is ∙ sym is
 image-one Flush image later other is other_is = other_is ∙ sym is
 
+-- a list by its front, a range behind it and the rest
+three-parts : (at n : ℕ) (xs : List ℕ) → take at xs ++ (take n (drop at xs) ++ drop (at + n) xs) ≡ xs
+three-parts at n xs = ap (λ (l : List ℕ). take at xs ++ (take n (drop at xs) ++ l)) (sym (drop_more at n xs)) ∙ (ap (λ (l : List ℕ). take at xs ++ l) (take-append-drop n (drop at xs)) ∙ take-append-drop at xs)
+
+torn-one : (at n : ℕ) (image later other : List ℕ) → IsTorn at n image later → IsTorn at n image other → take n (drop at other) ≡ take n (drop at later) → other ≡ later
+torn-one at n image later other is other_is same =
+    let front : take at other ≡ take at later = other_is.before ∙ sym is.before in
+    let behind : drop (at + n) other ≡ drop (at + n) later = other_is.behind ∙ sym is.behind in
+    sym (three-parts at n other) ∙ ((λ i. front i ++ (same i ++ behind i)) ∙ three-parts at n later)
+
+failed-one : (asked : Asked) (image later other : List ℕ) → IsImageAfter asked Failed image later → IsImageAfter asked Failed image other → AreAlikeSoFar (left_of asked Failed later ++ []) (left_of asked Failed other ++ []) → other ≡ later
+failed-one (Read at n) image later other is other_is left = other_is ∙ sym is
+failed-one Flush image later other is other_is left = other_is ∙ sym is
+failed-one (Write at bytes) image later other is other_is left = torn-one at (length bytes) image later other is other_is (sym left.0)
+
 -- what a device tells that told this image
-record TellsNext (asked : Asked) (image : List ℕ) (new : Option (List ℕ)) : Type 0 where
+record TellsNext (asked : Asked) (answer : Call) (image : List ℕ) (new : Option (List ℕ)) : Type 0 where
   pub later : List ℕ
   pub tells : new ≡ Some later
-  pub is : IsImageAfter asked Gave image later
+  pub is : IsImageAfter asked answer image later
 
-told-next : (asked : Asked) (answer : Call) → answer ≡ Gave → (old new : Option (List ℕ)) → IsToldAfter asked answer old new → (image : List ℕ) → old ≡ Some image → TellsNext asked image new
-told-next asked answer gave None new after image is = absurd (let clash : ◌≡◌ {A = Option (List ℕ)} None (Some image) = is in cc)
-told-next asked answer gave (Some old) None after image is = absurd after
-told-next asked answer gave (Some old) (Some new) after image is =
-    record { later = new; tells = refl; is = subst (λ (z : Call × List ℕ). IsImageAfter asked z.0 z.1 new) (λ i. (gave i, (some-same old image is) i)) after }
+told-next : (asked : Asked) (answer : Call) (old new : Option (List ℕ)) → IsToldAfter asked answer old new → (image : List ℕ) → old ≡ Some image → TellsNext asked answer image new
+told-next asked answer None new after image is = absurd (let clash : ◌≡◌ {A = Option (List ℕ)} None (Some image) = is in cc)
+told-next asked answer (Some old) None after image is = absurd after
+told-next asked answer (Some old) (Some new) after image is = record { later = new; tells = refl; is = subst (λ (x : List ℕ). IsImageAfter asked answer x new) (some-same old image is) after }
+
+left-gave : (asked : Asked) (image : List ℕ) → left_of asked Gave image ≡ []
+left-gave (Read at n) image = refl
+left-gave (Write at bytes) image = refl
+left-gave Flush image = refl
+
+-- calls that were done left nothing
+left-rest : (done : List Asked) (rest : List DeviceCall) (image : List ℕ) → left_in (all_gave done ++ rest) image ≡ left_in rest image
+left-rest [] rest image = refl
+left-rest (a ∷ done) rest image = ap (λ (l : List (List ℕ)). l ++ left_in (all_gave done ++ rest) image) (left-gave a image) ∙ left-rest done rest image
 
 module _ {D : Type 0} (devices : Devices D) where
-  -- two devices that told one image tell one image behind the same calls, of which none failed
-  pub calls-one : (calls : List DeviceCall) (was now other_was other_now : D) → has_failed (answers_of calls) ≡ false → MakesDeviceCalls devices calls was now → MakesDeviceCalls devices calls other_was other_now
-      → (image : List ℕ) → devices.told was ≡ Some image → devices.told other_was ≡ Some image → devices.told other_now ≡ devices.told now
-  calls-one [] was now other_was other_now none made other_made image tells other_tells = ap devices.told other_made ∙ (other_tells ∙ (sym tells ∙ sym (ap devices.told made)))
-  calls-one (call ∷ calls) was now other_was other_now none made other_made image tells other_tells =
-      let first = none-first call.answer (answers_of calls) none in
-      let next = told-next call.asked call.answer first.0 (devices.told was) (devices.told made.0) made.1.told image tells in
-      let other_next = told-next call.asked call.answer first.0 (devices.told other_was) (devices.told other_made.0) other_made.1.told image other_tells in
-      let same : other_next.later ≡ next.later = image-one call.asked image next.later other_next.later next.is other_next.is in
-      calls-one calls made.0 now other_made.0 other_now first.1 made.2 other_made.2 next.later next.tells (other_next.tells ∙ (λ i. Some (same i)))
+  -- both tell this image now
+  record TellBoth (now other_now : D) : Type 0 where
+    pub image : List ℕ
+    pub tells : devices.told now ≡ Some image
+    pub other_tells : devices.told other_now ≡ Some image
+
+  calls-cut : (front behind : List DeviceCall) (was now : D) → MakesDeviceCalls devices (front ++ behind) was now → (mid : D) × MakesDeviceCalls devices front was mid × MakesDeviceCalls devices behind mid now
+  calls-cut [] behind was now made = (was, refl, made)
+  calls-cut (call ∷ front) behind was now made = let r = calls-cut front behind made.0 now made.2 in (r.0, (made.0, made.1, r.1), r.2)
+
+  -- where all were done
+  done-one : (asked : List Asked) (was now other_was other_now : D) → MakesDeviceCalls devices (all_gave asked) was now → MakesDeviceCalls devices (all_gave asked) other_was other_now → (image : List ℕ) → devices.told was ≡ Some image
+      → devices.told other_was ≡ Some image → TellBoth now other_now
+  done-one [] was now other_was other_now made other_made image tells other_tells = record { image = image; tells = ap devices.told made ∙ tells; other_tells = ap devices.told other_made ∙ other_tells }
+  done-one (a ∷ asked) was now other_was other_now made other_made image tells other_tells =
+      let next = told-next a Gave (devices.told was) (devices.told made.0) made.1.told image tells in
+      let other_next = told-next a Gave (devices.told other_was) (devices.told other_made.0) other_made.1.told image other_tells in
+      let same : other_next.later ≡ next.later = image-one a image next.later other_next.later next.is other_next.is in
+      done-one asked made.0 now other_made.0 other_now made.2 other_made.2 next.later next.tells (other_next.tells ∙ (λ i. Some (same i)))
+
+  -- where the last one failed
+  last-one : (done : List Asked) (last : Asked) (was now other_was other_now : D) → MakesDeviceCalls devices (all_gave done ++ answered Failed last ∷ []) was now → MakesDeviceCalls devices (all_gave done ++ answered Failed last ∷ []) other_was other_now
+      → (image : List ℕ) → devices.told was ≡ Some image → devices.told other_was ≡ Some image
+      → AreAlikeSoFar (left_in_told (all_gave done ++ answered Failed last ∷ []) (devices.told now)) (left_in_told (all_gave done ++ answered Failed last ∷ []) (devices.told other_now)) → devices.told other_now ≡ devices.told now
+  last-one done last was now other_was other_now made other_made image tells other_tells left =
+      let all : List DeviceCall = all_gave done ++ answered Failed last ∷ [] in
+      let cut = calls-cut (all_gave done) (answered Failed last ∷ []) was now made in
+      let other_cut = calls-cut (all_gave done) (answered Failed last ∷ []) other_was other_now other_made in
+      let mid = done-one done was cut.0 other_was other_cut.0 cut.1 other_cut.1 image tells other_tells in
+      let next = told-next last Failed (devices.told cut.0) (devices.told cut.2.0) cut.2.1.told mid.image mid.tells in
+      let other_next = told-next last Failed (devices.told other_cut.0) (devices.told other_cut.2.0) other_cut.2.1.told mid.image mid.other_tells in
+      let told : devices.told now ≡ Some next.later = ap devices.told cut.2.2 ∙ next.tells in
+      let other_told : devices.told other_now ≡ Some other_next.later = ap devices.told other_cut.2.2 ∙ other_next.tells in
+      let images : AreAlikeSoFar (left_in all next.later) (left_in all other_next.later) = subst (λ (z : Option (List ℕ) × Option (List ℕ)). AreAlikeSoFar (left_in_told all z.0) (left_in_told all z.1)) (λ i. (told i, other_told i)) left in
+      let ranges : AreAlikeSoFar (left_of last Failed next.later ++ []) (left_of last Failed other_next.later ++ []) =
+      subst (λ (z : List (List ℕ) × List (List ℕ)). AreAlikeSoFar z.0 z.1) (λ i. (left-rest done (answered Failed last ∷ []) next.later i, left-rest done (answered Failed last ∷ []) other_next.later i)) images in
+      let same : other_next.later ≡ next.later = failed-one last mid.image next.later other_next.later next.is other_next.is ranges in
+      other_told ∙ ((λ i. Some (same i)) ∙ sym told)
+
+  -- two devices that told one image tell one image behind the same calls of a feed, where a write that failed left the same
+  pub calls-one : (shard count : ℕ) (old new : CursorState) (acts : List Act) (calls : List DeviceCall) (end : FeedStop) → AreFed shard count old new acts calls end → (was now other_was other_now : D) → MakesDeviceCalls devices calls was now
+      → MakesDeviceCalls devices calls other_was other_now → (image : List ℕ) → devices.told was ≡ Some image → devices.told other_was ≡ Some image
+      → AreAlikeSoFar (left_in_told calls (devices.told now)) (left_in_told calls (devices.told other_now)) → devices.told other_now ≡ devices.told now
+  calls-one shard count old new acts calls end fed was now other_was other_now made other_made image tells other_tells left = elim (fails_last shard count old new acts calls end fed) [
+    | inl done ↦
+        let both = done-one done.0 was now other_was other_now (subst (λ (l : List DeviceCall). MakesDeviceCalls devices l was now) done.1 made) (subst (λ (l : List DeviceCall). MakesDeviceCalls devices l other_was other_now) done.1 other_made) image tells other_tells in
+        both.other_tells ∙ sym both.tells
+    | inr lost ↦ last-one lost.0 lost.1 was now other_was other_now (subst (λ (l : List DeviceCall). MakesDeviceCalls devices l was now) lost.2 made) (subst (λ (l : List DeviceCall). MakesDeviceCalls devices l other_was other_now) lost.2 other_made)
+        image tells other_tells (subst (λ (l : List DeviceCall). AreAlikeSoFar (left_in_told l (devices.told now)) (left_in_told l (devices.told other_now))) lost.2 left)
+  ]
 
 -- ---- the line
 
@@ -144,25 +211,13 @@ module _ {P D : Type 0} (pools : Ghosts P) (devices : Devices D) (trace : Trace)
     before = subst (λ (z : CursorState × CursorState). AreCursorsAlike z.0 z.1) (λ i. (sym on.0 i, sym other_on.0 i)) cursors
 
     module _ (alike : AreFedAlike g feed fed) where
-      failed-same : has_failed (answers_of fed.calls) ≡ has_failed (answers_of feed.calls)
-      failed-same = ap has_failed alike.used.answers
-
-      -- where a call failed, the device tells what is left; else what the calls wrote
       told-same : devices.told other_now ≡ devices.told now
-      told-same = elim (cases_Bool (has_failed (answers_of feed.calls))) [
-        | inl some ↦ sym (told-left some).0
-        | inr none ↦ told-written none
-      ]
-        where
-          told-left : has_failed (answers_of feed.calls) ≡ true → AreAlikeSoFar (devices.told now ∷ []) (devices.told other_now ∷ [])
-          told-left some = subst (λ (z : Bool × Bool). AreAlikeSoFar (if z.0 then devices.told now ∷ [] else []) (if z.1 then devices.told other_now ∷ [] else [])) (λ i. (some i, (failed-same ∙ some) i)) left
-
-          told-written : has_failed (answers_of feed.calls) ≡ false → devices.told other_now ≡ devices.told now
-          told-written none =
-              let calls : fed.calls ≡ feed.calls = alike.calls none in
-              let made : MakesDeviceCalls devices feed.calls was now = subst (MakesDeviceCalls devices feed.calls was) (sym asks.2) asks.1 in
-              let other_made : MakesDeviceCalls devices feed.calls other_was other_now = subst (λ (z : List DeviceCall × D). MakesDeviceCalls devices z.0 other_was z.1) (λ i. (calls i, sym other_asks.2 i)) other_asks.1 in
-              calls-one devices feed.calls was now other_was other_now none made other_made like.1.0 like.1.1 like.1.2
+      told-same =
+          let made : MakesDeviceCalls devices feed.calls was now = subst (MakesDeviceCalls devices feed.calls was) (sym asks.2) asks.1 in
+          let other_made : MakesDeviceCalls devices feed.calls other_was other_now = subst (λ (z : List DeviceCall × D). MakesDeviceCalls devices z.0 other_was z.1) (λ i. (alike.calls i, sym other_asks.2 i)) other_asks.1 in
+          let lefts : AreAlikeSoFar (left_in_told feed.calls (devices.told now)) (left_in_told feed.calls (devices.told other_now)) =
+          subst (λ (l : List DeviceCall). AreAlikeSoFar (left_in_told feed.calls (devices.told now)) (left_in_told l (devices.told other_now))) alike.calls left in
+          calls-one devices 0 g.shards feed.before feed.after feed.acts feed.calls feed.report.end shape.fed was now other_was other_now made other_made like.1.0 like.1.1 like.1.2 lefts
 
       device-same : AreDevicesAlike pools devices trace (Some now) (Some other_now)
       device-same =
@@ -178,7 +233,7 @@ module _ {P D : Type 0} (pools : Ghosts P) (devices : Devices D) (trace : Trace)
           record {
             reply = cc;
             device = device-same;
-            left = λ i. if failed-same i then told-same i ∷ [] else [];
+            left = λ i. left_in_told (alike.calls i) (told-same i);
             many = refl;
             answers = ap (λ (x : List Call). x ++ []) alike.used.answers;
             events = λ shard. ap (λ (x : List Event). x ++ []) (told-at g g.callers shard fed.acts feed.acts alike.used.told);

@@ -1,5 +1,5 @@
 -- Two runs of one trace by one caller, over the same bytes, of which the same calls failed: they come to the same (arc_read, dmu_read, dmu_write, spa_sync and l2arc_feed_thread, for a single thread).
-use Rattle.std.specs.Prelude.{◌≡◌, ◌≢◌, ◌⊎◌, ℕ, zero, suc, true, false, if◌then◌else◌, List, [], ◌∷◌, ◌++◌, length, map, take, Option, None, Some, slice_get}
+use Rattle.std.specs.Prelude.{◌≡◌, ◌≢◌, ◌⊎◌, ℕ, zero, suc, true, false, List, [], ◌∷◌, ◌++◌, length, map, take, drop, Option, None, Some, slice_get}
 use Rattle.blk_ptr.specs.declared.ptr.Ptr.{Ptr}
 use Rattle.blk_ptr.specs.Ptr.{IsOf}
 use Rattle.arc_core.specs.PlainShard.{PlainShard}
@@ -20,10 +20,10 @@ use Rattle.dbuf_state.specs.declared.state.Mapped.TheVariants.{Clean}
 use Rattle.dbuf_state.specs.declared.window.Window.{Window}
 use Rattle.l2_dev.specs.Cursor.{CursorState}
 use Rattle.l2_dev.specs.declared.report.FeedStop.TheVariants as stop
-use Rattle.l2_feed.specs.Alike.{AreCursorsAlike, PicksTwo, has_failed}
+use Rattle.l2_feed.specs.Alike.{AreCursorsAlike, PicksTwo}
 use Rattle.l2_feed.specs.Plain.{answers_of}
 use Rattle.l2_feed.specs.Shape.{NoneRefused}
-use Rattle.vdev_io.specs.Calls.{Call, Failed, Gave}
+use Rattle.vdev_io.specs.Calls.{Asked, Call, DeviceCall, Failed, Flush, Gave, Read, Write}
 use Rattle.vdev_io.specs.declared.device.CacheDev.{Ghosts as Devices}
 use Rattle.vdev_io.specs.declared.pool.Pool.{Ghosts}
 use Rattle.trace_text.specs.Grammar.{IsFormed}
@@ -105,11 +105,26 @@ lent_answers none asks calls None (Some new) did = []
 lent_answers none asks calls (Some old) None did = []
 lent_answers none asks calls (Some old) (Some new) did = calls old new did
 
+-- what stands in the range of a write that failed: it leaves any bytes there
+abbrev pub left_of : Asked → Call → (image : List ℕ) → List (List ℕ)
+left_of (Write at bytes) Failed image = take (length bytes) (drop at image) ∷ []
+left_of (Write at bytes) Gave image = []
+left_of (Read at n) answer image = []
+left_of Flush answer image = []
+
+abbrev pub left_in : List DeviceCall → (image : List ℕ) → List (List ℕ)
+left_in [] image = []
+left_in (call ∷ calls) image = left_of call.asked call.answer image ++ left_in calls image
+
+abbrev pub left_in_told : List DeviceCall → Option (List ℕ) → List (List ℕ)
+left_in_told calls None = []
+left_in_told calls (Some image) = left_in calls image
+
 module _ {D : Type 0} (devices : Devices D) where
-  -- What the device tells behind a line that fed it, where a call of the feed failed: a write that fails leaves any bytes in its range.
-  abbrev pub left_behind : List FeedDone → (behind : Option D) → List (Option (List ℕ))
+  -- behind a line that fed it, as the device tells it then
+  abbrev pub left_behind : List FeedDone → (behind : Option D) → List (List ℕ)
   left_behind [] behind = []
-  left_behind (feed ∷ feeds) behind = if has_failed (answers_of feed.calls) then told_lent devices behind ∷ [] else []
+  left_behind (feed ∷ feeds) behind = left_in_told feed.calls (told_lent devices behind)
 
 module _ {P D : Type 0} (pools : Ghosts P) (devices : Devices D) (trace : Trace) where
   -- to the read that brings a block
@@ -141,8 +156,8 @@ module _ {P D : Type 0} (pools : Ghosts P) (devices : Devices D) (trace : Trace)
   feeds_at (l ∷ ls) feeds from to did zero = did.1
   feeds_at (l ∷ ls) feeds from to did (suc place) = feeds_at ls did.2 did.0 to did.5 place
 
-  -- behind each line whose feed met a call that failed
-  abbrev pub left_by_feeds : (ls : List Line) (feeds : List FeedDone) (from to : BetweenLines P D) → AreInSequence pools devices trace ls feeds from to → List (Option (List ℕ))
+  -- behind each line
+  abbrev pub left_by_feeds : (ls : List Line) (feeds : List FeedDone) (from to : BetweenLines P D) → AreInSequence pools devices trace ls feeds from to → List (List ℕ)
   left_by_feeds [] feeds from to did = []
   left_by_feeds (l ∷ ls) feeds from to did = left_behind devices did.1 did.0.device ++ left_by_feeds ls did.2 did.0 to did.5
 
@@ -356,8 +371,8 @@ module _ {P D : Type 0} (pools : Ghosts P) (devices : Devices D) (trace : Trace)
   abbrev pub feeds_of : OneRun pools devices trace → (place : ℕ) → List FeedDone
   feeds_of run place = feeds_at pools devices trace run.run.work.lines run.run.work.feeds (begun run) run.in_turn.reached run.in_turn.lines place
 
-  -- what its device told behind each line whose feed met a call that failed
-  abbrev pub left_row : OneRun pools devices trace → List (Option (List ℕ))
+  -- what failed writes left in their ranges on its device
+  abbrev pub left_row : OneRun pools devices trace → List (List ℕ)
   left_row run = left_by_feeds pools devices trace run.run.work.lines run.run.work.feeds (begun run) run.in_turn.reached run.in_turn.lines
 
 module _ {P D : Type 0} (pools : Ghosts P) (devices : Devices D) (trace : Trace) (one other : OneRun pools devices trace) where
@@ -370,7 +385,7 @@ module _ {P D : Type 0} (pools : Ghosts P) (devices : Devices D) (trace : Trace)
     pub found : other.report.rebuilt ≡ one.report.rebuilt
     pub cursors : AreFirstAlike one.first other.first
 
-  -- As far as both made calls the same ones failed; and behind each feed of which one did, the device tells the same.
+  -- As far as both made calls the same ones failed; and a write of the device that failed left the same in its range.
   pub record FailAlike : Type 0 where
     pub pool : AreAlikeSoFar (pool_row pools devices trace one) (pool_row pools devices trace other)
     pub device : AreAlikeSoFar (device_row pools devices trace one) (device_row pools devices trace other)
