@@ -24,6 +24,7 @@ use Rattle.trace_run.specs.dbufs.Objects.{Brought, Line, Loaded, Nothing, Refuse
 use Rattle.trace_run.specs.one_caller.Sequence.{BetweenLines, DoesAnyLine, DoesSync, EndsThere}
 use Rattle.trace_run.proofs.callers.GroupLists.{some-same}
 use Rattle.run_laws.specs.Alike.{AreAlikeSoFar, BeginAlike, ComeToTheSame, FailAlike, MayPart, OneRun, ReadsPast, answers_at_stop, at_stop, begun, past as may_past, pool_answers_to}
+use Rattle.run_laws.proofs.Begins.{start-same}
 use Rattle.run_laws.proofs.Closing.{EndAlike, close-alike, closed-same}
 use Rattle.run_laws.proofs.Facts.{AreCachedValid, AreSettled, GivesUpAll, OfEachLine}
 use Rattle.run_laws.proofs.LinesAlike.{Caps, ComeTo, Feeds, GoesFurther, Kind, Objects, Reads, StepsAlike, Syncs, Together, kind_of, one_further, other_further, parted, together}
@@ -202,7 +203,7 @@ module _ {P D : Type 0} (pools : Ghosts P) (devices : Devices D) (pool_len : (p 
     known-steps Syncs = syncs-steps
     known-steps Caps = caps-steps pools devices pool_len trace (IsKnown pools devices trace) (λ l from to known. known.fits)
 
-    module _ (one other : OneRun pools devices trace) (begin : BeginAlike pools devices trace one other) (none : ReadsPast one.run.work.lines → ⊥) (other_none : ReadsPast other.run.work.lines → ⊥) where
+    module _ (one other : OneRun pools devices trace) (begin : BeginAlike pools devices trace one other) (fail : FailAlike pools devices trace one other) (none : ReadsPast one.run.work.lines → ⊥) (other_none : ReadsPast other.run.work.lines → ⊥) where
       abbrev SameOrParts : Type 0
       SameOrParts = ComeToTheSame pools devices trace one other ⊎ MayPart pools devices trace one other
 
@@ -237,7 +238,7 @@ module _ {P D : Type 0} (pools : Ghosts P) (devices : Devices D) (pool_len : (p 
 
         come-together : SameOrParts
         come-together = elim stops-same [
-          | inl last ↦ inl (close-alike pools devices trace one other (last-same last) begin.found)
+          | inl last ↦ inl (close-alike pools devices trace one other (last-same last) (start-same pools devices trace one other begin fail).found)
           | inr x ↦ inr (replays-part pools devices trace one other (length one.run.work.lines) one.in_turn.reached.cells (same-there pools devices trace one other (length one.run.work.lines) one.in_turn.reached.cells t.there) t.there.did
               x.i x.in_range x.bases x.other_bases x.state x.other_state x.leads x.other_leads x.collide (at_stop refl lines-many x.writes))
         ]
@@ -249,14 +250,14 @@ module _ {P D : Type 0} (pools : Ghosts P) (devices : Devices D) (pool_len : (p 
       come (one_further g) = absurd (further-part other one (answers_at_stop one.ending one.run.work.stopped) g)
       come (parted p) = inr (parts-may pools devices trace one other formed.config p)
 
-      unpast : FailAlike pools devices trace one other → SameOrParts
-      unpast fail = come (runs-come pools devices pool_len trace one other begin (IsKnown pools devices trace) (shown.known one begin.image begin.told none) (shown.known other begin.image begin.other_told other_none) fail (λ l from to known. known.fits) known-steps)
+      unpast : SameOrParts
+      unpast = come (runs-come pools devices pool_len trace one other begin fail (IsKnown pools devices trace) (shown.known one begin.image begin.told none) (shown.known other begin.image begin.other_told other_none) (λ l from to known. known.fits) known-steps)
 
     pub runs-alike : (one other : OneRun pools devices trace) → BeginAlike pools devices trace one other → FailAlike pools devices trace one other → ComeToTheSame pools devices trace one other ⊎ MayPart pools devices trace one other
     runs-alike one other begin fail = elim (past-or-none one.run.work.lines) [
       | inl past ↦ inr (may_past (inl past))
       | inr none ↦ (elim (past-or-none other.run.work.lines) [
         | inl past ↦ inr (may_past (inr past))
-        | inr other_none ↦ unpast one other begin none other_none fail
+        | inr other_none ↦ unpast one other begin fail none other_none
       ])
     ]

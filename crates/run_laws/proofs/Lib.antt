@@ -37,3 +37,6 @@ pub mod StopStep
 pub mod SyncCells
 pub mod SyncStep
 pub mod ValidLoads
+pub mod Begins
+pub mod Refusals
+pub mod StartOne

@@ -30,7 +30,7 @@ use Rattle.run_laws.proofs.Rows.{gave-not-failed, so-far-sym}
 
 -- ---- where a walk ends
 
-too-long : (a b : ℕ) → b < a → a ≤ b → ⊥
+pub too-long : (a b : ℕ) → b < a → a ≤ b → ⊥
 too-long a b long short = omega (arith, long, short)
 
 same-some : (p q : LogPtr) (o : Option LogPtr) → o ≡ Some p → o ≡ Some q → p ≡ q

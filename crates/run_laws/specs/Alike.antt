@@ -1,5 +1,5 @@
 -- Two runs of one trace by one caller, over the same bytes, of which the same calls failed: they come to the same (arc_read, dmu_read, dmu_write, spa_sync and l2arc_feed_thread, for a single thread).
-use Rattle.std.specs.Prelude.{◌≡◌, ◌≢◌, ◌⊎◌, ℕ, zero, suc, true, false, List, [], ◌∷◌, ◌++◌, length, map, take, drop, Option, None, Some, slice_get}
+use Rattle.std.specs.Prelude.{◌≡◌, ◌≢◌, ◌⊎◌, ◌<◌, ◌≤◌, ℕ, zero, suc, true, false, List, [], ◌∷◌, ◌++◌, length, map, take, drop, Option, None, Some, IfSome, slice_get}
 use Rattle.blk_ptr.specs.declared.ptr.Ptr.{Ptr}
 use Rattle.blk_ptr.specs.Ptr.{IsOf}
 use Rattle.arc_core.specs.PlainShard.{PlainShard}
@@ -18,17 +18,21 @@ use Rattle.dbuf_state.specs.declared.event.CellEvent.TheVariants.{Synced as WasS
 use Rattle.dbuf_state.specs.declared.oid.Oid.{Oid}
 use Rattle.dbuf_state.specs.declared.state.Mapped.TheVariants.{Clean}
 use Rattle.dbuf_state.specs.declared.window.Window.{Window}
+use Rattle.l2_log.specs.Rules.{least_ring_end}
 use Rattle.l2_dev.specs.Cursor.{CursorState}
+use Rattle.l2_dev.specs.Rebuilding.{HaveKeys, IsOpened, IsStarted, ring_end_of}
 use Rattle.l2_dev.specs.declared.report.FeedStop.TheVariants as stop
+use Rattle.l2_dev.specs.declared.stop.Stop.TheVariants as stops
 use Rattle.l2_feed.specs.Alike.{AreCursorsAlike, PicksTwo}
 use Rattle.l2_feed.specs.Plain.{answers_of}
 use Rattle.l2_feed.specs.Shape.{NoneRefused}
-use Rattle.vdev_io.specs.Calls.{Asked, Call, DeviceCall, Failed, Flush, Gave, Read, Write}
+use Rattle.vdev_io.specs.Calls.{Asked, Call, DeviceCall, Failed, Flush, Gave, MakesDeviceCalls, Read, Write}
 use Rattle.vdev_io.specs.declared.device.CacheDev.{Ghosts as Devices}
 use Rattle.vdev_io.specs.declared.pool.Pool.{Ghosts}
 use Rattle.trace_text.specs.Grammar.{IsFormed}
 use Rattle.trace_text.specs.declared.op.Op.{Op}
 use Rattle.trace_text.specs.declared.op.Op.TheVariants as ops
+use Rattle.trace_text.specs.declared.rebuilt.Rebuilt.{Rebuilt}
 use Rattle.trace_text.specs.declared.reply.Reply.{Reply}
 use Rattle.trace_text.specs.declared.reply.Reply.TheVariants as replies
 use Rattle.trace_text.specs.declared.report.Report.{Report}
@@ -38,7 +42,7 @@ use Rattle.trace_run.specs.declared.ran.Ending.TheVariants.{Fork, Full, Sync, Wh
 use Rattle.trace_run.specs.declared.status.Status.{Status}
 use Rattle.trace_run.specs.Bounded.{device_len, with_bound}
 use Rattle.trace_run.specs.Deeds.{Noted, events_of_cell}
-use Rattle.trace_run.specs.Devices.{usable}
+use Rattle.trace_run.specs.Devices.{WasOnlyRead, usable}
 use Rattle.trace_run.specs.Effects.{calls_of, effect_of}
 use Rattle.trace_run.specs.FeedSeries.{GoOn}
 use Rattle.trace_run.specs.Feeds.{FeedDone}
@@ -182,6 +186,32 @@ module _ {P D : Type 0} (pools : Ghosts P) (devices : Devices D) (trace : Trace)
     pub shards : (shard : ℕ) → other.shards shard ≡ one.shards shard
     pub cells : (i : ℕ) → IsCell trace.config i → other.cells i ≡ one.cells i
     pub kept : other.kept ≡ one.kept
+
+-- ---- the start of the cache device
+
+module _ {D : Type 0} (devices : Devices D) where
+  -- both tell the same bytes, or there is none
+  abbrev pub TellTheSame : (one other : Option D) → Type 0
+  TellTheSame None None = Unit {0}
+  TellTheSame None (Some other) = ⊥
+  TellTheSame (Some one) None = ⊥
+  TellTheSame (Some one) (Some other) = (devices.size other ≡ devices.size one) × ((image : List ℕ) × (devices.told one ≡ Some image) × (devices.told other ≡ Some image))
+
+  -- A start of this device left that one. One that is too short is not looked at. Any other one was asked for just these reads; the list and the stop are those of the bytes that it tells, and its ring is
+  -- written from this cursor on.
+  pub record StartsSo (before after : D) (reads : List DeviceCall) (first : Option CursorState) (rebuilt : Rebuilt) : Type 0 where
+    pub short : devices.size before < least_ring_end → (rebuilt.list ≡ []) × (rebuilt.stop ≡ stops.Short (devices.size before)) × (first ≡ None) × (reads ≡ [])
+    pub long : least_ring_end ≤ devices.size before → MakesDeviceCalls devices reads before after × ((cursor : CursorState) × (first ≡ Some cursor) × IsOpened (ring_end_of (devices.size before)) cursor rebuilt.list
+        × IfSome (devices.told before) (λ image. IsStarted (ring_end_of (devices.size before)) image reads cursor rebuilt.list rebuilt.stop))
+    pub only : WasOnlyRead devices before after
+    pub keys : HaveKeys rebuilt.list
+
+  -- so it was of the device that was handed in, where there was one
+  abbrev pub Starts : (handed started : Option D) → (reads : List DeviceCall) → (first : Option CursorState) → Option Rebuilt → Type 0
+  Starts None started reads first rebuilt = (started ≡ None) × (reads ≡ []) × (first ≡ None) × (rebuilt ≡ None)
+  Starts (Some before) None reads first rebuilt = ⊥
+  Starts (Some before) (Some after) reads first None = ⊥
+  Starts (Some before) (Some after) reads first (Some rebuilt) = StartsSo before after reads first rebuilt
 
 -- the first feeds find the same ring, and name the same log blocks; or there is none, since no device was started
 abbrev pub AreFirstAlike : (one other : Option CursorState) → Type 0
@@ -338,7 +368,8 @@ pub record ReadsPast (lines : List Line) : Type 0 where
 
 -- ---- the law
 
--- A run of one caller that came to a report, of a trace with a line on an object, a sync or a feed. Its lines were done in sequence; its feeds went on from the cursor that the start of its device found.
+-- A run of one caller that came to a report, of a trace with a line on an object, a sync or a feed. Its device was started by these reads; its lines were done in sequence; its feeds went on from the cursor that the
+-- start found.
 pub record OneRun {P D : Type 0} (pools : Ghosts P) (devices : Devices D) (trace : Trace) : Type 0 where
   pub before : P
   pub after : P
@@ -352,7 +383,12 @@ pub record OneRun {P D : Type 0} (pools : Ghosts P) (devices : Devices D) (trace
   pub further : has_further trace.ops ≡ true
   pub in_turn : RunsInTurn pools devices before after lent back run.run.place trace ending run.work run.run.explained.owner closed.cells report
   pub in_turn_is : in_turn ≡ run.run.in_turn callers further
+  pub handed : Option D
+  pub started : Option D
+  pub lent_is : lent ≡ usable devices started
+  pub reads : List DeviceCall
   pub first : Option CursorState
+  pub start : Starts devices handed started reads first report.rebuilt
   pub fed : GoOnFrom first run.work.feeds
   pub whole : report.short ≡ false
 
@@ -365,7 +401,7 @@ module _ {P D : Type 0} (pools : Ghosts P) (devices : Devices D) (trace : Trace)
   pool_row run = pool_answers run.run.work.lines ++ answers_at_stop run.ending run.run.work.stopped
 
   abbrev pub device_row : OneRun pools devices trace → List Call
-  device_row run = device_answers pools devices trace run.run.work.lines run.run.work.feeds (begun run) run.in_turn.reached run.in_turn.lines
+  device_row run = answers_of run.reads ++ device_answers pools devices trace run.run.work.lines run.run.work.feeds (begun run) run.in_turn.reached run.in_turn.lines
 
   -- the feeds of its line at this place
   abbrev pub feeds_of : OneRun pools devices trace → (place : ℕ) → List FeedDone
@@ -376,14 +412,12 @@ module _ {P D : Type 0} (pools : Ghosts P) (devices : Devices D) (trace : Trace)
   left_row run = left_by_feeds pools devices trace run.run.work.lines run.run.work.feeds (begun run) run.in_turn.reached run.in_turn.lines
 
 module _ {P D : Type 0} (pools : Ghosts P) (devices : Devices D) (trace : Trace) (one other : OneRun pools devices trace) where
-  -- both began over the same bytes, and found the same on the device
+  -- both began over the same bytes of the pool and of the device
   pub record BeginAlike : Type 0 where
     pub image : List ℕ
     pub told : pools.told one.before ≡ Some image
     pub other_told : pools.told other.before ≡ Some image
-    pub device : AreDevicesAlike pools devices trace one.lent other.lent
-    pub found : other.report.rebuilt ≡ one.report.rebuilt
-    pub cursors : AreFirstAlike one.first other.first
+    pub device : TellTheSame devices one.handed other.handed
 
   -- As far as both made calls the same ones failed; and a write of the device that failed left the same in its range.
   pub record FailAlike : Type 0 where
@@ -430,5 +464,5 @@ abbrev pub ReportsAreRuns : {P D : Type 0} → Ghosts P → Devices D → Type 0
 ReportsAreRuns {P} {D} pool device = (before after : Handed P D) (answer : Status) (closed : Ended OnHeap) (report : Report) (r : IsReport pool device before after answer closed report)
     → r.trace.config.callers ≡ 1 → has_further r.trace.ops ≡ true
     → IsFormed (with_bound r.trace (device_len device.size before.cache)) × ((run : OneRun pool device (with_bound r.trace (device_len device.size before.cache)))
-    × (run.before ≡ before.pool) × (run.after ≡ after.pool) × (run.lent ≡ usable device r.started) × (run.back ≡ usable device after.cache) × (run.first ≡ r.first)
+    × (run.before ≡ before.pool) × (run.after ≡ after.pool) × (run.handed ≡ before.cache) × (run.started ≡ r.started) × (run.back ≡ usable device after.cache) × (run.first ≡ r.first)
     × (run.ending ≡ r.ending) × (run.closed ≡ closed) × (run.report ≡ report) × (run.run.work ≡ r.run.work))
