@@ -201,8 +201,8 @@ module _ {D : Type 0} (devices : Devices D) where
   -- written from this cursor on.
   pub record StartsSo (before after : D) (reads : List DeviceCall) (first : Option CursorState) (rebuilt : Rebuilt) : Type 0 where
     pub short : devices.size before < least_ring_end → (rebuilt.list ≡ []) × (rebuilt.stop ≡ stops.Short (devices.size before)) × (first ≡ None) × (reads ≡ [])
-    pub long : least_ring_end ≤ devices.size before → MakesDeviceCalls devices reads before after × ((cursor : CursorState) × (first ≡ Some cursor) × IsOpened (ring_end_of (devices.size before)) cursor rebuilt.list
-        × IfSome (devices.told before) (λ image. IsStarted (ring_end_of (devices.size before)) image reads cursor rebuilt.list rebuilt.stop))
+    pub long : least_ring_end ≤ devices.size before → MakesDeviceCalls devices reads before after × (cursor : CursorState) × (first ≡ Some cursor) × IsOpened (ring_end_of (devices.size before)) cursor rebuilt.list
+        × IfSome (devices.told before) (λ image. IsStarted (ring_end_of (devices.size before)) image reads cursor rebuilt.list rebuilt.stop)
     pub only : WasOnlyRead devices before after
     pub keys : HaveKeys rebuilt.list
 
