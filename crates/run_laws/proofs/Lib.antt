@@ -40,3 +40,5 @@ pub mod ValidLoads
 pub mod Begins
 pub mod Refusals
 pub mod StartOne
+pub mod PlacesGo
+pub mod FeedPlaces
