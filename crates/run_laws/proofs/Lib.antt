@@ -42,3 +42,5 @@ pub mod Refusals
 pub mod StartOne
 pub mod PlacesGo
 pub mod FeedPlaces
+pub mod FeedWrites
+pub mod FeedRanges
