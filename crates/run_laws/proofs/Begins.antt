@@ -5,6 +5,7 @@ use Rattle.std.proofs.lemmas.Bool.{cases_lt, cases_Bool}
 use Rattle.vdev_io.specs.Calls.{Call, DeviceCall}
 use Rattle.vdev_io.specs.declared.device.CacheDev.{Ghosts as Devices}
 use Rattle.vdev_io.specs.declared.pool.Pool.{Ghosts}
+use Rattle.arc_core.specs.PlainShard.{PlainShard}
 use Rattle.arc_core.specs.declared.served.Restored.{Restored}
 use Rattle.l2_log.specs.Rules.{least_ring_end}
 use Rattle.l2_dev.specs.Cursor.{CursorState}
@@ -114,18 +115,19 @@ module _ {D : Type 0} (devices : Devices D) where
 -- ---- two runs
 
 module _ {P D : Type 0} (pools : Ghosts P) (devices : Devices D) (trace : Trace) where
-  devices-alike : (one other : Option D) → TellTheSame devices one other → AreDevicesAlike pools devices trace one other
-  devices-alike None None same = tt
-  devices-alike None (Some other) same = absurd same
-  devices-alike (Some one) None same = absurd same
-  devices-alike (Some one) (Some other) same = same
+  devices-alike : (s : ℕ → PlainShard) (one other : Option D) → TellTheSame devices one other → AreDevicesAlike pools devices trace s one other
+  devices-alike s None None same = tt
+  devices-alike s None (Some other) same = absurd same
+  devices-alike s (Some one) None same = absurd same
+  devices-alike s (Some one) (Some other) same =
+      record { size = same.0; image = same.1.0; other_image = same.1.0; told = same.1.1; other_told = same.1.2; long = refl; places = λ k x at. refl }
 
   module _ (one other : OneRun pools devices trace) where
     -- what two runs have found as their first lines begin
     pub record AreStartedSame : Type 0 where
       pub found : other.report.rebuilt ≡ one.report.rebuilt
       pub cursors : AreFirstAlike one.first other.first
-      pub device : AreDevicesAlike pools devices trace one.lent other.lent
+      pub device : (s : ℕ → PlainShard) → AreDevicesAlike pools devices trace s one.lent other.lent
       pub device_rows : AreAlikeSoFar (device_answers pools devices trace one.run.work.lines one.run.work.feeds (begun pools devices trace one) one.in_turn.reached one.in_turn.lines)
           (device_answers pools devices trace other.run.work.lines other.run.work.feeds (begun pools devices trace other) other.in_turn.reached other.in_turn.lines)
 
@@ -138,6 +140,6 @@ module _ {P D : Type 0} (pools : Ghosts P) (devices : Devices D) (trace : Trace)
         record {
           found = f.found;
           cursors = f.cursors;
-          device = devices-alike one.lent other.lent lent;
+          device = λ s. devices-alike s one.lent other.lent lent;
           device_rows = so-far-rest (answers_of one.reads) rest (answers_of other.reads) other_rest f.answers fail.device;
         }

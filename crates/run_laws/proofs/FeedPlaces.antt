@@ -82,7 +82,7 @@ module _ (g : Config) (n : ℕ) (k : Key) where
     | inr other ↦ rw other refl
   ]
 
-  after-acts : (acts : List Act) (s : ℕ → PlainShard) → all_after g n s acts sh ≡ replay (s sh) (events_at g n sh acts)
+  pub after-acts : (acts : List Act) (s : ℕ → PlainShard) → all_after g n s acts sh ≡ replay (s sh) (events_at g n sh acts)
   after-acts [] s = refl
   after-acts (act ∷ acts) s = after-acts acts (shards_after g n s act) ∙ (ap (λ (p : PlainShard). replay p (events_at g n sh acts)) (after-act s act) ∙ sym (replay-append (s sh) (here_of act) (events_at g n sh acts)))
 

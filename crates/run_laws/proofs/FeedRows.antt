@@ -133,7 +133,7 @@ end-known stop.Done = inr (λ is. absurd (let clash : stop.Done ≡ stop.NoMemor
 end-known stop.DevFault = inr (λ is. absurd (let clash : stop.DevFault ≡ stop.NoMemory = is in cc))
 
 -- memory was refused for the feed or for a place in it, or it is the plain one of its shards
-plain-known : (feed : FeedDone) → WantsMemory (feed ∷ []) ⊎ ((feed.report.end ≢ stop.NoMemory) × NoneRefused feed.acts)
+pub plain-known : (feed : FeedDone) → WantsMemory (feed ∷ []) ⊎ ((feed.report.end ≢ stop.NoMemory) × NoneRefused feed.acts)
 plain-known feed = elim (end-known feed.report.end) [
   | inl is ↦ inl (record { place = 0; feed = feed; at = refl; wants = inl is })
   | inr other ↦ elim (none-known feed.acts) [

@@ -44,3 +44,4 @@ pub mod PlacesGo
 pub mod FeedPlaces
 pub mod FeedWrites
 pub mod FeedRanges
+pub mod FedPlaces

@@ -13,7 +13,7 @@ use Rattle.trace_run.specs.Lines.{caller_of}
 use Rattle.trace_run.specs.Openings.{opening_map}
 use Rattle.trace_run.specs.dbufs.Objects.{Line}
 use Rattle.trace_run.specs.one_caller.Sequence.{BetweenLines, DoesAnyLine}
-use Rattle.run_laws.specs.Alike.{AreAlike, FeedsPickTwo, SeesBoth, ShowsBoth, TwoContents, WantsMemory, device_answers_to, left_behind, pool_answers_to}
+use Rattle.run_laws.specs.Alike.{AreAlike, FeedsPickTwo, SeesBoth, ShowsBoth, TwoContents, WantsMemory, device_answers_to, pool_answers_to}
 
 module _ {P D : Type 0} (pools : Ghosts P) (devices : Devices D) (trace : Trace) where
   -- Two runs part at this line, whose cells had come to this by then: two contents of one digest are shown; a cell has come to two states by one history; a feed picked two contents of one digest; or a feed wanted memory.
@@ -32,5 +32,4 @@ module _ {P D : Type 0} (pools : Ghosts P) (devices : Devices D) (trace : Trace)
     pub reply : m.reply ≡ l.reply
     pub pool : pool_answers_to m ≡ pool_answers_to l
     pub device : device_answers_to pools devices trace (caller_of m.op) m there other other_to other_did ≡ device_answers_to pools devices trace (caller_of l.op) l here from to did
-    pub left : left_behind devices there other_to.device ≡ left_behind devices here to.device
     pub many : length there ≡ length here

@@ -1,11 +1,15 @@
 -- Two runs of one trace by one caller, over the same bytes, of which the same calls failed: they come to the same (arc_read, dmu_read, dmu_write, spa_sync and l2arc_feed_thread, for a single thread).
-use Rattle.std.specs.Prelude.{◌≡◌, ◌≢◌, ◌⊎◌, ◌<◌, ◌≤◌, ℕ, zero, suc, true, false, List, [], ◌∷◌, ◌++◌, length, map, take, drop, Option, None, Some, IfSome, slice_get}
+use Rattle.std.specs.Prelude.{◌≡◌, ◌≢◌, ◌⊎◌, ◌<◌, ◌≤◌, ℕ, zero, suc, true, false, List, [], ◌∷◌, ◌++◌, length, map, take, Option, None, Some, IfSome, slice_get}
+use Rattle.blk_ptr.specs.Hash.{shard_of}
+use Rattle.blk_ptr.specs.declared.key.Key.{Key}
 use Rattle.blk_ptr.specs.declared.ptr.Ptr.{Ptr}
 use Rattle.blk_ptr.specs.Ptr.{IsOf}
-use Rattle.arc_core.specs.PlainShard.{PlainShard}
+use Rattle.arc_core.specs.PlainShard.{PlainShard, place_of}
+use Rattle.arc_core.specs.declared.config.Config.{Config}
 use Rattle.arc_core.specs.declared.served.Served.{Served}
 use Rattle.arc_core.specs.declared.served.Served.TheVariants as served
 use Rattle.arc_table.specs.Ended.{Ended}
+use Rattle.arc_table.specs.Fetching.{bytes_from}
 use Rattle.arc_table.specs.Geometry.{IsCell}
 use Rattle.dbuf_cells.specs.Places.{cell_of}
 use Rattle.dbuf_cells.specs.Turns.{OnHeap}
@@ -26,7 +30,7 @@ use Rattle.l2_dev.specs.declared.stop.Stop.TheVariants as stops
 use Rattle.l2_feed.specs.Alike.{AreCursorsAlike, PicksTwo}
 use Rattle.l2_feed.specs.Plain.{answers_of}
 use Rattle.l2_feed.specs.Shape.{NoneRefused}
-use Rattle.vdev_io.specs.Calls.{Asked, Call, DeviceCall, Failed, Flush, Gave, MakesDeviceCalls, Read, Write}
+use Rattle.vdev_io.specs.Calls.{Call, DeviceCall, Failed, Gave, MakesDeviceCalls}
 use Rattle.vdev_io.specs.declared.device.CacheDev.{Ghosts as Devices}
 use Rattle.vdev_io.specs.declared.pool.Pool.{Ghosts}
 use Rattle.trace_text.specs.Grammar.{IsFormed}
@@ -57,7 +61,6 @@ use Rattle.trace_run.specs.dbufs.ObjectLines.{OnObject, on_object}
 use Rattle.trace_run.specs.dbufs.Objects.{Brought, Line, Loaded, Nothing, Refused, Work, replies_of}
 use Rattle.trace_run.specs.one_caller.Asking.{AsksLine}
 use Rattle.trace_run.specs.one_caller.InTurn.{RunsInTurn}
-use Rattle.trace_run.specs.one_caller.Lent.{told_lent}
 use Rattle.trace_run.specs.one_caller.Sequence.{AreInSequence, BetweenLines, DoesAnyLine, DoesOwn, IfLent, NotFromDevice, begins_so, outline_behind, shard_behind}
 
 -- ---- which calls failed
@@ -109,26 +112,15 @@ lent_answers none asks calls None (Some new) did = []
 lent_answers none asks calls (Some old) None did = []
 lent_answers none asks calls (Some old) (Some new) did = calls old new did
 
--- what stands in the range of a write that failed: it leaves any bytes there
-abbrev pub left_of : Asked → Call → (image : List ℕ) → List (List ℕ)
-left_of (Write at bytes) Failed image = take (length bytes) (drop at image) ∷ []
-left_of (Write at bytes) Gave image = []
-left_of (Read at n) answer image = []
-left_of Flush answer image = []
-
-abbrev pub left_in : List DeviceCall → (image : List ℕ) → List (List ℕ)
-left_in [] image = []
-left_in (call ∷ calls) image = left_of call.asked call.answer image ++ left_in calls image
-
-abbrev pub left_in_told : List DeviceCall → Option (List ℕ) → List (List ℕ)
-left_in_told calls None = []
-left_in_told calls (Some image) = left_in calls image
-
-module _ {D : Type 0} (devices : Devices D) where
-  -- behind a line that fed it, as the device tells it then
-  abbrev pub left_behind : List FeedDone → (behind : Option D) → List (List ℕ)
-  left_behind [] behind = []
-  left_behind (feed ∷ feeds) behind = left_in_told feed.calls (told_lent devices behind)
+-- Both devices are of one length and tell bytes, as many, that are the same at each place that a key has in these shards. What a write that failed left elsewhere may differ: no read looks there.
+pub record TellAlike {D : Type 0} (devices : Devices D) (g : Config) (s : ℕ → PlainShard) (one other : D) : Type 0 where
+  pub size : devices.size other ≡ devices.size one
+  pub image : List ℕ
+  pub other_image : List ℕ
+  pub told : devices.told one ≡ Some image
+  pub other_told : devices.told other ≡ Some other_image
+  pub long : length other_image ≡ length image
+  pub places : (k : Key) (x : ℕ) → place_of k (s (shard_of g.shards k)) ≡ Some x → bytes_from other_image x k ≡ bytes_from image x k
 
 module _ {P D : Type 0} (pools : Ghosts P) (devices : Devices D) (trace : Trace) where
   -- to the read that brings a block
@@ -160,21 +152,16 @@ module _ {P D : Type 0} (pools : Ghosts P) (devices : Devices D) (trace : Trace)
   feeds_at (l ∷ ls) feeds from to did zero = did.1
   feeds_at (l ∷ ls) feeds from to did (suc place) = feeds_at ls did.2 did.0 to did.5 place
 
-  -- behind each line
-  abbrev pub left_by_feeds : (ls : List Line) (feeds : List FeedDone) (from to : BetweenLines P D) → AreInSequence pools devices trace ls feeds from to → List (List ℕ)
-  left_by_feeds [] feeds from to did = []
-  left_by_feeds (l ∷ ls) feeds from to did = left_behind devices did.1 did.0.device ++ left_by_feeds ls did.2 did.0 to did.5
-
   -- ---- what stands between two lines is alike
 
-  -- both tell the same bytes, or there is none
-  abbrev pub AreDevicesAlike : (one other : Option D) → Type 0
-  AreDevicesAlike None None = Unit {0}
-  AreDevicesAlike None (Some other) = ⊥
-  AreDevicesAlike (Some one) None = ⊥
-  AreDevicesAlike (Some one) (Some other) = (devices.size other ≡ devices.size one) × ((image : List ℕ) × (devices.told one ≡ Some image) × (devices.told other ≡ Some image))
+  -- both tell bytes that are the same at the places of these shards, or there is none
+  abbrev pub AreDevicesAlike : (s : ℕ → PlainShard) → (one other : Option D) → Type 0
+  AreDevicesAlike s None None = Unit {0}
+  AreDevicesAlike s None (Some other) = ⊥
+  AreDevicesAlike s (Some one) None = ⊥
+  AreDevicesAlike s (Some one) (Some other) = TellAlike devices trace.config s one other
 
-  -- The pools tell the same bytes, and so do the devices; the next sync writes the same group, from the same place; the same was done to each shard and to each cell; and the same reads are kept. What
+  -- The pools tell the same bytes, and so do the devices at each place that a key has; the next sync writes the same group, from the same place; the same was done to each shard and to each cell; and the same reads are kept. What
   -- pool and device have counted may differ.
   pub record AreAlike (one other : BetweenLines P D) : Type 0 where
     pub image : List ℕ
@@ -182,7 +169,7 @@ module _ {P D : Type 0} (pools : Ghosts P) (devices : Devices D) (trace : Trace)
     pub other_told : pools.told other.outside.pool ≡ Some image
     pub group : other.outside.group ≡ one.outside.group
     pub next : other.outside.next ≡ one.outside.next
-    pub device : AreDevicesAlike one.device other.device
+    pub device : AreDevicesAlike (shard_behind trace.config one.shards) one.device other.device
     pub shards : (shard : ℕ) → other.shards shard ≡ one.shards shard
     pub cells : (i : ℕ) → IsCell trace.config i → other.cells i ≡ one.cells i
     pub kept : other.kept ≡ one.kept
@@ -407,10 +394,6 @@ module _ {P D : Type 0} (pools : Ghosts P) (devices : Devices D) (trace : Trace)
   abbrev pub feeds_of : OneRun pools devices trace → (place : ℕ) → List FeedDone
   feeds_of run place = feeds_at pools devices trace run.run.work.lines run.run.work.feeds (begun run) run.in_turn.reached run.in_turn.lines place
 
-  -- what failed writes left in their ranges on its device
-  abbrev pub left_row : OneRun pools devices trace → List (List ℕ)
-  left_row run = left_by_feeds pools devices trace run.run.work.lines run.run.work.feeds (begun run) run.in_turn.reached run.in_turn.lines
-
 module _ {P D : Type 0} (pools : Ghosts P) (devices : Devices D) (trace : Trace) (one other : OneRun pools devices trace) where
   -- both began over the same bytes of the pool and of the device
   pub record BeginAlike : Type 0 where
@@ -419,11 +402,10 @@ module _ {P D : Type 0} (pools : Ghosts P) (devices : Devices D) (trace : Trace)
     pub other_told : pools.told other.before ≡ Some image
     pub device : TellTheSame devices one.handed other.handed
 
-  -- As far as both made calls the same ones failed; and a write of the device that failed left the same in its range.
+  -- as far as both made calls the same ones failed
   pub record FailAlike : Type 0 where
     pub pool : AreAlikeSoFar (pool_row pools devices trace one) (pool_row pools devices trace other)
     pub device : AreAlikeSoFar (device_row pools devices trace one) (device_row pools devices trace other)
-    pub left : AreAlikeSoFar (left_row pools devices trace one) (left_row pools devices trace other)
 
   -- Of a line before which both came to the same, one feed picked in both the same keys of a shard, each with the same digest, and other bytes.
   pub record PicksThere : Type 0 where
