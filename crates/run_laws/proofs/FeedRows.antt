@@ -147,6 +147,7 @@ pub record AreFedAlike (g : Config) (feed fed : FeedDone) : Type 0 where
   pub used : AreUsedAlike g g.callers feed.acts fed.acts feed.calls fed.calls feed.after.ring fed.after.ring feed.report fed.report
   pub cursors : AreCursorsAlike feed.after fed.after
   pub calls : fed.calls ≡ feed.calls
+  pub plain : (feed.report.end ≢ stop.NoMemory) × NoneRefused feed.acts
 
 -- both are the plain one, so what they wrote is one too; or they picked two contents of one digest
 plain-alike : (g : Config) (s : ℕ → PlainShard) (feed fed : FeedDone) → IsFeedHere g s feed → IsFeedHere g s fed → IsFeedOf g.shards feed → IsFeedOf g.shards fed → AreCursorsAlike feed.before fed.before
@@ -155,7 +156,7 @@ plain-alike g s feed fed one other shape other_shape cursors alike plain other_p
     let used = used-alike g g.callers s feed.before.ring fed.before.ring feed.after.ring fed.after.ring feed.acts fed.acts feed.calls fed.calls feed.report fed.report cursors.ring (one.plain plain.0 plain.1) (other.plain other_plain.0 other_plain.1) alike in
     elim (come_to_one g g.callers s feed.before feed.after fed.before fed.after feed.acts fed.acts feed.calls fed.calls feed.report.end fed.report.end shape.fed other_shape.fed one.of_shards other.of_shards
     plain.0 other_plain.0 plain.1 other_plain.1 cursors used.answers) [
-      | inl come ↦ inl (record { used = used; cursors = come.cursors; calls = come.asked })
+      | inl come ↦ inl (record { used = used; cursors = come.cursors; calls = come.asked; plain = plain })
       | inr two ↦ inr two
     ]
 

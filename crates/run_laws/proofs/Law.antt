@@ -3,6 +3,7 @@ use Rattle.std.proofs.Common.{◌≡◌, ℕ, zero, suc, List, [], ◌∷◌, �
 use Rattle.std.specs.Prelude.{◌⊎◌, slice_get}
 use Rattle.std.proofs.lemmas.Option.{slice_get_within}
 use Rattle.blk_ptr.specs.declared.ptr.Ptr.{Ptr}
+use Rattle.arc_core.specs.Config.{IsConfig}
 use Rattle.arc_core.specs.declared.served.Served.{Served}
 use Rattle.arc_core.specs.declared.served.Served.TheVariants as served
 use Rattle.dbuf_cells.specs.Turns.{OnHeap}
@@ -145,13 +146,13 @@ module _ {P D : Type 0} (pools : Ghosts P) (devices : Devices D) (pool_len : (p 
   sync-line ops.Feed is = let clash : Feeds ≡ Syncs = is in cc
   sync-line (ops.Cap c) is = let clash : Caps ≡ Syncs = is in cc
 
-  syncs-steps : StepsAlike pools devices trace (IsKnown pools devices trace) Syncs
-  syncs-steps (ops.Txg t) is r q v w here there from to other other_to did other_did a b c d both =
-      elim (sync-step pools devices trace t r q v w here there from to other other_to did other_did both.holds.fits.brought both.other_holds.fits.brought both.alike) [
+  syncs-steps : IsConfig trace.config → StepsAlike pools devices trace (IsKnown pools devices trace) Syncs
+  syncs-steps valid (ops.Txg t) is r q v w here there from to other other_to did other_did a b c d both =
+      elim (sync-step pools devices trace t r q v w here there from to other other_to did other_did both.holds.fits.brought both.other_holds.fits.brought valid both.holds.legal both.alike) [
         | inl step ↦ inl (step, unfed-cursors here there a b c d did.0 other_did.0 both.feeds both.other_feeds both.cursors)
         | inr parts ↦ inr parts
       ]
-  syncs-steps op is r q v w here there from to other other_to did other_did a b c d both = absurd (sync-line op is)
+  syncs-steps valid op is r q v w here there from to other other_to did other_did a b c d both = absurd (sync-line op is)
 
   -- ---- one run goes on where the other stopped
 
@@ -197,11 +198,11 @@ module _ {P D : Type 0} (pools : Ghosts P) (devices : Devices D) (pool_len : (p 
 
   module _ (formed : IsFormed trace) (shown : IsShown pools devices trace) where
     known-steps : (kind : Kind) → StepsAlike pools devices trace (IsKnown pools devices trace) kind
-    known-steps Reads = reads-steps pools devices pool_len trace (IsKnown pools devices trace)
+    known-steps Reads = reads-steps pools devices pool_len trace (IsKnown pools devices trace) formed.config (λ l from to known. known.legal)
     known-steps Objects = shown.objects
-    known-steps Feeds = feeds-steps pools devices pool_len trace (IsKnown pools devices trace) (λ l from to known. known.fits)
-    known-steps Syncs = syncs-steps
-    known-steps Caps = caps-steps pools devices pool_len trace (IsKnown pools devices trace) (λ l from to known. known.fits)
+    known-steps Feeds = feeds-steps pools devices pool_len trace (IsKnown pools devices trace) formed.config (λ l from to known. known.legal) (λ l from to known. known.fits)
+    known-steps Syncs = syncs-steps formed.config
+    known-steps Caps = caps-steps pools devices pool_len trace (IsKnown pools devices trace) formed.config (λ l from to known. known.legal) (λ l from to known. known.fits)
 
     module _ (one other : OneRun pools devices trace) (begin : BeginAlike pools devices trace one other) (fail : FailAlike pools devices trace one other) (none : ReadsPast one.run.work.lines → ⊥) (other_none : ReadsPast other.run.work.lines → ⊥) where
       abbrev SameOrParts : Type 0
@@ -251,7 +252,7 @@ module _ {P D : Type 0} (pools : Ghosts P) (devices : Devices D) (pool_len : (p 
       come (parted p) = inr (parts-may pools devices trace one other formed.config p)
 
       unpast : SameOrParts
-      unpast = come (runs-come pools devices pool_len trace one other begin fail (IsKnown pools devices trace) (shown.known one begin.image begin.told none) (shown.known other begin.image begin.other_told other_none) (λ l from to known. known.fits) known-steps)
+      unpast = come (runs-come pools devices pool_len trace one other begin fail (IsKnown pools devices trace) (shown.known one begin.image begin.told none) (shown.known other begin.image begin.other_told other_none) formed.config (λ l from to known. known.legal) (λ l from to known. known.fits) known-steps)
 
     pub runs-alike : (one other : OneRun pools devices trace) → BeginAlike pools devices trace one other → FailAlike pools devices trace one other → ComeToTheSame pools devices trace one other ⊎ MayPart pools devices trace one other
     runs-alike one other begin fail = elim (past-or-none one.run.work.lines) [

@@ -45,3 +45,4 @@ pub mod FeedPlaces
 pub mod FeedWrites
 pub mod FeedRanges
 pub mod FedPlaces
+pub mod StartPlaces

@@ -4,12 +4,14 @@ use Rattle.std.specs.List.{AllByRecursion}
 use Rattle.std.proofs.lemmas.Bool.{cases_lt}
 use Rattle.std.proofs.lemmas.List.{length-map}
 use Rattle.blk_ptr.specs.declared.ptr.Ptr.{Ptr}
+use Rattle.arc_core.specs.Config.{IsConfig}
 use Rattle.arc_core.specs.declared.config.Config.{Config}
 use Rattle.arc_core.specs.declared.event.Event.{Event}
 use Rattle.arc_table.specs.Ended.{Ended}
 use Rattle.arc_table.specs.Fronts.{StartsWith}
 use Rattle.dbuf_cells.specs.Turns.{OnHeap}
 use Rattle.l2_log.specs.Rules.{least_ring_end}
+use Rattle.l2_ring.specs.declared.live.Written.{Written}
 use Rattle.l2_dev.specs.Cursor.{CursorState}
 use Rattle.l2_feed.specs.Alike.{AreCursorsAlike}
 use Rattle.vdev_io.specs.Calls.{Call, DeviceCall}
@@ -35,15 +37,18 @@ use Rattle.trace_run.specs.dbufs.Objects.{Line, ops_of, replies_of}
 use Rattle.trace_run.specs.declared.ran.Ending.{Ending}
 use Rattle.trace_run.specs.declared.ran.Ending.TheVariants.{Fork, Full, Sync, Whole}
 use Rattle.trace_run.specs.declared.status.Status.{Status}
-use Rattle.trace_run.specs.one_caller.Sequence.{AreInSequence, BetweenLines}
+use Rattle.trace_run.specs.one_caller.Sequence.{AreInSequence, BetweenLines, shard_behind}
 use Rattle.trace_run.proofs.theorem.LineAnswers.{lines-ops, lines-replies}
 use Rattle.run_laws.specs.Alike.{AreAlike, AreAlikeSoFar, AreFirstAlike, BeginAlike, FailAlike, GoOnFrom, OneRun, ReportsAreRuns, Starts, StartsSo, answers_at_stop, begun}
 use Rattle.run_laws.proofs.Begins.{AreStartedSame, start-same}
 use Rattle.run_laws.proofs.BoundedTrace.{formed-bound}
 use Rattle.run_laws.proofs.Facts.{OfEachLine}
+use Rattle.run_laws.proofs.FeedPlaces.{PlacesLive}
 use Rattle.run_laws.proofs.LinesAlike.{BothGo, ComeTo, Kind, StepsAlike, lines-alike}
 use Rattle.run_laws.proofs.Rows.{so-far-front}
+use Rattle.run_laws.proofs.ShardsLegal.{AreLegalShards, begun-legal}
 use Rattle.run_laws.proofs.StartOne.{too-long}
+use Rattle.run_laws.proofs.StartPlaces.{live_first, start-live}
 
 -- ---- the place of the first sync: the greatest end of the declared blocks that a pool of this length has (spa_sync's first allocation)
 
@@ -136,9 +141,10 @@ answered-front trace (Full need left) replies = take-front (length replies) trac
 
 -- ---- the ring
 
--- feeds of two runs that went on from one ring, whose log blocks are the same
-record Rings (fs es : List FeedDone) : Type 0 where
+-- feeds of two runs that went on from one ring, whose log blocks are the same, and of whose live entries this holds
+record Rings (Of : List Written → Type 0) (fs es : List FeedDone) : Type 0 where
   pub first : CursorState
+  pub placed : Of first.ring.live
   pub last : CursorState
   pub other_first : CursorState
   pub other_last : CursorState
@@ -147,12 +153,13 @@ record Rings (fs es : List FeedDone) : Type 0 where
   pub cursors : AreCursorsAlike first other_first
 
 -- where there is no device any cursor stands for that of no feed
-no_cursor : CursorState
+abbrev no_cursor : CursorState
 no_cursor = record { ring = record { end = 0; hand = 0; evict = 0; top = 0; lap = 0; live = []; spare = 0 }; base = 0; newest = None; second = None; pending = []; ready = false }
 
-rings : (first other : Option CursorState) (fs es : List FeedDone) → GoOnFrom first fs → GoOnFrom other es → AreFirstAlike first other → Rings fs es
-rings None None fs es none other_none alike = record {
+rings : (Of : List Written → Type 0) (first other : Option CursorState) (fs es : List FeedDone) → Of (live_first first) → GoOnFrom first fs → GoOnFrom other es → AreFirstAlike first other → Rings Of fs es
+rings Of None None fs es placed none other_none alike = record {
   first = no_cursor;
+  placed = placed;
   last = no_cursor;
   other_first = no_cursor;
   other_last = no_cursor;
@@ -160,9 +167,9 @@ rings None None fs es none other_none alike = record {
   other_feeds = subst (λ (l : List FeedDone). GoOn l no_cursor no_cursor) (sym other_none) refl;
   cursors = record { ring = refl; newest = refl; second = refl };
 }
-rings None (Some other) fs es fed other_fed alike = absurd alike
-rings (Some first) None fs es fed other_fed alike = absurd alike
-rings (Some first) (Some other) fs es fed other_fed alike = record { first = first; last = fed.0; other_first = other; other_last = other_fed.0; feeds = fed.1; other_feeds = other_fed.1; cursors = alike }
+rings Of None (Some other) fs es placed fed other_fed alike = absurd alike
+rings Of (Some first) None fs es placed fed other_fed alike = absurd alike
+rings Of (Some first) (Some other) fs es placed fed other_fed alike = record { first = first; placed = placed; last = fed.0; other_first = other; other_last = other_fed.0; feeds = fed.1; other_feeds = other_fed.1; cursors = alike }
 
 -- ---- what is known of each line
 
@@ -217,7 +224,7 @@ module _ {P D : Type 0} (pools : Ghosts P) (devices : Devices D) (pool_len : (p 
     other_told = begin.other_told;
     group = refl;
     next = place-one (pools.size one.before) trace.blocks one.run.run.place other.run.run.place one.run.run.first (subst (λ (n : ℕ). IsFirstPlace n trace.blocks other.run.run.place) sizes other.run.run.first);
-    device = start.device;
+    device = start.device (shard_behind trace.config (begun pools devices trace one).shards);
     shards = λ shard. ap (λ (r : Option Rebuilt). restores_in trace.config (found_keys r) shard) start.found;
     cells = λ i is_cell. refl;
     kept = refl;
@@ -231,7 +238,10 @@ module _ {P D : Type 0} (pools : Ghosts P) (devices : Devices D) (pool_len : (p 
     abbrev other_stop : List Call
     other_stop = answers_at_stop other.ending other.run.work.stopped
 
-    both-begin : (r : Rings one.run.work.feeds other.run.work.feeds) → BothGo pools devices trace Holds one.run.work.lines other.run.work.lines one.run.work.feeds other.run.work.feeds (begun pools devices trace one) one.in_turn.reached
+    abbrev Placed : List Written → Type 0
+    Placed live = PlacesLive trace.config (shard_behind trace.config (begun pools devices trace one).shards) live
+
+    both-begin : (r : Rings Placed one.run.work.feeds other.run.work.feeds) → BothGo pools devices trace Holds one.run.work.lines other.run.work.lines one.run.work.feeds other.run.work.feeds (begun pools devices trace one) one.in_turn.reached
         (begun pools devices trace other) other.in_turn.reached one.in_turn.lines other.in_turn.lines stop other_stop r.first r.last r.other_first r.other_last
     both-begin r = record {
       alike = begins-alike;
@@ -243,16 +253,17 @@ module _ {P D : Type 0} (pools : Ghosts P) (devices : Devices D) (pool_len : (p 
       shapes = one.run.did.fed.shapes;
       other_shapes = other.run.did.fed.shapes;
       cursors = r.cursors;
+      placed = r.placed;
       pool = fail.pool;
       device = start.device_rows;
-      left = fail.left;
     }
 
     -- all their lines come to the same, as far as both go; or they part
-    pub runs-come : ((l : Line) (from to : BetweenLines P D) → Holds l from to → FitsBy trace.config (caller_of l.op) l) → ((kind : Kind) → StepsAlike pools devices trace Holds kind)
+    pub runs-come : IsConfig trace.config → ((l : Line) (from to : BetweenLines P D) → Holds l from to → AreLegalShards trace to.shards) → ((l : Line) (from to : BetweenLines P D) → Holds l from to → FitsBy trace.config (caller_of l.op) l) → ((kind : Kind) → StepsAlike pools devices trace Holds kind)
         → ComeTo pools devices trace Holds one.run.work.lines other.run.work.lines one.run.work.feeds other.run.work.feeds (begun pools devices trace one) one.in_turn.reached (begun pools devices trace other) other.in_turn.reached
         one.in_turn.lines other.in_turn.lines stop other_stop
-    runs-come fits steps =
-        let r = rings one.first other.first one.run.work.feeds other.run.work.feeds one.fed other.fed start.cursors in
-        lines-alike pools devices trace Holds fits steps one.run.work.lines other.run.work.lines one.run.work.feeds other.run.work.feeds (begun pools devices trace one) one.in_turn.reached (begun pools devices trace other) other.in_turn.reached
+    runs-come valid legal fits steps =
+        let placed : Placed (live_first one.first) = start-live devices trace valid one.handed one.started one.reads one.first one.report.rebuilt one.start (begun-legal pools devices trace one) in
+        let r = rings Placed one.first other.first one.run.work.feeds other.run.work.feeds placed one.fed other.fed start.cursors in
+        lines-alike pools devices trace Holds valid legal fits steps one.run.work.lines other.run.work.lines one.run.work.feeds other.run.work.feeds (begun pools devices trace one) one.in_turn.reached (begun pools devices trace other) other.in_turn.reached
         one.in_turn.lines other.in_turn.lines stop other_stop r.first r.last r.other_first r.other_last (both-begin r)
