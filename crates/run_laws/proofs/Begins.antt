@@ -1,16 +1,14 @@
 -- Two runs over the same bytes begin alike: their starts found the same on the cache device and left alike rings, and what stands before the first line is one.
-use Rattle.std.proofs.Common.{◌≡◌, ◌<◌, ◌≤◌, ◌++◌, ℕ, true, false, List, [], ◌∷◌, Option, None, Some, inl, inr, refl, sym, ap, ◌∙◌, subst}
-use Rattle.std.specs.Prelude.{IfSome, nat_lt, if◌then◌else◌}
+use Rattle.std.proofs.Common.{◌≡◌, ◌<◌, ◌≤◌, ◌++◌, ℕ, List, Option, None, Some, inl, inr, refl, sym, ap, ◌∙◌, subst}
+use Rattle.std.specs.Prelude.{IfSome, nat_lt}
 use Rattle.std.proofs.lemmas.Bool.{cases_lt, cases_Bool}
 use Rattle.vdev_io.specs.Calls.{Call, DeviceCall}
 use Rattle.vdev_io.specs.declared.device.CacheDev.{Ghosts as Devices}
 use Rattle.vdev_io.specs.declared.pool.Pool.{Ghosts}
 use Rattle.arc_core.specs.PlainShard.{PlainShard}
-use Rattle.arc_core.specs.declared.served.Restored.{Restored}
 use Rattle.l2_log.specs.Rules.{least_ring_end}
 use Rattle.l2_dev.specs.Cursor.{CursorState}
 use Rattle.l2_dev.specs.Rebuilding.{IsStarted, ring_end_of}
-use Rattle.l2_dev.specs.declared.stop.Stop.{Stop}
 use Rattle.l2_dev.specs.declared.stop.Stop.TheVariants as stops
 use Rattle.l2_feed.specs.Plain.{answers_of}
 use Rattle.trace_text.specs.declared.rebuilt.Rebuilt.{Rebuilt}
@@ -18,7 +16,7 @@ use Rattle.trace_text.specs.declared.trace.Trace.{Trace}
 use Rattle.trace_run.specs.Devices.{WasOnlyRead, usable}
 use Rattle.run_laws.specs.Alike.{AreAlikeSoFar, AreDevicesAlike, AreFirstAlike, BeginAlike, FailAlike, OneRun, Starts, StartsSo, TellTheSame, begun, device_answers}
 use Rattle.run_laws.proofs.Rows.{so-far-rest}
-use Rattle.run_laws.proofs.StartOne.{AreStartsOne, starts-one, too-long}
+use Rattle.run_laws.proofs.StartOne.{starts-one}
 
 -- what is known where it is told
 if-told : {X : Type 0} (o : Option X) (Of : X → Type 0) (x : X) → o ≡ Some x → IfSome o Of → Of x

@@ -1,5 +1,5 @@
 -- The places that keys have on the cache device, line by line: each of them stands in the ring, as long as memory was refused for taking none.
-use Rattle.std.proofs.Common.{◌≡◌, ◌≢◌, ◌⊎◌, ◌++◌, ℕ, IsTrue, List, [], ◌∷◌, length, Option, None, Some, inl, inr, refl, sym, ap, ◌∙◌, subst, append-nil, arith}
+use Rattle.std.proofs.Common.{◌≡◌, ◌≢◌, ◌⊎◌, ℕ, IsTrue, List, [], ◌∷◌, Option, None, Some, inl, inr, refl, sym, ap, ◌∙◌, subst, append-nil, arith}
 use Rattle.std.specs.List.{AllByRecursion}
 use Rattle.blk_ptr.specs.Hash.{shard_of}
 use Rattle.blk_ptr.specs.declared.key.Key.{Key}
@@ -16,7 +16,6 @@ use Rattle.l2_ring.specs.declared.live.Written.{Written}
 use Rattle.l2_dev.specs.Cursor.{CursorState}
 use Rattle.l2_dev.specs.declared.report.FeedStop.TheVariants as stop
 use Rattle.l2_feed.specs.Alone.{events_at}
-use Rattle.l2_feed.specs.Places.{IsLive}
 use Rattle.l2_feed.specs.Plain.{all_after}
 use Rattle.l2_feed.specs.Shape.{NoneRefused}
 use Rattle.l2_feed.proofs.Stepped.{sound_front}

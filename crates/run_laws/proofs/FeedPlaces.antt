@@ -1,8 +1,8 @@
 -- What a feed makes of the places that keys have on the cache device, as the shards have them: each place that a key has behind it stands in the ring, and was the key's before, or the feed gave it. So it is as long as memory was refused for
 -- taking none (l2arc_evict and l2arc_write_done, for a single thread).
-use Rattle.std.proofs.Common.{◌≡◌, ◌≢◌, ◌⊎◌, ◌<◌, ◌++◌, ℕ, zero, suc, Bool, true, false, not, IsTrue, List, [], ◌∷◌, map, Option, None, Some, append_assoc, inl, inr, refl, sym, ap, ◌∙◌, subst, ⊎_elim, eq-eqb, arith}
+use Rattle.std.proofs.Common.{◌≡◌, ◌≢◌, ◌⊎◌, ◌++◌, ℕ, zero, suc, Bool, true, false, not, IsTrue, List, [], ◌∷◌, map, Option, None, Some, append_assoc, inl, inr, refl, sym, ap, ◌∙◌, subst, ⊎_elim, eq-eqb}
 use Rattle.std.specs.Prelude.{◌==◌, if◌then◌else◌}
-use Rattle.std.specs.List.{AllByRecursion, filter}
+use Rattle.std.specs.List.{filter}
 use Rattle.std.specs.Option.{option_and_then, option_map_or}
 use Rattle.std.proofs.lemmas.Bool.{cases_Bool, false≢true}
 use Rattle.blk_ptr.specs.Hash.{shard_of}
@@ -21,7 +21,6 @@ use Rattle.arc_core.proofs.Others.{own-entry}
 use Rattle.arc_core.proofs.Places.{taking-places}
 use Rattle.arc_core.proofs.Stepping.{prefix-legal, replay-append}
 use Rattle.arc_lists.proofs.Standing.{and_left}
-use Rattle.arc_table.specs.declared.picks.Picked.{Picked as Block}
 use Rattle.arc_table.specs.feeder.Feeding.{has_place}
 use Rattle.l2_ring.specs.declared.live.Live.{Live}
 use Rattle.l2_ring.specs.declared.live.Written.{Written}
@@ -34,7 +33,6 @@ use Rattle.l2_feed.specs.Alone.{AreOfShards, events_at, shards_after}
 use Rattle.l2_feed.specs.Places.{IsAmongActs, IsLive}
 use Rattle.l2_feed.specs.Plain.{all_after}
 use Rattle.l2_feed.specs.Runs.{AreCleared}
-use Rattle.l2_feed.specs.Series.{GivesNone}
 use Rattle.l2_feed.specs.Shape.{AreFed, FedBatch, FedShard, IsUnwritten, IsWritten, NoneRefused, why_of}
 use Rattle.l2_feed.specs.Told.{events_of, shard_of_act}
 use Rattle.l2_feed.proofs.Between.{give_none}

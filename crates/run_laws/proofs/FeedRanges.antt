@@ -1,5 +1,5 @@
 -- Where a feed writes: each call of it that failed lies beside every range that is live behind it, and where it gave a key a place, it wrote a block of the key's size there (l2arc_write_buffers and l2arc_log_blk_commit).
-use Rattle.std.proofs.Common.{◌≡◌, ◌≢◌, ◌⊎◌, ◌<◌, ◌≤◌, ◌+◌, ◌*◌, ◌-◌, ◌/◌, ◌++◌, ℕ, zero, suc, true, List, [], ◌∷◌, length, map, take, drop, max, inl, inr, refl, sym, ap, ◌∙◌, subst, ⊎_elim, arith}
+use Rattle.std.proofs.Common.{◌≡◌, ◌⊎◌, ◌<◌, ◌≤◌, ◌+◌, ◌*◌, ◌-◌, ◌++◌, ℕ, zero, suc, true, List, [], ◌∷◌, length, take, drop, inl, inr, refl, sym, ap, ◌∙◌, subst, ⊎_elim, arith}
 use Rattle.std.specs.List.{AllByRecursion, filter}
 use Rattle.std.proofs.lemmas.Bool.{cases_Bool, cases_lt}
 use Rattle.std.proofs.lemmas.List.{length-drop, map-append}
@@ -9,7 +9,7 @@ use Rattle.l2_log.specs.Rules.{header_len, log_len, ring_start}
 use Rattle.l2_ring.specs.declared.live.Written.{Written}
 use Rattle.l2_ring.specs.declared.plan.Plan.{Plan}
 use Rattle.l2_ring.specs.Ranges.{Stays, range_of}
-use Rattle.l2_ring.specs.Ring.{IsPlanFor, IsSound, RingState, straight_plan, wrapped_plan}
+use Rattle.l2_ring.specs.Ring.{IsPlanFor, IsSound, RingState}
 use Rattle.l2_ring.specs.Stays.{stays}
 use Rattle.l2_ring.proofs.PlanLaws.{stays_tells}
 use Rattle.l2_dev.specs.Asking.{header_calls, log_calls}
@@ -18,7 +18,7 @@ use Rattle.l2_dev.specs.declared.report.FeedStop.{FeedStop}
 use Rattle.l2_dev.specs.declared.report.FeedStop.TheVariants as stop
 use Rattle.l2_dev.proofs.ListLaws.{all_right}
 use Rattle.l2_feed.specs.Acts.{Act, Left, Picked, Placed, Unpicked}
-use Rattle.l2_feed.specs.Asking.{AskRuns, AsksHeader, AsksLog, AsksRun, AsksSome, BatchCalls, EndCalls, FirstGave, RunsCalls, UpToFailed, all_gave, puts_of}
+use Rattle.l2_feed.specs.Asking.{AskRuns, AsksHeader, AsksLog, AsksSome, BatchCalls, EndCalls, FirstGave, UpToFailed, all_gave, puts_of}
 use Rattle.l2_feed.specs.Places.{IsAmongActs, IsLive}
 use Rattle.l2_feed.specs.Runs.{AreRuns, AreSet, AreWhole, batch_len, bytes_of, most, row_of, runs_of}
 use Rattle.l2_feed.specs.Shape.{AreFed, FedBatch, FedShard, IsUnwritten, IsWritten, LeavesSome, WrittenCalls, why_of}

@@ -6,8 +6,8 @@ use Rattle.std.proofs.lemmas.List.{get_or-append_right, get_or-drop, get_or-take
 use Rattle.l2_log.proofs.Numbers.{part_from_same, part_same}
 use Rattle.l2_dev.proofs.TornLaws.{IsAside, bytes_aside}
 use Rattle.l2_feed.specs.Told.{IsAmongCalls}
-use Rattle.vdev_io.specs.Calls.{Asked, Call, DeviceCall, Failed, Flush, Gave, IsImageAfter, IsToldAfter, MakesDeviceCall, MakesDeviceCalls, Read, Write, answered}
-use Rattle.vdev_io.specs.Device.{IsTorn, put}
+use Rattle.vdev_io.specs.Calls.{Asked, Call, DeviceCall, Failed, Flush, Gave, IsImageAfter, IsToldAfter, MakesDeviceCalls, Read, Write, answered}
+use Rattle.vdev_io.specs.Device.{put}
 use Rattle.vdev_io.specs.declared.device.CacheDev.{Ghosts as Devices}
 use Rattle.trace_run.proofs.callers.GroupLists.{some-same}
 

@@ -30,16 +30,15 @@ use Rattle.trace_text.specs.declared.op.Op.{Op}
 use Rattle.trace_text.specs.declared.op.Op.TheVariants as ops
 use Rattle.trace_text.specs.declared.reply.Reply.{Reply}
 use Rattle.trace_text.specs.declared.trace.Trace.{Trace}
-use Rattle.trace_run.specs.Deeds.{HasAct, Noted, act_of_event, events_there}
+use Rattle.trace_run.specs.Deeds.{HasAct, Noted, events_there}
 use Rattle.trace_run.specs.Effects.{Answered, Effect, GivenBack, NoEffect, PoolRefused, effect_of}
 use Rattle.trace_run.specs.KeptReads.{KeptRead}
 use Rattle.trace_run.specs.Lines.{is_in_shard}
-use Rattle.trace_run.specs.Meeting.{resizes_in}
 use Rattle.trace_run.specs.Syncing.{insert_noted, inserts_noted}
 use Rattle.trace_run.specs.dbufs.ObjectLines.{OnObject, brought_there, events_of_bringing, events_of_hand}
 use Rattle.trace_run.specs.dbufs.Objects.{Brought, Line, Loaded, Nothing, Refused, Work}
 use Rattle.trace_run.specs.one_caller.Access.{Access, Hit as IsHit, Miss as IsMiss, Past as IsPast, access_of, events_of_answered, events_of_drop, events_of_refused, held_by_access}
-use Rattle.trace_run.specs.one_caller.OneCaller.{events_of_dropping, events_of_hold, events_of_op, events_of_op_in, events_of_read, oldest_key}
+use Rattle.trace_run.specs.one_caller.OneCaller.{events_of_dropping, events_of_hold, events_of_op, events_of_read, oldest_key}
 use Rattle.trace_run.specs.one_caller.Sequence.{BetweenLines, DoesCap, DoesOwn, DoesSync, shard_behind}
 use Rattle.trace_run.proofs.one_caller.TellLemmas.{all-append}
 use Rattle.run_laws.proofs.ShardsLegal.{AreLegalShards}

@@ -2,28 +2,25 @@
 use Rattle.std.proofs.Common.{◌≡◌, ◌≢◌, ◌⊎◌, ℕ, suc, ◌+◌, ◌*◌, ◌<◌, ◌≤◌, List, [], ◌∷◌, ◌++◌, length, map, reverse, Option, None, Some, inl, inr, refl, sym, ap, ◌∙◌, subst, arith}
 use Rattle.std.specs.List.{AllByRecursion}
 use Rattle.vdev_io.specs.Calls.{Call, DeviceCall, Failed, Gave}
-use Rattle.l2_log.specs.Rules.{log_len, ring_start}
+use Rattle.l2_log.specs.Rules.{log_len}
 use Rattle.l2_log.specs.LogBytes.{IsLogBlock}
 use Rattle.l2_log.specs.Values.{same_header_of_bytes, same_log_block_of_bytes}
 use Rattle.l2_log.specs.declared.fault.LogFault.{LogFault}
 use Rattle.l2_log.specs.declared.header.DevHeader.{DevHeader}
-use Rattle.l2_log.specs.declared.log_block.LogBlock.{LogBlock}
 use Rattle.l2_log.specs.declared.pointer.LogPtr.{LogPtr}
-use Rattle.l2_ring.specs.declared.live.Written.{Written}
-use Rattle.l2_ring.specs.declared.plan.Plan.{Plan}
-use Rattle.l2_ring.specs.Ring.{RingState, numbers_of}
+use Rattle.l2_ring.specs.Ring.{numbers_of}
 use Rattle.arc_core.specs.declared.served.Restored.{Restored}
 use Rattle.l2_dev.specs.declared.stop.Stop.{Stop}
 use Rattle.l2_dev.specs.declared.stop.Stop.TheVariants as stop
 use Rattle.l2_dev.specs.Asking.{header_read, last_read, unread_answer, visit_read, walk_reads}
 use Rattle.l2_dev.specs.Chain.{IsBlockFault, IsHeld, IsInPart, IsInRing, IsLinked, IsPassed, IsReached, IsStop, Visit, bytes_at, numbers_in, pointer_behind, ring_len}
 use Rattle.l2_dev.specs.Cursor.{CursorState}
-use Rattle.l2_dev.specs.Rebuilding.{IsAlong, IsFresh, IsStarted}
+use Rattle.l2_dev.specs.Rebuilding.{IsAlong, IsStarted}
 use Rattle.l2_dev.specs.Restoring.{IsUnread, IsWalked, first_sector, firsts, found_in, restored_from}
 use Rattle.l2_dev.proofs.ChainLaws.{begins_with}
 use Rattle.l2_dev.proofs.RebuildLaws.{not_refused}
 use Rattle.l2_feed.specs.Alike.{AreCursorsAlike}
-use Rattle.l2_feed.specs.Plain.{answers_of, bare}
+use Rattle.l2_feed.specs.Plain.{answers_of}
 use Rattle.run_laws.specs.Alike.{AreAlikeSoFar}
 use Rattle.run_laws.proofs.Refusals.{block-fault-one, refused-one}
 use Rattle.run_laws.proofs.Rows.{gave-not-failed, so-far-sym}

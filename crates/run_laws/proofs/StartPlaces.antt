@@ -1,5 +1,5 @@
 -- As the first line begins the keys that the start found have places, and no others: each of them stands in the ring (l2arc_rebuild of arc.c).
-use Rattle.std.proofs.Common.{◌≡◌, ◌⊎◌, ◌<◌, ◌≤◌, ℕ, Bool, true, false, IsTrue, List, [], ◌∷◌, map, reverse, Option, None, Some, inl, inr, refl, sym, ap, ◌∙◌, subst, ⊎_elim, arith}
+use Rattle.std.proofs.Common.{◌≡◌, ℕ, IsTrue, List, [], ◌∷◌, reverse, Option, None, Some, inl, inr, refl, sym, ap, subst, ⊎_elim, arith}
 use Rattle.std.specs.Prelude.{◌==◌, if◌then◌else◌}
 use Rattle.std.proofs.lemmas.Bool.{cases_lt}
 use Rattle.blk_ptr.specs.Hash.{shard_of}
@@ -17,7 +17,6 @@ use Rattle.l2_log.specs.Rules.{least_ring_end}
 use Rattle.l2_ring.specs.declared.live.Written.{Written}
 use Rattle.l2_dev.specs.Cursor.{CursorState}
 use Rattle.l2_dev.specs.Rebuilding.{IsOpened}
-use Rattle.l2_feed.specs.Places.{IsLive}
 use Rattle.l2_feed.specs.Series.{IsRestoredAt, restores_at}
 use Rattle.l2_feed.proofs.InTurn.{live_back, live_restored, restores_give}
 use Rattle.vdev_io.specs.Calls.{DeviceCall}
