@@ -10,13 +10,21 @@ use Rattle.l2_log.specs.Rules.{least_ring_end}
 use Rattle.l2_dev.specs.Cursor.{CursorState}
 use Rattle.l2_dev.specs.Rebuilding.{IsStarted, ring_end_of}
 use Rattle.l2_dev.specs.declared.stop.Stop.TheVariants as stops
+use Rattle.l2_feed.specs.Alike.{AreCursorsAlike}
 use Rattle.l2_feed.specs.Plain.{answers_of}
 use Rattle.trace_text.specs.declared.rebuilt.Rebuilt.{Rebuilt}
 use Rattle.trace_text.specs.declared.trace.Trace.{Trace}
 use Rattle.trace_run.specs.Devices.{WasOnlyRead, usable}
-use Rattle.run_laws.specs.Alike.{AreAlikeSoFar, AreDevicesAlike, AreFirstAlike, BeginAlike, FailAlike, OneRun, Starts, StartsSo, TellTheSame, begun, device_answers}
+use Rattle.run_laws.specs.Alike.{AreAlikeSoFar, AreDevicesAlike, BeginAlike, FailAlike, OneRun, Starts, StartsSo, TellTheSame, begun, device_answers}
 use Rattle.run_laws.proofs.Rows.{so-far-rest}
 use Rattle.run_laws.proofs.StartOne.{starts-one}
+
+-- the first feeds find the same ring, and name the same log blocks; or there is none, since no device was started
+abbrev pub AreFirstAlike : (one other : Option CursorState) → Type 0
+AreFirstAlike None None = Unit {0}
+AreFirstAlike None (Some other) = ⊥
+AreFirstAlike (Some one) None = ⊥
+AreFirstAlike (Some one) (Some other) = AreCursorsAlike one other
 
 -- what is known where it is told
 if-told : {X : Type 0} (o : Option X) (Of : X → Type 0) (x : X) → o ≡ Some x → IfSome o Of → Of x

@@ -39,8 +39,8 @@ use Rattle.trace_run.specs.declared.ran.Ending.TheVariants.{Fork, Full, Sync, Wh
 use Rattle.trace_run.specs.declared.status.Status.{Status}
 use Rattle.trace_run.specs.one_caller.Sequence.{AreInSequence, BetweenLines, shard_behind}
 use Rattle.trace_run.proofs.theorem.LineAnswers.{lines-ops, lines-replies}
-use Rattle.run_laws.specs.Alike.{AreAlike, AreAlikeSoFar, AreFirstAlike, BeginAlike, FailAlike, GoOnFrom, OneRun, ReportsAreRuns, Starts, StartsSo, answers_at_stop, begun}
-use Rattle.run_laws.proofs.Begins.{AreStartedSame, start-same}
+use Rattle.run_laws.specs.Alike.{AreAlike, AreAlikeSoFar, BeginAlike, FailAlike, GoOnFrom, OneRun, ReportsAreRuns, Starts, StartsSo, answers_at_stop, begun}
+use Rattle.run_laws.proofs.Begins.{AreFirstAlike, AreStartedSame, start-same}
 use Rattle.run_laws.proofs.BoundedTrace.{formed-bound}
 use Rattle.run_laws.proofs.Facts.{OfEachLine}
 use Rattle.run_laws.proofs.FeedPlaces.{PlacesLive}
@@ -74,10 +74,10 @@ module _ {P D : Type 0} (pool : Ghosts P) (device : Devices D) where
   started-so before after first rebuilt f = elim (cases_lt (device.size before) least_ring_end) [
     | inl less ↦
         let s = f.short less in
-        ([], record { short = λ also. (s.0, s.1, s.3, refl); long = λ most. absurd (too-long least_ring_end (device.size before) less most); only = f.only; keys = f.keys })
+        ([], record { short = λ also. (s.0, s.1, s.3, refl); long = λ most. absurd (too-long least_ring_end (device.size before) less most); only = f.only })
     | inr most ↦
         let r = f.reads most in
-        (r.0, record { short = λ less. absurd (too-long least_ring_end (device.size before) less most); long = λ also. (r.1, r.2, r.3, r.4, r.5); only = f.only; keys = f.keys })
+        (r.0, record { short = λ less. absurd (too-long least_ring_end (device.size before) less most); long = λ also. (r.1, r.2, r.3, r.4, r.5); only = f.only })
   ]
 
   its-start : (handed started : Option D) (first : Option CursorState) (rebuilt : Option Rebuilt) → Finds device handed started first rebuilt → (reads : List DeviceCall) × Starts device handed started reads first rebuilt

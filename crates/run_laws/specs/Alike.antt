@@ -24,10 +24,10 @@ use Rattle.dbuf_state.specs.declared.state.Mapped.TheVariants.{Clean}
 use Rattle.dbuf_state.specs.declared.window.Window.{Window}
 use Rattle.l2_log.specs.Rules.{least_ring_end}
 use Rattle.l2_dev.specs.Cursor.{CursorState}
-use Rattle.l2_dev.specs.Rebuilding.{HaveKeys, IsOpened, IsStarted, ring_end_of}
+use Rattle.l2_dev.specs.Rebuilding.{IsOpened, IsStarted, ring_end_of}
 use Rattle.l2_dev.specs.declared.report.FeedStop.TheVariants as stop
 use Rattle.l2_dev.specs.declared.stop.Stop.TheVariants as stops
-use Rattle.l2_feed.specs.Alike.{AreCursorsAlike, PicksTwo}
+use Rattle.l2_feed.specs.Alike.{PicksTwo}
 use Rattle.l2_feed.specs.Plain.{answers_of}
 use Rattle.l2_feed.specs.Shape.{NoneRefused}
 use Rattle.vdev_io.specs.Calls.{Call, DeviceCall, Failed, Gave, MakesDeviceCalls}
@@ -112,16 +112,6 @@ lent_answers none asks calls None (Some new) did = []
 lent_answers none asks calls (Some old) None did = []
 lent_answers none asks calls (Some old) (Some new) did = calls old new did
 
--- Both devices are of one length and tell bytes, as many, that are the same at each place that a key has in these shards. What a write that failed left elsewhere may differ: no read looks there.
-pub record TellAlike {D : Type 0} (devices : Devices D) (g : Config) (s : ℕ → PlainShard) (one other : D) : Type 0 where
-  pub size : devices.size other ≡ devices.size one
-  pub image : List ℕ
-  pub other_image : List ℕ
-  pub told : devices.told one ≡ Some image
-  pub other_told : devices.told other ≡ Some other_image
-  pub long : length other_image ≡ length image
-  pub places : (k : Key) (x : ℕ) → place_of k (s (shard_of g.shards k)) ≡ Some x → bytes_from other_image x k ≡ bytes_from image x k
-
 module _ {P D : Type 0} (pools : Ghosts P) (devices : Devices D) (trace : Trace) where
   -- to the read that brings a block
   abbrev pub bringing_answers : (s : ℕ → PlainShard) (brought : Brought) (reply : Reply) (old new : D) → AsksBrought devices trace.config s brought reply old new → List Call
@@ -152,8 +142,19 @@ module _ {P D : Type 0} (pools : Ghosts P) (devices : Devices D) (trace : Trace)
   feeds_at (l ∷ ls) feeds from to did zero = did.1
   feeds_at (l ∷ ls) feeds from to did (suc place) = feeds_at ls did.2 did.0 to did.5 place
 
-  -- ---- what stands between two lines is alike
+-- ---- what stands between two lines is alike
 
+-- Both devices are of one length and tell bytes, as many, that are the same at each place that a key has in these shards. What a write that failed left elsewhere may differ: no read looks there.
+pub record TellAlike {D : Type 0} (devices : Devices D) (g : Config) (s : ℕ → PlainShard) (one other : D) : Type 0 where
+  pub size : devices.size other ≡ devices.size one
+  pub image : List ℕ
+  pub other_image : List ℕ
+  pub told : devices.told one ≡ Some image
+  pub other_told : devices.told other ≡ Some other_image
+  pub long : length other_image ≡ length image
+  pub places : (k : Key) (x : ℕ) → place_of k (s (shard_of g.shards k)) ≡ Some x → bytes_from other_image x k ≡ bytes_from image x k
+
+module _ {P D : Type 0} (pools : Ghosts P) (devices : Devices D) (trace : Trace) where
   -- both tell bytes that are the same at the places of these shards, or there is none
   abbrev pub AreDevicesAlike : (s : ℕ → PlainShard) → (one other : Option D) → Type 0
   AreDevicesAlike s None None = Unit {0}
@@ -191,7 +192,6 @@ module _ {D : Type 0} (devices : Devices D) where
     pub long : least_ring_end ≤ devices.size before → MakesDeviceCalls devices reads before after × (cursor : CursorState) × (first ≡ Some cursor) × IsOpened (ring_end_of (devices.size before)) cursor rebuilt.list
         × IfSome (devices.told before) (λ image. IsStarted (ring_end_of (devices.size before)) image reads cursor rebuilt.list rebuilt.stop)
     pub only : WasOnlyRead devices before after
-    pub keys : HaveKeys rebuilt.list
 
   -- so it was of the device that was handed in, where there was one
   abbrev pub Starts : (handed started : Option D) → (reads : List DeviceCall) → (first : Option CursorState) → Option Rebuilt → Type 0
@@ -199,13 +199,6 @@ module _ {D : Type 0} (devices : Devices D) where
   Starts (Some before) None reads first rebuilt = ⊥
   Starts (Some before) (Some after) reads first None = ⊥
   Starts (Some before) (Some after) reads first (Some rebuilt) = StartsSo before after reads first rebuilt
-
--- the first feeds find the same ring, and name the same log blocks; or there is none, since no device was started
-abbrev pub AreFirstAlike : (one other : Option CursorState) → Type 0
-AreFirstAlike None None = Unit {0}
-AreFirstAlike None (Some other) = ⊥
-AreFirstAlike (Some one) None = ⊥
-AreFirstAlike (Some one) (Some other) = AreCursorsAlike one other
 
 -- the feeds of a run went on from this cursor; where no device was started there was none
 abbrev pub GoOnFrom : Option CursorState → List FeedDone → Type 0
