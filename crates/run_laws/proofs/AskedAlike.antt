@@ -235,8 +235,7 @@ module _ {P D : Type 0} (pools : Ghosts P) (devices : Devices D) (trace : Trace)
       let told : TellsImage devices size alike.image x = (refl, alike.told) in
       let other_told : TellsImage devices size alike.other_image v = (alike.size, alike.other_told) in
       let behind = block-told devices size alike.image s there e asks.0 x y told asks.1 in
-      let other_behind = block-told devices size alike.other_image z there f other_asks.0 v w other_told other_asks.1 in
-      (
+      let other_behind = block-told devices size alike.other_image z there f other_asks.0 v w other_told other_asks.1 in (
         calls-same size alike.image alike.other_image s z there e f same one x y v w told other_told asks other_asks rows,
         record { size = other_behind.0 ∙ sym behind.0; image = alike.image; other_image = alike.other_image; told = behind.1; other_told = other_behind.1; long = alike.long; places = alike.places },
       )

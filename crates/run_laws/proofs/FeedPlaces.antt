@@ -102,8 +102,7 @@ module _ (g : Config) (n : ℕ) (k : Key) where
   two-may : (s : ℕ → PlainShard) (a b : List Act) → MayDo s (a ++ b) → MayDo s a × MayDo (all_after g n s a) b
   two-may s a b may =
       let whole : IsTrue (is_legal_history (s sh) (events_at g n sh a ++ events_at g n sh b)) = subst (λ (es : List Event). IsTrue (is_legal_history (s sh) es)) (events-two a b) may.legal in
-      let parts = sound_front (s sh) (events_at g n sh a) (events_at g n sh b) may.sound whole in
-      (
+      let parts = sound_front (s sh) (events_at g n sh a) (events_at g n sh b) may.sound whole in (
         record { sound = may.sound; legal = prefix-legal (s sh) (events_at g n sh a) (events_at g n sh b) whole },
         record {
           sound = subst IsSound (sym (after-acts a s)) parts.0;

@@ -138,15 +138,15 @@ runs-lie lap hand (suc count) k x bs acts ws left (some, sets, more, behind, is,
     let fewer : bytes_of (drop most bs) ≡ bytes_of (take (count * most) (drop most bs)) + bytes_of (drop (count * most) (drop most bs)) = bytes_split (count * most) (drop most bs) in
     ⊎_elim
     (λ (here : IsLive k x (row_of lap hand run)).
-        let r = row-lies lap hand k x run here in
-        let from = r.0 in
-        let to = r.1 in
-        (from, omega (arith, to, parts, behind_it, fewer)))
+    let r = row-lies lap hand k x run here in
+    let from = r.0 in
+    let to = r.1 in
+    (from, omega (arith, to, parts, behind_it, fewer)))
     (λ (there : IsLive k x behind).
-        let r = runs-lie lap hand_then count k x (drop most bs) more behind left rest there in
-        let from = r.0 in
-        let to = r.1 in
-        (omega (arith, from), omega (arith, to, parts, behind_it)))
+    let r = runs-lie lap hand_then count k x (drop most bs) more behind left rest there in
+    let from = r.0 in
+    let to = r.1 in
+    (omega (arith, from), omega (arith, to, parts, behind_it)))
     (live_either k x (row_of lap hand run) behind (subst (IsLive k x) entries live))
 
 -- where the hand stands behind them
@@ -233,8 +233,8 @@ module _ (old new : CursorState) (blocks : List Block) (clears settles : List Ac
   live-lies : (k : Key) (x : ℕ) → IsLive k x new.ring.live → Lies k x
   live-lies k x live = ⊎_elim
       (λ (kept : IsLive k x (filter (stays w.planned.plan) old.ring.live)).
-          let v = kept-stays w.planned.plan k x old.ring.live kept in
-          stayed-lies k x v.0 v.2 v.3 (stays_tells w.planned.plan (range_of v.0) v.1))
+      let v = kept-stays w.planned.plan k x old.ring.live kept in
+      stayed-lies k x v.0 v.2 v.3 (stays_tells w.planned.plan (range_of v.0) v.1))
       (λ (entry : IsLive k x w.ran.entries). entry-lies k x entry)
       (live_either k x (filter (stays w.planned.plan) old.ring.live) w.ran.entries (subst (IsLive k x) (live_after w) live))
 
@@ -368,11 +368,11 @@ runs-wrote lap hand (suc count) k x bs acts ws left old now asked whole (some, s
     subst (λ (l : List Asked). WroteIn x k.size (all_gave l)) (sym asked_are)
     (⊎_elim
     (λ (here : IsAmongActs (Placed k x) sets).
-        let wrote : WroteIn x k.size (all_gave puts) = subst (λ (y : ℕ). WroteIn x k.size (all_gave (puts_of y run))) (sym at) (set-wrote hand k x run sets (whole-front most bs whole) set here) in
-        let log : WroteIn x k.size (all_gave asks.front) = subst (λ (l : List Asked). WroteIn x k.size (all_gave l)) (sym asks.log.asked_are) (wrote-first x k.size puts (log_calls (old.ring.hand + bytes_of run) asks.log.log.bytes) wrote) in
-        wrote-first x k.size first later (subst (λ (l : List Asked). WroteIn x k.size (all_gave l)) (sym asks.asked_are) (wrote-first x k.size asks.front (header_calls asks.sector) log)))
+    let wrote : WroteIn x k.size (all_gave puts) = subst (λ (y : ℕ). WroteIn x k.size (all_gave (puts_of y run))) (sym at) (set-wrote hand k x run sets (whole-front most bs whole) set here) in
+    let log : WroteIn x k.size (all_gave asks.front) = subst (λ (l : List Asked). WroteIn x k.size (all_gave l)) (sym asks.log.asked_are) (wrote-first x k.size puts (log_calls (old.ring.hand + bytes_of run) asks.log.log.bytes) wrote) in
+    wrote-first x k.size first later (subst (λ (l : List Asked). WroteIn x k.size (all_gave l)) (sym asks.asked_are) (wrote-first x k.size asks.front (header_calls asks.sector) log)))
     (λ (there : IsAmongActs (Placed k x) more).
-        wrote-rest x k.size first later (runs-wrote lap (hand + (bytes_of run + log_len)) count k x (drop most bs) more behind left next now later (whole-behind most bs whole) rest hand_then others there))
+    wrote-rest x k.size first later (runs-wrote lap (hand + (bytes_of run + log_len)) count k x (drop most bs) more behind left next now later (whole-behind most bs whole) rest hand_then others there))
     (in_either (Placed k x) sets more (subst (IsAmongActs (Placed k x)) is among)))
 
 none-among : (a : Act) (k : Key) (x : ℕ) → (a ≡ Placed k x → ⊥) → IsAmongActs (Placed k x) (a ∷ []) → ⊥

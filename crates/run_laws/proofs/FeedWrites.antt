@@ -17,14 +17,14 @@ use Rattle.trace_run.proofs.callers.GroupLists.{some-same}
 put-agrees : (at : ℕ) (bytes i j : List ℕ) (k : ℕ) → length j ≡ length i → ((k < at) ⊎ (at + length bytes ≤ k) → get_or j k 0 ≡ get_or i k 0) → get_or (put at bytes j) k 0 ≡ get_or (put at bytes i) k 0
 put-agrees at bytes i j k long beside = elim (cases_lt k (length (take at i ++ bytes))) [
   | inl less ↦ (
-    get_or_append_left (take at j ++ bytes) (drop (at + length bytes) j) 0 k (omega (arith, less, fronts))
-        ∙ (in-front less ∙ sym (get_or_append_left (take at i ++ bytes) (drop (at + length bytes) i) 0 k less))
-  )
+      get_or_append_left (take at j ++ bytes) (drop (at + length bytes) j) 0 k (omega (arith, less, fronts))
+      ∙ (in-front less ∙ sym (get_or_append_left (take at i ++ bytes) (drop (at + length bytes) i) 0 k less))
+      )
   | inr most ↦ (
-    get_or-append_right (take at j ++ bytes) (drop (at + length bytes) j) (length (take at i ++ bytes)) k 0 fronts most
-        ∙ (get_or-drop (at + length bytes) j (k - length (take at i ++ bytes)) 0 ∙ (behind most
-        ∙ sym (get_or-append_right (take at i ++ bytes) (drop (at + length bytes) i) (length (take at i ++ bytes)) k 0 refl most ∙ get_or-drop (at + length bytes) i (k - length (take at i ++ bytes)) 0)))
-  )
+      get_or-append_right (take at j ++ bytes) (drop (at + length bytes) j) (length (take at i ++ bytes)) k 0 fronts most
+      ∙ (get_or-drop (at + length bytes) j (k - length (take at i ++ bytes)) 0 ∙ (behind most
+      ∙ sym (get_or-append_right (take at i ++ bytes) (drop (at + length bytes) i) (length (take at i ++ bytes)) k 0 refl most ∙ get_or-drop (at + length bytes) i (k - length (take at i ++ bytes)) 0)))
+      )
 ]
   where
     takes : length (take at j) ≡ length (take at i)

@@ -147,7 +147,7 @@ module _ {P D : Type 0} (pools : Ghosts P) (devices : Devices D) (trace : Trace)
   -- ---- one line
 
   module _ (Holds : Line → (from to : BetweenLines P D) → Type 0) where
-    -- A line was done in both runs, which had come to the same; the same of its calls failed; its feeds went on from the same ring; and what is known of each run by itself holds of it.
+    -- A line was done in both runs, which had come to the same; the same of its calls failed; its feeds went on from the same ring, in which each place stands that a key has; and what is known of each run by itself holds of it.
     pub record BothDo (l m : Line) (here there : List FeedDone) (from to other other_to : BetweenLines P D) (did : DoesAnyLine pools devices trace (caller_of l.op) l here from to)
         (other_did : DoesAnyLine pools devices trace (caller_of m.op) m there other other_to) (a b c d : CursorState) : Type 0 where
       pub alike : AreAlike pools devices trace from other
@@ -177,7 +177,7 @@ module _ {P D : Type 0} (pools : Ghosts P) (devices : Devices D) (trace : Trace)
 
     -- ---- all lines
 
-    -- What is known before these lines of both runs: they had come to the same, the lines are as far as both go of the same operations, and the same of their calls failed, with those that follow.
+    -- What is known before these lines of both runs: they had come to the same, the lines are as far as both go of the same operations, the same of their calls failed, with those that follow, and each place that a key has stands in the ring.
     pub record BothGo (ls ms : List Line) (fs es : List FeedDone) (from to other other_to : BetweenLines P D) (did : AreInSequence pools devices trace ls fs from to) (other_did : AreInSequence pools devices trace ms es other other_to)
         (us vs : List Call) (a b c d : CursorState) : Type 0 where
       pub alike : AreAlike pools devices trace from other

@@ -232,7 +232,6 @@ module _ {P D : Type 0} (pools : Ghosts P) (devices : Devices D) (pool_len : (p 
   ComesOn op r q w v here there from to other other_to did other_did =
       StepAlike pools devices trace (line_of op r w) (line_of op q v) here there from to other other_to did other_did ⊎ PartsAt pools devices trace from.cells (line_of op r w) (line_of op q v) here there
 
-
   -- What is known of two lines of one operation: what stood before them was alike; each line's work fits its reply; each leaves its cell with no eviction due; a cached block's key is valid; each gave up a hold for each block that its cell
   -- keeps no longer; the histories of shards behind them are legal; and of their calls the same failed.
   pub record BothObjects (op : Op) (r q : Reply) (w v : Work) (here there : List FeedDone) (from to other other_to : BetweenLines P D) (did : DoesAnyLine pools devices trace (caller_of op) (line_of op r w) here from to)

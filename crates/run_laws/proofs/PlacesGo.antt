@@ -194,12 +194,18 @@ module _ {P D : Type 0} (pools : Ghosts P) (devices : Devices D) (trace : Trace)
   GoesByNone from to = (shard : ℕ) → (es : List Event) × (to.shards shard ≡ from.shards shard ++ es) × GiveNone es
 
   own-none : (on : Option OnObject) (l : Line) (from to : BetweenLines P D) → DoesOwn pools devices trace on l from to → GoesByNone from to
-  own-none None l from to does shard =
-      (_, does.goes_on.shards shard, if-gives (is_in_shard trace.config.shards trace.blocks shard l.op) (events_of_op trace.blocks (shard_behind trace.config from.shards shard) from.kept l.op l.reply)
-      (op-gives trace.blocks (shard_behind trace.config from.shards shard) from.kept l.op l.reply))
-  own-none (Some on) l from to does shard =
-      (_, does.goes_on.shards shard, two-give _ (events_there trace.config shard does.made)
-      (there-gives trace.config.shards shard l.work.brought _ (bringing-gives (shard_behind trace.config from.shards shard) 0 on.tick _ l.work.brought)) (made-gives trace.config shard does.made does.kinds))
+  own-none None l from to does shard = (
+    _,
+    does.goes_on.shards shard,
+    if-gives (is_in_shard trace.config.shards trace.blocks shard l.op) (events_of_op trace.blocks (shard_behind trace.config from.shards shard) from.kept l.op l.reply)
+        (op-gives trace.blocks (shard_behind trace.config from.shards shard) from.kept l.op l.reply),
+  )
+  own-none (Some on) l from to does shard = (
+    _,
+    does.goes_on.shards shard,
+    two-give _ (events_there trace.config shard does.made)
+        (there-gives trace.config.shards shard l.work.brought _ (bringing-gives (shard_behind trace.config from.shards shard) 0 on.tick _ l.work.brought)) (made-gives trace.config shard does.made does.kinds),
+  )
 
   module _ (valid : IsConfig trace.config) where
     -- so each place that a key has behind was its own before

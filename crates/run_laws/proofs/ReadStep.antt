@@ -204,7 +204,6 @@ module _ {P D : Type 0} (pools : Ghosts P) (devices : Devices D) (pool_len : (p 
   Comes op r q w v here there from to other other_to did other_did =
       StepAlike pools devices trace (line_of op r w) (line_of op q v) here there from to other other_to did other_did ⊎ PartsAt pools devices trace from.cells (line_of op r w) (line_of op q v) here there
 
-
   -- a read, a hold or a drop
   pub block-step : (op : Op) → IsOnBlock op → (r q : Reply) (w v : Work) (here there : List FeedDone) (from to other other_to : BetweenLines P D) (did : DoesAnyLine pools devices trace (caller_of op) (line_of op r w) here from to)
       (other_did : DoesAnyLine pools devices trace (caller_of op) (line_of op q v) there other other_to) → IsConfig trace.config → AreLegalShards trace to.shards → AreAlike pools devices trace from other → AreAlikeSoFar (pool_answers_to (line_of op r w)) (pool_answers_to (line_of op q v))
