@@ -7,6 +7,7 @@ pipe, a few bytes at a time. Behind the rows: a larger load of four callers, a c
 pages beside a plain form of the policy; and the events of each trace that has a report are judged by `check`. It prints each row that is wrong, and how many were right. A row with a
 line that compare/undone.py names has to be refused, and is told as not done yet.
 """
+import hashlib
 import itertools
 import os
 import shutil
@@ -930,7 +931,42 @@ end 0
     return Row(shows, ['run'], 0, 'arc 1 1 16 1 4096 0 4096\n', 0, [report], device)
 
 
+# A device to which one block was fed. Whichever byte of its header is changed, a start refuses it; and so it does where the header's digest is made anew, if
+# the byte is of these, whose field has a rule of its own, or of those that are zero.
+ONE_FED = fed([bytes(512)])
+RULED = [(16, 26), (32, 34), (35, 50), (51, 57), (64, 72), (136, 145), (146, 152), (192, 256)]
+ZERO = [(72, 128), (152, 160), (256, 480)]
+# places in the log block of a device of version 1, each with bytes for which a start refuses it: the mark of its entries' kind, what is zero, how many
+# entries it has, an entry's digest, its size (twice; only an entry with a digest may be so large), and the lap
+HURT_LOG = [(24, b'\1'), (25, b'\2'), (24, b'\2'), (32, b'\1'), (17, b'\4'), (160, b'\7'), (138, b'\x10'), (136, bytes(3) + b'\1'), (8, b'\0'), (8, b'\2')]
+
+
+def flipped(image, at):
+    """The device with the lowest bit of one byte turned."""
+    return changed(image, at, bytes([image[at] ^ 1]))
+
+
+def of_log(image, at, body):
+    """The device with other bytes in its only log block, whose digest is made anew in the header."""
+    image = changed(image, 4608 + at, body)
+    digest = hashlib.sha256(image[4608:4608 + 65536]).digest()
+    return sealed(changed(image, 160, digest))
+
+
+def hurt_rows():
+    """A row for each byte of a header, and for those of a log block."""
+    for at in range(512):
+        word = 'magic' if at < 8 else 'version' if at < 16 else 'digest'
+        yield start_row(f'another byte {at} of a header', 0, f'header {word}', flipped(ONE_FED, at))
+    for first, end in RULED + ZERO:
+        for at in range(first, end):
+            yield start_row(f'another byte {at} of a header, and its digest', 0, 'header field', sealed(flipped(ONE_FED, at)))
+    for at, body in HURT_LOG:
+        yield start_row(f'a log block whose bytes from {at} on are {body}', 0, 'block field', of_log(fed([bytes(512)], version=1), at, body))
+
+
 def start_rows():
+    yield from hurt_rows()
     for found, stop, device in HURT:
         yield start_row(f'a start that stops so: {stop}', found, stop, device)
     ring = ring_of([bytes(512)] * 3)
