@@ -1508,6 +1508,36 @@ def are_many_kept(program):
     return right
 
 
+def is_batch_fed(program):
+    """One feed of 682 blocks needs two runs: a log block has 681 entries, so the last block stands behind the first log block."""
+    lines = [f'block {512 * i} 512 1 Z\n' for i in range(682)] + [f'read 0 {i + 1} {i} 0 0\n' for i in range(682)]
+    trace = 'arc 1 1 16 1 1048576 0 4096\nl2 524288 8\n' + ''.join(lines) + 'feed\n'
+    status, told, *_ = run(program, Row('a feed of two runs', ['run', '--events'], 682 * 512, trace, 0, [], bytes(1_056_768)))
+    places = {words[5]: words[-1] for words in map(str.split, told.splitlines()) if words[3:4] == ['set']}
+    right = status == 0 and '682 feed picked 682 bytes 349184 written 682 cleared 0 ok' in told.splitlines()
+    right = right and len(places) == 682 and sorted(map(int, places.values())) == [*(4096 + 512 * i for i in range(681)), 418_304]
+    if not right:
+        print(f'a feed of 682 blocks ended with {status}: {told[-600:]}')
+    return right
+
+
+def is_read_from_device(program):
+    """24 blocks, no two the same, are read and fed one by one through a cache of eight. Then the last eight are cached as used once. A block that is read back
+    counts as used more often, since its key is known. The first four push four of the eight out; then half of the cache is theirs, and each one more
+    pushes out the oldest of those read back. So the last four stay cached, and all others come from the device."""
+    bodies = [bytes([i + 1]) * 512 for i in range(24)]
+    digests = [hashlib.sha256(body).hexdigest() for body in bodies]
+    lines = [f'block {512 * i} 512 1 {digest}\n' for i, digest in enumerate(digests)] + [f'read 0 {i + 1} {i} 0 0\nfeed\n' for i in range(24)]
+    trace = 'arc 1 1 16 1 4096 0 4096\nl2 131072 8\n' + ''.join(lines) + ''.join(f'read 0 {i + 1} {i} 0 1\n' for i in range(24))
+    status, told, *_ = run(program, Row('blocks read back', ['run'], b''.join(bodies), trace, 0, [], bytes(2_097_152)))
+    replies = [line for i in range(24) for line in (f'{2 * i} ok pool {digests[i]} -', f'{2 * i + 1} feed picked 1 bytes 512 written 1 cleared 0 ok')]
+    replies += [f'{48 + i} ok {"l2" if i < 20 else "hit"} {digests[i]} {i + 1:02x}' for i in range(24)]
+    right = status == 0 and told.splitlines()[1:73] == replies
+    if not right:
+        print(f'24 blocks read back ended with {status}: {told}')
+    return right
+
+
 def is_locked_pool_read(program):
     """A pool that may not be written is read all the same. Root may write every file, so there the program is run as nobody."""
     shutil.copy(program, 'tool')
@@ -1623,7 +1653,7 @@ def main():
     with tempfile.TemporaryDirectory(prefix='arc_tool.') as work:
         os.chdir(work)
         results = [is_right(program, row) for row in (*TRACES, *DEVICES, *lines, *start_rows(), *cut_rows(), *LISTS, *LOGS, *REFUSED, *policy_rows())]
-        results += [is_load_right(program), are_many_kept(program), is_locked_pool_read(program)]
+        results += [is_load_right(program), are_many_kept(program), is_batch_fed(program), is_read_from_device(program), is_locked_pool_read(program)]
         load = Row('a load of four callers', ['run'], 8 * 131072, LOAD, 0, [])
         results += [is_log_right(program, row) for row in (*TRACES, *DEVICES, *lines, load) if row.status in (0, 1, 6, 8, None) and not is_undone(row)]
         os.chdir('/')
