@@ -12,6 +12,9 @@ import subprocess
 import sys
 import tempfile
 
+sys.dont_write_bytecode = True
+import fault_rows
+
 Z = '076a27c79e5ace2a3d47f9dd2e83e4ff6ea8872b3c2218f66c92b89b55f36560'  # of 512 zero bytes
 ARC = 'arc 1 1 16 1 4096 0 0\n'
 HEAD = f'{ARC}block 0 512 1 {Z}\n'
@@ -224,7 +227,7 @@ def told(words, found, wanted):
 
 
 def rows():
-    for table, words, command, wanted in (TRACES, [], ['run'], TRACE), (LISTS, ['--pages'], ['paper', '1'], PAGES), (LOGS, ['--log'], ['check'], LOG):
+    for table, words, command, wanted in ([*TRACES, *fault_rows.rows()], [], ['run'], TRACE), (LISTS, ['--pages'], ['paper', '1'], PAGES), (LOGS, ['--log'], ['check'], LOG):
         for name, text, found in table:
             words, status, output = told(words, found, wanted)
             yield name, words, text, status, output, [], None, command

@@ -478,6 +478,55 @@ def wrong_device_feeds(program):
     return wrong
 
 
+def wrong_dbuf_reads(program):
+    """What is wrong where the read of the pool for a dbuf fails: that line alone is refused, and the next one that asks for the block loads it."""
+    blocks = [bytes(512), b'\1' * 512]
+    zeros, ones, patched, new = (hashlib.sha256(body).hexdigest() for body in (*blocks, b'\x09' + bytes(511), b'\xab' * 512))
+    given = f'''\
+arc 1 1 16 1 4096 0 4096
+block 0 512 1 {zeros}
+block 512 512 1 {ones}
+object 0 0 0
+object 0 1 1
+get 0 1 0 1 0 2
+pin 0 2 0 0
+patch 0 3 0 0 0 09
+unpin 0 0 0
+put 0 3 7 0 512 ab
+txg 4
+get 0 5 0 1 0 2
+get 0 6 0 0 0 2
+get 0 7 7 0 0 2
+'''
+    if undone.has_undone(given):
+        print('program: dbufs whose read fails are not done yet')
+        return []
+
+    def load(offset, digest, t):
+        return [f'miss 0 {offset} 512 1 {t}', f'arrive 0 {offset} 512 1 {digest} pool', f'hand 0 {offset} 512 1 2']
+
+    def fail(offset, t):
+        return [f'miss 0 {offset} 512 1 {t}', f'fail 0 {offset} 512 1 pool']
+
+    told = ['got 512 0101', 'done', 'done', 'done', 'done', 'txg 1 blocks 2 bytes 1024', 'got 512 0101', 'got 512 0900', 'got 512 abab']
+    written = ['release 2 0 512 1 sole', f'insert 2 1024 512 1 {patched} 4', f'insert 2 1536 512 1 {new} 4']
+    dropped = [f'drop 2 {offset} 512 1' for offset in (1024, 512, 1536)]
+    table = [
+        ({0: 'refused pool'}, fail(512, 1) + load(0, zeros, 2) + written + load(512, ones, 5) + dropped),
+        ({1: 'refused pool', 3: 'refused pin 0 0'}, load(512, ones, 1) + fail(0, 2) + load(0, zeros, 3) + written + dropped),
+    ]
+    wrong = []
+    for k, (refused, events) in enumerate(table):
+        with open('blocks', 'wb') as out:
+            out.write(b''.join(blocks) + bytes(1024))
+        ours = ended_where(program, 'read', k + 1, ['blocks', '-', 'run', '--events'], given)
+        lines = ['arc 1', *(f'{i} {refused.get(i, words)}' for i, words in enumerate(told)), *(f'e 0 {i} {words}' for i, words in enumerate(events)),
+                 EMPTY[1].replace('mru 0', 'mru 1536'), 'count hit 0 miss 3 past 0 pool 3 l2 0 pass 0 set 0', 'end 1']
+        if ours != (1, lines, 1):
+            wrong.append(f'dbufs: where read {k} of the pool fails the run ended with {ours}, not with {lines}')
+    return wrong
+
+
 def wrong_sync_writes(program):
     """What is wrong where one write of a sync fails, each in turn, for one caller and for two: the run stops before the sync's line, with the blocks before written."""
     wrong = []
@@ -529,7 +578,8 @@ def main():
         others = changed_files(contents)
         if has_strace():
             others += wrong_opens(program) + wrong_reads(program) + wrong_refusals(program)
-            others += wrong_pool_calls(program) + wrong_device_reads(program) + wrong_device_feeds(program) + wrong_sync_writes(program)
+            others += wrong_pool_calls(program) + wrong_device_reads(program) + wrong_device_feeds(program) + wrong_dbuf_reads(program)
+            others += wrong_sync_writes(program)
         else:
             print('program: there is no strace, so how the pool is opened and read, and where memory is refused, was not looked at')
         os.chdir('/')

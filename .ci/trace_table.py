@@ -7,6 +7,7 @@ pipe, a few bytes at a time. Behind the rows: a larger load of four callers, a c
 pages beside a plain form of the policy; and the events of each trace that has a report are judged by `check`. It prints each row that is wrong, and how many were right. A row with a
 line that compare/undone.py names has to be refused, and is told as not done yet.
 """
+import hashlib
 import itertools
 import os
 import shutil
@@ -930,7 +931,42 @@ end 0
     return Row(shows, ['run'], 0, 'arc 1 1 16 1 4096 0 4096\n', 0, [report], device)
 
 
+# A device to which one block was fed. Whichever byte of its header is changed, a start refuses it; and so it does where the header's digest is made anew, if
+# the byte is of these, whose field has a rule of its own, or of those that are zero.
+ONE_FED = fed([bytes(512)])
+RULED = [(16, 26), (32, 34), (35, 50), (51, 57), (64, 72), (136, 145), (146, 152), (192, 256)]
+ZERO = [(72, 128), (152, 160), (256, 480)]
+# places in the log block of a device of version 1, each with bytes for which a start refuses it: the mark of its entries' kind, what is zero, how many
+# entries it has, an entry's digest, its size (twice; only an entry with a digest may be so large), and the lap
+HURT_LOG = [(24, b'\1'), (25, b'\2'), (24, b'\2'), (32, b'\1'), (17, b'\4'), (160, b'\7'), (138, b'\x10'), (136, bytes(3) + b'\1'), (8, b'\0'), (8, b'\2')]
+
+
+def flipped(image, at):
+    """The device with the lowest bit of one byte turned."""
+    return changed(image, at, bytes([image[at] ^ 1]))
+
+
+def of_log(image, at, body):
+    """The device with other bytes in its only log block, whose digest is made anew in the header."""
+    image = changed(image, 4608 + at, body)
+    digest = hashlib.sha256(image[4608:4608 + 65536]).digest()
+    return sealed(changed(image, 160, digest))
+
+
+def hurt_rows():
+    """A row for each byte of a header, and for those of a log block."""
+    for at in range(512):
+        word = 'magic' if at < 8 else 'version' if at < 16 else 'digest'
+        yield start_row(f'another byte {at} of a header', 0, f'header {word}', flipped(ONE_FED, at))
+    for first, end in RULED + ZERO:
+        for at in range(first, end):
+            yield start_row(f'another byte {at} of a header, and its digest', 0, 'header field', sealed(flipped(ONE_FED, at)))
+    for at, body in HURT_LOG:
+        yield start_row(f'a log block whose bytes from {at} on are {body}', 0, 'block field', of_log(fed([bytes(512)], version=1), at, body))
+
+
 def start_rows():
+    yield from hurt_rows()
     for found, stop, device in HURT:
         yield start_row(f'a start that stops so: {stop}', found, stop, device)
     ring = ring_of([bytes(512)] * 3)
@@ -1472,6 +1508,36 @@ def are_many_kept(program):
     return right
 
 
+def is_batch_fed(program):
+    """One feed of 682 blocks needs two runs: a log block has 681 entries, so the last block stands behind the first log block."""
+    lines = [f'block {512 * i} 512 1 Z\n' for i in range(682)] + [f'read 0 {i + 1} {i} 0 0\n' for i in range(682)]
+    trace = 'arc 1 1 16 1 1048576 0 4096\nl2 524288 8\n' + ''.join(lines) + 'feed\n'
+    status, told, *_ = run(program, Row('a feed of two runs', ['run', '--events'], 682 * 512, trace, 0, [], bytes(1_056_768)))
+    places = {words[5]: words[-1] for words in map(str.split, told.splitlines()) if words[3:4] == ['set']}
+    right = status == 0 and '682 feed picked 682 bytes 349184 written 682 cleared 0 ok' in told.splitlines()
+    right = right and len(places) == 682 and sorted(map(int, places.values())) == [*(4096 + 512 * i for i in range(681)), 418_304]
+    if not right:
+        print(f'a feed of 682 blocks ended with {status}: {told[-600:]}')
+    return right
+
+
+def is_read_from_device(program):
+    """24 blocks, no two the same, are read and fed one by one through a cache of eight. Then the last eight are cached as used once. A block that is read back
+    counts as used more often, since its key is known. The first four push four of the eight out; then half of the cache is theirs, and each one more
+    pushes out the oldest of those read back. So the last four stay cached, and all others come from the device."""
+    bodies = [bytes([i + 1]) * 512 for i in range(24)]
+    digests = [hashlib.sha256(body).hexdigest() for body in bodies]
+    lines = [f'block {512 * i} 512 1 {digest}\n' for i, digest in enumerate(digests)] + [f'read 0 {i + 1} {i} 0 0\nfeed\n' for i in range(24)]
+    trace = 'arc 1 1 16 1 4096 0 4096\nl2 131072 8\n' + ''.join(lines) + ''.join(f'read 0 {i + 1} {i} 0 1\n' for i in range(24))
+    status, told, *_ = run(program, Row('blocks read back', ['run'], b''.join(bodies), trace, 0, [], bytes(2_097_152)))
+    replies = [line for i in range(24) for line in (f'{2 * i} ok pool {digests[i]} -', f'{2 * i + 1} feed picked 1 bytes 512 written 1 cleared 0 ok')]
+    replies += [f'{48 + i} ok {"l2" if i < 20 else "hit"} {digests[i]} {i + 1:02x}' for i in range(24)]
+    right = status == 0 and told.splitlines()[1:73] == replies
+    if not right:
+        print(f'24 blocks read back ended with {status}: {told}')
+    return right
+
+
 def is_locked_pool_read(program):
     """A pool that may not be written is read all the same. Root may write every file, so there the program is run as nobody."""
     shutil.copy(program, 'tool')
@@ -1587,7 +1653,7 @@ def main():
     with tempfile.TemporaryDirectory(prefix='arc_tool.') as work:
         os.chdir(work)
         results = [is_right(program, row) for row in (*TRACES, *DEVICES, *lines, *start_rows(), *cut_rows(), *LISTS, *LOGS, *REFUSED, *policy_rows())]
-        results += [is_load_right(program), are_many_kept(program), is_locked_pool_read(program)]
+        results += [is_load_right(program), are_many_kept(program), is_batch_fed(program), is_read_from_device(program), is_locked_pool_read(program)]
         load = Row('a load of four callers', ['run'], 8 * 131072, LOAD, 0, [])
         results += [is_log_right(program, row) for row in (*TRACES, *DEVICES, *lines, load) if row.status in (0, 1, 6, 8, None) and not is_undone(row)]
         os.chdir('/')

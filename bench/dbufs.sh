@@ -2,7 +2,8 @@
 # Proves, builds and runs a million gets of 100,000 blocks over dbufs, and a sync of 10,000 dirty blocks, in a copy of the repository. Beside them run plain
 # maps with an LRU list each, one a cell, behind a lock each, and a plain loop that hashes and writes. Gets are of 1, 2 or 4 callers, over one cell or
 # sixteen, which keep all blocks or a fourth of them; each block's first get loads it. All run in turn, ROUNDS times (default 5). A row has the
-# median nanoseconds a get or a block of both, and the median of the ratios. It needs rustc and python3.
+# median nanoseconds a get or a block of both, and the median of the ratios. It needs rustc and python3. With the word `soak` four callers do drawn
+# calls instead, on one cell and on sixteen, and each answer is compared with a plain map's.
 set -eu
 here=$(cd "$(dirname "$0")" && pwd)
 copy=$(mktemp -d)
@@ -16,8 +17,15 @@ done
 cp "$here/../HANDLES" "$copy/"
 mkdir "$copy/crates/dbufs_bench"
 cp -r "$here/dbufs/src" "$here/dbufs/proofs" "$copy/crates/dbufs_bench/"
-find "$copy/crates/dbufs_bench" -name '*.in' -exec sh -c 'mv "$1" "${1%.in}"' _ {} \;
-printf 'dbufs_bench: arc_core arc_examples arc_table blk_ptr dbuf_cells dbuf_examples dbuf_state turn_table txg_sync vdev_io\n' >> "$copy/crates.txt"
+cp -r "$here/dbufs/crowd" "$copy/crates/dbuf_crowd"
+find "$copy/crates/dbufs_bench" "$copy/crates/dbuf_crowd" -name '*.in' -exec sh -c 'mv "$1" "${1%.in}"' _ {} \;
+printf 'dbuf_crowd: arc_core arc_examples arc_table blk_ptr dbuf_cells dbuf_examples dbuf_state turn_table vdev_io\n' >> "$copy/crates.txt"
+printf 'dbufs_bench: arc_core arc_examples arc_table blk_ptr dbuf_cells dbuf_crowd dbuf_examples dbuf_state turn_table txg_sync vdev_io\n' >> "$copy/crates.txt"
+if [ "${1:-}" = soak ]; then
+    cd "$copy/crates/dbufs_bench"
+    rt run -- soak
+    exit
+fi
 mkdir "$copy/baseline"
 cp "$here/dbufs/plain.rs" "$here/../compare/sha256.rs" "$copy/baseline/"
 rustc --edition 2024 -O -A warnings -o "$copy/plain" "$copy/baseline/plain.rs"

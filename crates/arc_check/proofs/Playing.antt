@@ -1,5 +1,5 @@
 -- Histories that are played again, event by event.
-use Rattle.std.proofs.Common.{◌≡◌, ℕ, zero, suc, ◌+◌, ◌≤◌, Bool, true, false, if◌then◌else◌, List, [], ◌∷◌, ◌++◌, map, drop, take, Some, sym, ap, subst, ◌∙◌, arith}
+use Rattle.std.proofs.Common.{◌≡◌, ℕ, zero, suc, ◌+◌, ◌≤◌, Bool, true, false, IsTrue, if◌then◌else◌, List, [], ◌∷◌, ◌++◌, map, drop, take, Some, refl, sym, ap, subst, ◌∙◌, arith}
 use Rattle.std.specs.Prelude.{slice_get}
 use Rattle.std.specs.List.{AllByRecursion}
 use Rattle.std.proofs.lemmas.List.{append-nil, map-append, take-append-drop}
@@ -65,6 +65,19 @@ room-for-any e log events entries = record {
   events = let most = room-most e in omega (arith, most, events);
   entries = let most = entries-most log.now e in omega (arith, most, entries);
 }
+
+-- an event that is not told as one that may come may not
+pub told-no : (told may : Bool) → (IsTrue may → IsTrue told) → told ≡ false → may ≡ false
+told-no told false is not = refl
+told-no told true is not = sym (is refl) ∙ not
+
+-- more room changes nothing of which event may come, and what it does
+module _ (e : Event) (old roomy : PlainShard) (same : roomy ≡ old) where
+  pub still-legal : IsTrue (legal old e) → IsTrue (legal roomy e)
+  still-legal may = subst (λ (s : PlainShard). IsTrue (legal s e)) (sym same) may
+
+  pub made-there : (new : PlainShard) → IsTrue (legal old e) → new ≡ after roomy e → IsTried e old new true
+  made-there new may makes = (may, makes ∙ ap (λ (s : PlainShard). after s e) same)
 
 -- one event more
 take-more : (es : List Event) (i : ℕ) (e : Event) → slice_get es i ≡ Some e → take (i + 1) es ≡ take i es ++ e ∷ []

@@ -3,7 +3,7 @@ use arc_core::Config;
 use trace_text::{Histories, Kind};
 
 /// What a log of events says.
-#[derive(Debug, Drop)]
+#[derive(Drop)]
 pub struct Log {
     /// The sizes of the cache, with the bounds of a feed.
     pub config: Config,

@@ -2,7 +2,7 @@
 use trace_text::Ends;
 
 /// Whether the histories of a log are legal.
-#[derive(Debug, Drop)]
+#[derive(Drop)]
 pub enum Verdict {
     /// Each history is legal from the opening of the configuration; `ends` is what the shards end with, in the order of their numbers.
     Legal { ends: Ends },

@@ -8,7 +8,7 @@ use std::alloc::{AllocError, AllocFailed};
 use trace_text::Kind;
 
 /// The names of the events.
-#[derive(Clone, Copy, Debug, PartialEq, Eq)]
+#[derive(Clone, Copy)]
 pub(crate) enum Name {
     Pass,
     Hit,
@@ -51,7 +51,7 @@ pub(crate) enum Line {
 }
 
 /// Why a line is not added to what the lines before it say.
-#[derive(Clone, Copy, Debug, PartialEq, Eq)]
+#[derive(Clone, Copy)]
 pub(crate) enum LineFault {
     /// What is wrong with the line.
     Wrong(Kind),

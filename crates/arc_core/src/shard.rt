@@ -84,6 +84,7 @@ fn append(history: &mut History, event: Event)
 }
 
 // Who holds an entry that is being read, and how many holds there are.
+#[inline(always)]
 fn view_of(entry: &Entry) -> EntryView
     ensures { result ≡ view_of entry.now }
 {
@@ -293,11 +294,15 @@ impl Shard {
         &self.history
     }
 
-    /// What is known of a key.
+    /// What is known of a key. It is part of the code that calls it, so a caller that asks for a part reads no more of the entry.
+    #[inline(always)]
     pub fn entry(&self, key: Key) -> Option<EntryView>
         ensures { result ≡ option_map view_of (entry_of key self.now.now) }
     {
-        self.table.find(key).map(view_of)
+        match self.table.find(key) {
+            Some(entry) => Some(view_of(entry)),
+            None => None,
+        }
     }
 
     /// The size of a state in bytes, held entries included.

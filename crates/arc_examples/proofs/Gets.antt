@@ -18,7 +18,6 @@ use Rattle.arc_table.specs.Both.{Does}
 use Rattle.arc_table.specs.Cache.{Cache}
 use Rattle.arc_table.specs.Fronts.{front_of}
 use Rattle.arc_table.specs.Geometry.{shard_turn}
-use Rattle.arc_table.specs.Handing.{Releases}
 use Rattle.arc_table.specs.Holding.{IsHeld, IsHoldOf}
 use Rattle.arc_table.specs.Items.{Meanings}
 use Rattle.arc_table.specs.Reading.{AnswersRead, Outside}
@@ -26,7 +25,7 @@ use Rattle.arc_table.specs.Trying.{FindsBusy}
 use Rattle.arc_table.proofs.reads.AfterRead.{read_stays}
 use Rattle.arc_table.proofs.Afterwards.{Stays, does_seen, does_stays}
 use Rattle.arc_examples.specs.Ready.{Gets, HasGivenBack, HasGot, IsAsBefore, IsReady, IsReadyAs}
-use Rattle.arc_examples.proofs.Holds.{drop-holds, gained-back, hit-gains, none-holds, own-hold, release-holds}
+use Rattle.arc_examples.proofs.Holds.{drop-holds, gained-back, hit-gains, none-holds, own-hold}
 use Rattle.arc_examples.proofs.ReadHolds.{ReadLists, read-lists}
 use Rattle.arc_examples.proofs.Ready.{before-stays, ready-stays}
 use Rattle.arc_examples.proofs.Tries.{busy-ledger, busy-stays}
@@ -52,14 +51,6 @@ module _ {C : Type 0} (m : Meanings C) (cache : Cache) (h : Hold) (p q : Place (
         ((own-hold cache.config p h ready.free held).0 ∙ sym dropped-ready.number)
         (does_seen m cache.config ready.valid h.key (Drop h.owner h.key ∷ []) p q d);
   }
-
--- a hold is given up for a copy
-module _ {C : Type 0} (m : Meanings C) (cache : Cache) (h : Hold) (p q : Place (Known C)) (ready : IsReady cache p) (d : Releases m cache.config h p q) where
-  pub released-ready : IsReadyAs cache p q
-  released-ready = ready-stays cache p q ready (does_stays m cache.config ready.valid h.key _ p q ready.of.config d.1)
-
-  pub released-holds : IsHeld cache.config p h → q.own.ledger.holds ≡ without_hold h.key p.own.ledger.holds
-  released-holds held = release-holds m cache.config ready.valid h d.0 p q ready.of.config (own-hold cache.config p h ready.free held).0 d.1
 
 module _ {C : Type 0} (cache : Cache) (k : Key) where
   -- it is given back under the key that it was got on

@@ -10,7 +10,7 @@ use Rattle.arc_core.specs.Config.{IsConfig}
 use Rattle.arc_core.specs.declared.config.Config.{Config}
 use Rattle.arc_core.specs.declared.entry.Entry.{Entry}
 use Rattle.arc_core.specs.declared.event.Event.{Event}
-use Rattle.arc_core.specs.declared.event.Event.TheVariants.{Arrive, Drop, Hit, Miss, Pass, Release}
+use Rattle.arc_core.specs.declared.event.Event.TheVariants.{Arrive, Drop, Hit, Miss, Pass}
 use Rattle.arc_core.specs.declared.event.Origin.{Origin}
 use Rattle.arc_core.specs.PlainShard.{PlainShard, entry_of}
 use Rattle.arc_core.specs.Step.{after}
@@ -64,9 +64,6 @@ module _ {C : Type 0} (m : Meanings C) (g : Config) (valid : IsConfig g) where
 
   pub drop-holds : (h : Hold) (p q : Place (Known C)) → p.own.about.config ≡ g → h.owner ≡ p.number → Does m g h.key (Drop h.owner h.key ∷ []) p q → q.own.ledger.holds ≡ without_hold h.key p.own.ledger.holds
   drop-holds h p q config owner d = ap (λ (l : Ledger). l.holds) (does_ledger m g valid h.key (Drop h.owner h.key ∷ []) p q config d) ∙ rw (eq-eqb p.number h.owner (sym owner)) refl
-
-  pub release-holds : (h : Hold) (sole : Bool) (p q : Place (Known C)) → p.own.about.config ≡ g → h.owner ≡ p.number → Does m g h.key (Release h.owner h.key sole ∷ []) p q → q.own.ledger.holds ≡ without_hold h.key p.own.ledger.holds
-  release-holds h sole p q config owner d = ap (λ (l : Ledger). l.holds) (does_ledger m g valid h.key (Release h.owner h.key sole ∷ []) p q config d) ∙ rw (eq-eqb p.number h.owner (sym owner)) refl
 
   pub miss-holds : (k : Key) (t : ℕ) (p r : Place (Known C)) → p.own.about.config ≡ g → DoesRoomy m g k (Miss p.number k t) p r → r.own.ledger.holds ≡ p.own.ledger.holds
   miss-holds k t p r config d =

@@ -118,28 +118,6 @@ pub fn read_and_try<R: Wait>(
     true
 }
 
-/// Reads a block and gives it up for a private copy of its bytes. None where the read is refused, or memory for the copy.
-pub fn read_and_release<R: Wait>(
-    rt: &R,
-    arcs: &Arcs<Plain>,
-    party: &mut Party<Plain>,
-    pool: &mut MemPool,
-    ptr: &Ptr,
-    tick: u64,
-) -> Option<Vec<u8>>
-    requires { IsReady arcs.now party.old }
-    ensures { IsAsBefore arcs.now party.old party.new }
-{
-    let hold = get(rt, arcs, party, pool, ptr, tick)?;
-    match arcs.release(rt, party, hold) {
-        Ok(bytes) => Some(bytes),
-        Err(hold) => {
-            give_back(rt, arcs, party, hold);
-            None
-        }
-    }
-}
-
 /// Asks for a block, and gives it back where it is there. False where it is not, or another party has its bucket or its shard.
 pub fn try_one<R: Wait>(
     rt: &R,

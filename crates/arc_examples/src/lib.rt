@@ -7,7 +7,7 @@ mod plain;
 mod scene;
 mod soak;
 
-pub use calls::{look_at, read_and_release, read_and_try, read_one, try_one, who_has};
+pub use calls::{look_at, read_and_try, read_one, try_one, who_has};
 pub use plain::{Caller, Plain, SIZE, config_of, draw, ptr_of};
 pub use scene::{Pair, Scene, close_all, opened, opened_pair};
 pub use soak::{Soaked, all_replay, run_soak};

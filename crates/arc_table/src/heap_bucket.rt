@@ -71,6 +71,7 @@ impl HeapBucket {
     }
 
     // Takes the header at `i` out. The last one takes its place.
+    #[inline(always)]
     pub(crate) fn remove(&mut self, i: usize) -> Header
         requires { i < length self.old.headers }
         ensures value { slice_get self.old.headers i ≡ Some result }
@@ -111,6 +112,15 @@ impl HeapBucket {
         ensures map { (h : Header) → slice_get self.old.headers i ≡ Some h → IsWith h.key (Some (given owner near h)) self.old.headers self.new.headers }
     {
         self.bucket.give_block(i, owner, near);
+    }
+
+    // The header at `i` keeps no bytes and says this state from now on.
+    pub(crate) fn evict(&mut self, i: usize, state: State)
+        requires { i < length self.old.headers }
+        ensures headers { (h : Header) → slice_get self.old.headers i ≡ Some h → self.new ≡ record self.old { headers = slice_set self.old.headers i (record h { state = state; block = None }) } }
+        ensures map { (h : Header) → slice_get self.old.headers i ≡ Some h → IsWith h.key (Some (record h { state = state; block = None })) self.old.headers self.new.headers }
+    {
+        self.bucket.evict(i, state);
     }
 
     // The header at `i` says this state and this place from now on.

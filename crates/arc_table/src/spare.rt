@@ -16,7 +16,6 @@ use crate::in_hand::{Hand, Taken};
 use crate::looking::bucket_turn_of;
 use arc_core::{Config, EntryView, Shard};
 use blk_ptr::{Key, State};
-use hash_chain::Header;
 
 // Whether a state's bytes are cached.
 pub(crate) fn is_cached(state: State) -> bool
@@ -28,21 +27,8 @@ pub(crate) fn is_cached(state: State) -> bool
     }
 }
 
-// The header of a ghost: it keeps no bytes.
-fn ghost_of(header: &Header, state: State) -> Header
-    ensures { result ≡ record header.now { state = state; block = None } }
-{
-    Header {
-        key: header.key,
-        state,
-        reading: header.reading,
-        place: header.place,
-        digest: header.digest,
-        block: None,
-    }
-}
-
 // The header of a key says what the key's entry does, which is seen so.
+#[inline(always)]
 pub(crate) fn spare(bucket: &mut HeapBucket, key: Key, entry: Option<EntryView>)
     ensures { IsWith key (spared_header entry (header_at key bucket.old.headers)) bucket.old.headers bucket.new.headers }
 {
@@ -52,10 +38,7 @@ pub(crate) fn spare(bucket: &mut HeapBucket, key: Key, entry: Option<EntryView>)
             bucket.remove(at);
         }
         Some(view) if is_cached(view.state) => {}
-        Some(view) => {
-            let header = ghost_of(bucket.at(at), view.state);
-            bucket.change(at, header);
-        }
+        Some(view) => bucket.evict(at, view.state),
     }
 }
 
@@ -67,6 +50,7 @@ pub(crate) fn place_of(buckets: &[Taken], turn: u32) -> Option<usize>
 }
 
 // The same in the bucket of this turn, where it is in hand.
+#[inline(always)]
 fn spare_in(hand: &mut Hand, turn: u32, key: Key, entry: Option<EntryView>)
     ensures before { hand.new.before ≡ hand.old.before }
     ensures spared { (b : Chain) → item_at turn (buckets_of hand.old) ≡ Some b → (new : Chain) × IsWith key (spared_header entry (header_at key b.headers)) b.headers new.headers × (buckets_of hand.new ≡ with_bucket turn new (buckets_of hand.old)) }

@@ -1,4 +1,4 @@
-//! Tests of turns and of the shared cache: rules over turns, buckets of headers, and callers of the cache that meet. There is no
+//! Tests of turns and of the shared cache: rules over turns, the owners of a block, and callers of the cache that meet. There is no
 //! code here but tests, and what they share.
 #![tactic(auto)]
 

@@ -4,7 +4,6 @@ ghost use Rattle.arc_examples.specs.Ready.{IsNew, IsReady};
 
 mod joins;
 mod looks;
-mod picks;
 
 use arc_core::{Bounds, Config};
 use arc_examples::{Pair, SIZE, opened_pair, run_soak};

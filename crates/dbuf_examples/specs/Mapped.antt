@@ -1,5 +1,5 @@
 -- Cells that only map blocks, so that they may move into a cache.
-use Rattle.std.specs.Prelude.{◌≡◌, ℕ, List, [], ◌∷◌, map}
+use Rattle.std.specs.Prelude.{◌≡◌, ℕ, [], map}
 use Rattle.arc_table.specs.Cache.{Cache}
 use Rattle.arc_examples.specs.Ready.{IsReady}
 use Rattle.dbuf_state.specs.CellLog.{CellLog, fresh}
@@ -17,14 +17,3 @@ pub record IsMapped (c : CellLog Kept) : Type 0 where
 pub record IsOne (cache : Cache) (n : ℕ) (p : PartyPlace) : Type 0 where
   pub ready : IsReady cache p
   pub number : p.number ≡ n
-
--- these are the parties of a cache of four callers, by their numbers
-pub record AreCrowd (cache : Cache) (ps : List PartyPlace) : Type 0 where
-  pub callers : cache.config.callers ≡ 4
-  pub one : PartyPlace
-  pub two : PartyPlace
-  pub three : PartyPlace
-  pub four : PartyPlace
-  pub feeder : PartyPlace
-  pub all : ps ≡ one ∷ two ∷ three ∷ four ∷ feeder ∷ []
-  pub are : IsOne cache 0 one × IsOne cache 1 two × IsOne cache 2 three × IsOne cache 3 four × IsOne cache 4 feeder

@@ -1,20 +1,25 @@
-//! A row of every call in which some call of the pool may fail, whose events and end are compared.
+//! A row of every call, in which some call of the pool may fail, and the end of all cells.
 ghost use Rattle.std.specs.Prelude.{◌≡◌};
 ghost use Rattle.dbuf_examples.specs.Mapped.{IsOne};
 
-use crate::rows::{NEW, patches, try_sync};
 use crate::scene::{end, oid_of};
 use arc_table::{Closed, Party};
 use blk_ptr::NoMemory;
-use dbuf_cells::{Cells, HeapCell, end_cells, get, hold, put, unhold};
-use dbuf_state::{DbufFault, Oid, Window};
+use dbuf_cells::{Cells, HeapCell, end_cells, get, hold, patch, put, unhold};
+use dbuf_state::{DbufFault, Oid, Shown, Window};
 use std::alloc::Global;
 use std::sync::Wait;
-use txg_sync::{SyncFault, Synced};
-use vdev_io::{MemPool, NoCache};
+use txg_sync::{SyncFault, Synced, sync};
+use vdev_io::{MemPool, NoCache, Pool};
+
+/// A block that no cell maps from the start.
+pub const NEW: Oid = Oid {
+    object: 7,
+    block: 0,
+};
 
 /// What the calls of `every_call` answered.
-#[derive(Clone, Copy, Debug, PartialEq, Eq)]
+#[derive(Clone, Copy)]
 pub struct Answered {
     /// What the gets of two bytes showed: of the second block before all others, and then, behind the sync, of it, of the first block and of the new
     /// one.
@@ -27,11 +32,10 @@ pub struct Answered {
 
 // The first two of these bytes.
 fn first_two(bytes: &[u8]) -> [u8; 2] {
-    let mut two = [0u8; 2];
-    for (to, byte) in two.iter_mut().zip(bytes) {
-        *to = *byte;
+    match bytes {
+        [first, second, ..] => [*first, *second],
+        _ => [0; 2],
     }
-    two
 }
 
 // A get of the first two bytes.
@@ -51,6 +55,60 @@ fn try_get<R: Wait>(
         Ok((_, shown)) => Ok(first_two(shown.bytes())),
         Err(fault) => Err(fault),
     }
+}
+
+// A patch of at most 64 bytes.
+fn patches<R: Wait>(
+    alloc: Global,
+    arcs: &Cells,
+    rt: &R,
+    one: &mut Party<HeapCell>,
+    at: Oid,
+    from: u32,
+    bytes: &[u8],
+    tick: u64,
+    pool: &mut MemPool,
+) -> Result<(), DbufFault>
+    requires { IsOne arcs.now 0 one.old }
+    ensures { IsOne arcs.now 0 one.new }
+{
+    if bytes.len() > 64 {
+        return Ok(());
+    }
+    let bytes = Shown::of(bytes);
+    patch(
+        alloc,
+        arcs,
+        rt,
+        one,
+        at,
+        from,
+        &bytes,
+        tick,
+        pool,
+        &mut NoCache::new(),
+    )
+}
+
+// A sync into a pool of at most 2^40 bytes.
+fn try_sync<R: Wait>(
+    alloc: Global,
+    arcs: &Cells,
+    rt: &R,
+    feeder: &mut Party<HeapCell>,
+    tick: u64,
+    pool: &mut MemPool,
+    next: u64,
+) -> Result<Synced, SyncFault>
+    requires one { IsOne arcs.now 1 feeder.old }
+    requires callers { arcs.now.config.callers ≡ 1 }
+    ensures { IsOne arcs.now 1 feeder.new }
+{
+    let len = pool.len();
+    if len > 1_099_511_627_776 || next > len || next % 512 != 0 {
+        return Err(SyncFault::NoMemory);
+    }
+    sync(alloc, arcs, rt, feeder, 1, tick, pool, next)
 }
 
 /// Every call of a cell and a sync from the third block's place on, over a pool of two blocks with room for two more.

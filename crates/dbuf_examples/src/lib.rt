@@ -1,15 +1,8 @@
-//! The calls on dbufs put together: a cache over cells whose blocks are mapped, rows of calls on it, and a soak of four callers whose answers are
-//! checked against a plain map.
+//! The calls on dbufs put together: a cache over cells whose blocks are mapped, and a row of every call on it.
 #![tactic(auto)]
 
 mod ends;
-mod plain_map;
-mod rows;
 mod scene;
-mod soak;
 
-pub use ends::{Answered, end_all, every_call};
-pub use plain_map::Answer;
-pub use rows::{NEW, all_calls, written_in_two};
-pub use scene::{Crowd, SIZE, Scene, Worker, end, oid_of, opened, opened_crowd, ptr_of};
-pub use soak::run_soak;
+pub use ends::{Answered, NEW, end_all, every_call};
+pub use scene::{Scene, byte_of, image_of, last_of, made, oid_of, opened, ptr_of};

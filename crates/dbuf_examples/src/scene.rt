@@ -3,19 +3,18 @@ ghost use Rattle.std.specs.Prelude.{◌≡◌, ◌+◌, length, IfOk, OnOk};
 ghost use Rattle.std.specs.List.{AllByRecursion};
 ghost use Rattle.arc_core.specs.Config.{IsConfig};
 ghost use Rattle.arc_examples.specs.Ready.{AreNew};
-ghost use Rattle.dbuf_examples.specs.Mapped.{AreCrowd, IsMapped, IsOne};
+ghost use Rattle.dbuf_examples.specs.Mapped.{IsMapped, IsOne};
 
-use crate::plain_map::Answer;
 use arc_core::Config;
 use arc_table::{Arcs, Closed, Party};
 use blk_ptr::{Key, NoMemory, Ptr, digest_of};
 use dbuf_cells::{Cells, HeapCell, Kept};
 use dbuf_state::{Cell, Oid};
 use std::alloc::Global;
-use vdev_io::{MemPool, Pool};
+use vdev_io::MemPool;
 
 /// The bytes of a block.
-pub const SIZE: u64 = 512;
+const SIZE: u64 = 512;
 
 /// A cache of one caller, the caller, the feeder, and the pool.
 #[derive(Drop)]
@@ -30,39 +29,13 @@ pub struct Scene {
     pub pool: MemPool,
 }
 
-/// What a caller works with, how its draws begin, and what its gets answered.
-#[derive(Drop)]
-pub struct Worker {
-    /// Its party.
-    pub party: Party<HeapCell>,
-    /// Its fork of the pool.
-    pub pool: MemPool,
-    /// What its draws begin with.
-    pub seed: u64,
-    /// What its gets answered, in their order.
-    pub answers: Vec<Answer>,
-}
-
-/// A cache of four callers, the feeder, and the callers.
-#[derive(Drop)]
-pub struct Crowd {
-    /// The cache.
-    pub arcs: Cells,
-    /// The feeder.
-    pub feeder: Party<HeapCell>,
-    /// Callers 0 and 1.
-    pub low: (Worker, Worker),
-    /// Callers 2 and 3.
-    pub high: (Worker, Worker),
-}
-
 /// The block of this number, of the one object.
 pub fn oid_of(block: u64) -> Oid {
     Oid { object: 0, block }
 }
 
 /// Each byte of the block of this number.
-pub(crate) fn byte_of(block: u64) -> u8 {
+pub fn byte_of(block: u64) -> u8 {
     (block % 251) as u8
 }
 
@@ -136,8 +109,8 @@ fn cells_of(alloc: Global, config: &Config, blocks: u64) -> Result<Vec<HeapCell>
     Ok(cells)
 }
 
-// The bytes of so many blocks, and zeros behind them, so many bytes in all.
-fn image_of(alloc: Global, blocks: u64, len: usize) -> Result<Vec<u8>, NoMemory> {
+/// The bytes of so many blocks, and zeros behind them, so many bytes in all.
+pub fn image_of(alloc: Global, blocks: u64, len: usize) -> Result<Vec<u8>, NoMemory> {
     let mut bytes = Vec::new(alloc);
     for block in 0..blocks {
         bytes.extend_from_slice(&[byte_of(block); 512])?;
@@ -174,8 +147,8 @@ pub fn opened(
     })
 }
 
-// A new cache with these blocks, its parties by their numbers, and a pool of these bytes.
-fn made(
+/// A new cache with these blocks, its parties by their numbers, and a pool of these bytes; the calls of these numbers fail on it.
+pub fn made(
     alloc: Global,
     config: &Config,
     blocks: u64,
@@ -193,8 +166,11 @@ fn made(
     Ok((arcs, parties, pool))
 }
 
-// Of these parties, which stand by their numbers, the last.
-fn last_of(arcs: &Cells, parties: &mut Vec<Party<HeapCell>>) -> Result<Party<HeapCell>, NoMemory>
+/// Of these parties, which stand by their numbers, the last.
+pub fn last_of(
+    arcs: &Cells,
+    parties: &mut Vec<Party<HeapCell>>,
+) -> Result<Party<HeapCell>, NoMemory>
     requires { AreNew arcs.now 0 parties.old.items }
     ensures one { IfOk result (λ p. IsOne arcs.now (length parties.new.items) p) }
     ensures rest { OnOk result (AreNew arcs.now 0 parties.new.items) }
@@ -208,7 +184,7 @@ fn last_of(arcs: &Cells, parties: &mut Vec<Party<HeapCell>>) -> Result<Party<Hea
 }
 
 /// The shards and the cells of such a cache at its end.
-pub fn end(
+pub(crate) fn end(
     alloc: Global,
     arcs: Cells,
     one: Party<HeapCell>,
@@ -219,69 +195,5 @@ pub fn end(
     requires feeder { IsOne arcs 1 feeder }
 {
     let parties = vec![in alloc; one, feeder]?;
-    arcs.close(parties)
-}
-
-// The last of these parties, with a fork of the pool.
-fn worker_of(
-    alloc: Global,
-    arcs: &Cells,
-    parties: &mut Vec<Party<HeapCell>>,
-    pool: &mut MemPool,
-    seed: u64,
-) -> Result<Worker, NoMemory>
-    requires { AreNew arcs.now 0 parties.old.items }
-    ensures one { IfOk result (λ w. IsOne arcs.now (length parties.new.items) w.party) }
-    ensures rest { OnOk result (AreNew arcs.now 0 parties.new.items) }
-    ensures count { OnOk result (length parties.new.items + 1 ≡ length parties.old.items) }
-{
-    let Ok(pool) = pool.fork(alloc) else {
-        return Err(NoMemory);
-    };
-    let party = last_of(arcs, parties)?;
-    Ok(Worker {
-        party,
-        pool,
-        seed,
-        answers: Vec::new(alloc),
-    })
-}
-
-/// A new cache of four callers, whose cells map so many blocks, each caller with a fork of a pool of so many bytes.
-pub fn opened_crowd(
-    alloc: Global,
-    config: &Config,
-    blocks: u64,
-    len: usize,
-) -> Result<Crowd, NoMemory>
-    requires valid { IsConfig config.now }
-    requires callers { config.now.callers ≡ 4 }
-    ensures config { IfOk result (λ c. c.arcs.config ≡ config.now) }
-    ensures feeder { IfOk result (λ c. IsOne c.arcs 4 c.feeder) }
-    ensures low { IfOk result (λ c. IsOne c.arcs 0 c.low.0.party × IsOne c.arcs 1 c.low.1.party) }
-    ensures high { IfOk result (λ c. IsOne c.arcs 2 c.high.0.party × IsOne c.arcs 3 c.high.1.party) }
-{
-    let image = image_of(alloc, blocks, len)?;
-    let (arcs, mut parties, mut pool) = made(alloc, config, blocks, image, Vec::new(alloc))?;
-    let feeder = last_of(&arcs, &mut parties)?;
-    let four = worker_of(alloc, &arcs, &mut parties, &mut pool, 4)?;
-    let three = worker_of(alloc, &arcs, &mut parties, &mut pool, 3)?;
-    let two = worker_of(alloc, &arcs, &mut parties, &mut pool, 2)?;
-    let one = worker_of(alloc, &arcs, &mut parties, &mut pool, 1)?;
-    Ok(Crowd {
-        arcs,
-        feeder,
-        low: (one, two),
-        high: (three, four),
-    })
-}
-
-/// The shards and the cells of such a cache at its end, with the parties by their numbers.
-pub(crate) fn end_crowd(
-    arcs: Cells,
-    parties: Vec<Party<HeapCell>>,
-) -> Result<Closed<HeapCell>, NoMemory>
-    requires { AreCrowd arcs parties.items }
-{
     arcs.close(parties)
 }

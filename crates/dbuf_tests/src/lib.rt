@@ -1,5 +1,4 @@
-//! Tests of dbufs: one cell, called as the layer above calls it, and what a dbuf keeps of a block. There is no code here but tests,
-//! and what they share.
+//! Tests of dbufs over a shared cache, and of what a dbuf keeps of a block. There is no code here but tests, and what they share.
 #![tactic(auto)]
 
 #[cfg(test)]
@@ -8,7 +7,3 @@ mod ends;
 mod kept;
 #[cfg(test)]
 mod memory;
-#[cfg(test)]
-mod one_cell;
-#[cfg(test)]
-mod rows;

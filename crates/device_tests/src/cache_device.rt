@@ -1,6 +1,3 @@
-//! Worked values of the cache device, computed by hand.
+//! Feeds of a cache device of which a call fails, or that crashes.
 mod crashes;
-mod feeds;
-mod images;
-mod old_version;
 mod tools;

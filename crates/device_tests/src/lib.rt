@@ -1,9 +1,7 @@
-//! Tests of what lies outside the cache: keys, the adapters over files, objects in memory, and the cache device's bytes, ring and
-//! calls. There is no code here but tests, and what they share.
+//! Tests of what lies outside the cache: keys, the adapters over files, objects in memory, and calls of the cache device that fail or
+//! crash. There is no code here but tests, and what they share.
 #![tactic(auto)]
 
-#[cfg(test)]
-mod bytes;
 #[cfg(test)]
 mod cache_device;
 #[cfg(test)]
@@ -13,8 +11,4 @@ mod files;
 #[cfg(test)]
 mod keys;
 #[cfg(test)]
-mod log_bytes;
-#[cfg(test)]
 mod memory;
-#[cfg(test)]
-mod ring;

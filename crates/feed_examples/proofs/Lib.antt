@@ -1,2 +1,1 @@
-pub mod Newcomers
 pub mod Parties

@@ -1,2 +1,1 @@
-pub mod Feeders
 pub mod Scenes

@@ -7,7 +7,7 @@ use arc_core::{Bounds, Config};
 use arc_examples::{Plain, read_one};
 use arc_table::{Arcs, Closed, Party};
 use blk_ptr::{Key, NoMemory, Ptr, digest_of};
-use l2_dev::{FeedReport, FeedStop, L2Dev, Started};
+use l2_dev::{FeedReport, L2Dev, Started};
 use l2_feed::feed;
 use l2_log::RING_START;
 use std::alloc::Global;
@@ -138,77 +138,12 @@ pub fn read<R: Wait, D: CacheDev>(rt: &R, scene: &mut FeedScene<D>, ptr: &Ptr, t
     read_one(rt, &scene.arcs, &mut scene.one, &mut scene.pool, ptr, tick)
 }
 
-/// Reads the first so many blocks of this size. False where a read was refused.
-pub fn read_all<R: Wait, D: CacheDev>(
-    rt: &R,
-    alloc: Global,
-    scene: &mut FeedScene<D>,
-    blocks: u64,
-    size: u64,
-) -> Result<bool, NoMemory>
-    requires { IsScene scene.old.arcs scene.old.feeder scene.old.one (D.size scene.old.l2.dev) scene.old.l2.cursor }
-    ensures { IfOk result (λ _. IsScene scene.new.arcs scene.new.feeder scene.new.one (D.size scene.new.l2.dev) scene.new.l2.cursor) }
-{
-    for number in 0..blocks {
-        let block = zeros_of(alloc, number, size)?;
-        if !read(rt, scene, &block, number) {
-            return Ok(false);
-        }
-    }
-    Ok(true)
-}
-
 /// Feeds the device once.
 pub fn fed<R: Wait, D: CacheDev>(rt: &R, alloc: Global, scene: &mut FeedScene<D>) -> FeedReport
     requires { IsScene scene.old.arcs scene.old.feeder scene.old.one (D.size scene.old.l2.dev) scene.old.l2.cursor }
     ensures { IsScene scene.new.arcs scene.new.feeder scene.new.one (D.size scene.new.l2.dev) scene.new.l2.cursor }
 {
     feed(alloc, rt, &scene.arcs, &mut scene.feeder, &mut scene.l2)
-}
-
-/// Reads and feeds the first so many blocks of 512 bytes one by one. Answers how many feeds were done and gave one place.
-pub fn fed_one_by_one<R: Wait, D: CacheDev>(
-    rt: &R,
-    alloc: Global,
-    scene: &mut FeedScene<D>,
-    blocks: u64,
-) -> Result<u64, NoMemory>
-    requires { IsScene scene.old.arcs scene.old.feeder scene.old.one (D.size scene.old.l2.dev) scene.old.l2.cursor }
-    ensures { IfOk result (λ _. IsScene scene.new.arcs scene.new.feeder scene.new.one (D.size scene.new.l2.dev) scene.new.l2.cursor) }
-{
-    let mut given = 0u64;
-    for number in 0..blocks {
-        let block = zeros_of(alloc, number, 512)?;
-        if !read(rt, scene, &block, number) {
-            return Ok(given);
-        }
-        let report = fed(rt, alloc, scene);
-        if report.end == FeedStop::Done && report.written == 1 {
-            given = given.saturating_add(1);
-        }
-    }
-    Ok(given)
-}
-
-/// The places that a start over the scene's device restores, in the order in which it finds them.
-pub fn restored<D: CacheDev>(alloc: Global, scene: FeedScene<D>) -> Result<Vec<u64>, NoMemory> {
-    let Started::Ready { restored, .. } = L2Dev::start(alloc, scene.l2.stop()) else {
-        return Err(NoMemory);
-    };
-    let mut places = Vec::new(alloc);
-    for found in &restored {
-        places.push(found.place)?;
-    }
-    Ok(places)
-}
-
-/// The places of what is live on the device, in the order in which it was written.
-pub fn places<D: CacheDev>(alloc: Global, scene: &FeedScene<D>) -> Result<Vec<u64>, NoMemory> {
-    let mut places = Vec::new(alloc);
-    for written in scene.l2.ring().live() {
-        places.push(written.live.place)?;
-    }
-    Ok(places)
 }
 
 /// The cache's shards at its end.

@@ -5,9 +5,3 @@
 mod faults;
 #[cfg(test)]
 mod memory;
-#[cfg(test)]
-mod reading;
-#[cfg(test)]
-mod rows;
-#[cfg(test)]
-mod soak;

@@ -7,18 +7,23 @@ use feed_examples::{closed, config_of_one, fed, memory, opened, read, zeros_of};
 use l2_dev::FeedStop;
 use std::test::Fail;
 
-/// How many picks, sets, and leaves for want of memory the shards have.
-fn counts(closed: &Closed<Plain>) -> [u32; 3] {
-    let mut counts = [0u32; 3];
+/// Where an event is counted: a pick, a set, a leave for want of memory, or another.
+fn place_of(event: &Event) -> usize {
+    match event {
+        Event::Pick { .. } => 0,
+        Event::Set { .. } => 1,
+        Event::Leave { why, .. } if *why == Why::Memory => 2,
+        _ => 3,
+    }
+}
+
+/// How many of each the shards have.
+fn counts(closed: &Closed<Plain>) -> [u32; 4] {
+    let mut counts = [0u32; 4];
     for shard in closed.shards() {
         for event in shard.history().iter() {
-            match event {
-                Event::Pick { .. } => counts[0] = counts[0].saturating_add(1),
-                Event::Set { .. } => counts[1] = counts[1].saturating_add(1),
-                Event::Leave { why, .. } if why == Why::Memory => {
-                    counts[2] = counts[2].saturating_add(1);
-                }
-                _ => {}
+            if let Some(count) = counts.get_mut(place_of(&event)) {
+                *count = count.saturating_add(1);
             }
         }
     }
@@ -39,9 +44,9 @@ fn a_feed_tells_what_it_did(rt: HostRuntime) -> Result<(), Fail> {
         return Err("read".into());
     }
     let report = fed(&rt, alloc, &mut scene);
-    let counts = counts(&closed(alloc, scene)?);
+    let [picks, sets, leaves, _] = counts(&closed(alloc, scene)?);
     let left = report.picked.saturating_sub(report.written);
-    assert!(rt; counts == [report.picked, report.written, left]);
+    assert!(rt; [picks, sets, leaves] == [report.picked, report.written, left]);
     assert!(rt; (report.end == FeedStop::Done) == (report.written == 2));
     Ok(())
 }

@@ -135,6 +135,14 @@ fn restate(header: &mut Header, state: State, place: Option<u64>)
     header.place = place;
 }
 
+// Writes the state of a ghost into a header, which keeps no bytes from now on.
+fn leave_ghost(header: &mut Header, state: State)
+    ensures { header.new ≡ record header.old { state = state; block = None } }
+{
+    header.state = state;
+    header.block = None;
+}
+
 // Takes an owner out of a header that has a block.
 #[inline]
 fn take_from(header: &mut Header) -> Result<Arc<Block>, NoMemory>
@@ -238,7 +246,9 @@ impl Bucket {
         self.more.push_reserved(header);
     }
 
-    /// Takes the header at `i` out (`buf_hash_remove` of OpenZFS's `arc.c`). The last of the headers takes its place.
+    /// Takes the header at `i` out (`buf_hash_remove` of OpenZFS's `arc.c`). The last of the headers takes its place. It is part of the code that calls it, so a header that
+    /// is let go is not copied out first.
+    #[inline(always)]
     pub fn remove(&mut self, i: usize) -> Header
         requires { i < length self.old.headers }
         ensures value { slice_get self.old.headers i ≡ Some result }
@@ -282,6 +292,19 @@ impl Bucket {
             restate(&mut self.more[i - 1], state, place);
         } else if let Some(first) = &mut self.first {
             restate(first, state, place);
+        }
+    }
+
+    /// The header at `i` keeps no bytes and says this state from now on (`arc_evict_hdr` of OpenZFS's `arc.c`). What else it says stays where it lies.
+    pub fn evict(&mut self, i: usize, state: State)
+        requires { i < length self.old.headers }
+        ensures headers { (h : Header) → slice_get self.old.headers i ≡ Some h → self.new ≡ record self.old { headers = slice_set self.old.headers i (record h { state = state; block = None }) } }
+        ensures map { (h : Header) → slice_get self.old.headers i ≡ Some h → IsWith h.key (Some (record h { state = state; block = None })) self.old.headers self.new.headers }
+    {
+        if i > 0 {
+            leave_ghost(&mut self.more[i - 1], state);
+        } else if let Some(first) = &mut self.first {
+            leave_ghost(first, state);
         }
     }
 

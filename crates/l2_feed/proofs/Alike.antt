@@ -1,9 +1,10 @@
 -- That two feeds of the same shards over alike cursors come to one, part by part: a log block and its run, the runs, a batch, a shard, and all of them; or two contents of one digest were picked.
-use Rattle.std.proofs.Common.{◌≡◌, ◌≢◌, ◌⊎◌, ℕ, zero, suc, ◌+◌, ◌*◌, ◌<◌, ◌≤◌, true, false, List, [], ◌∷◌, ◌++◌, length, map, take, drop, Option, Some, inl, inr, refl, sym, ap, ◌∙◌, subst, arith}
+use Rattle.std.proofs.Common.{◌≡◌, ◌≢◌, ◌⊎◌, ℕ, zero, suc, ◌+◌, ◌*◌, ◌<◌, ◌≤◌, List, [], ◌∷◌, ◌++◌, length, map, take, drop, Option, Some, inl, inr, refl, sym, ap, ◌∙◌, subst, arith, append_assoc}
 use Rattle.std.proofs.lemmas.Bool.{cases_Bool, cases_lt, false≢true}
+use Rattle.std.proofs.lemmas.List.{map-append}
 use Rattle.std.proofs.lemmas.Slice.Eq.{bytes_eq-Decides}
 use Rattle.std.specs.Str.{bytes_eq}
-use Rattle.vdev_io.specs.Calls.{Asked, Call, DeviceCall, Failed, answered}
+use Rattle.vdev_io.specs.Calls.{Asked, Call, DeviceCall, Failed, Gave, answered}
 use Rattle.arc_core.specs.declared.config.Config.{Config}
 use Rattle.arc_core.specs.declared.entry.Picked.{Picked as Pick_of}
 use Rattle.arc_core.specs.PlainShard.{PlainShard}
@@ -17,14 +18,13 @@ use Rattle.l2_dev.specs.declared.report.FeedStop.TheVariants as stop
 use Rattle.l2_dev.specs.Asking.{header_calls, log_calls}
 use Rattle.l2_dev.specs.Cursor.{CursorState}
 use Rattle.l2_feed.specs.Acts.{Act, Picked}
-use Rattle.l2_feed.specs.Alike.{AreCursorsAlike, ComeToOne, FeedsComeToOne, PicksTwo, has_failed}
+use Rattle.l2_feed.specs.Alike.{AreCursorsAlike, ComeToOne, FeedsComeToOne, PicksTwo}
 use Rattle.l2_feed.specs.Alone.{AreOfShards, pick_of_block, picks_from}
-use Rattle.l2_feed.specs.Asking.{AskRuns, AsksHeader, AsksLog, AsksRun, BatchCalls, all_gave, puts_of}
+use Rattle.l2_feed.specs.Asking.{AskRuns, AsksHeader, AsksLog, AsksRun, AsksSome, BatchCalls, UpToFailed, all_gave, puts_of}
 use Rattle.l2_feed.specs.Places.{IsAmongActs}
 use Rattle.l2_feed.specs.Plain.{PlainFed, all_after, answers_of, bare, plan_for, shard_from}
 use Rattle.l2_feed.specs.Runs.{AreLogs, HasWritten, batch_len, bytes_of, most, run_place, runs_of}
 use Rattle.l2_feed.specs.Shape.{AreFed, FedBatch, FedShard, IsUnwritten, IsWritten, NoneRefused, WrittenCalls}
-use Rattle.l2_feed.proofs.Asking.{AnsweredSo, fed_answered}
 use Rattle.l2_feed.proofs.Keeping.{in_left, in_right}
 use Rattle.l2_feed.proofs.Lists.{bytes_cons}
 use Rattle.l2_feed.proofs.Plain.{answers_two, fed_as, none_two, of_two, plan_is, shard_fed}
@@ -50,6 +50,86 @@ lists-known (x ∷ xs) (y ∷ ys) = elim (bytes-known x y) [
   | inr differ ↦ inr (λ same. differ (cons-first x y xs ys same))
 ]
 
+-- ---- calls up to one that failed
+
+-- as far as both go they are the same
+abbrev AreSoFar : List Asked → List Asked → Type 0
+AreSoFar [] ys = Unit {0}
+AreSoFar (x ∷ xs) [] = Unit {0}
+AreSoFar (x ∷ xs) (y ∷ ys) = (y ≡ x) × AreSoFar xs ys
+
+so-far-sym : (xs ys : List Asked) → AreSoFar xs ys → AreSoFar ys xs
+so-far-sym [] [] s = tt
+so-far-sym [] (y ∷ ys) s = tt
+so-far-sym (x ∷ xs) [] s = tt
+so-far-sym (x ∷ xs) (y ∷ ys) s = (sym s.0, so-far-sym xs ys s.1)
+
+so-far-front : (xs more : List Asked) → AreSoFar xs (xs ++ more)
+so-far-front [] more = tt
+so-far-front (x ∷ xs) more = (refl, so-far-front xs more)
+
+so-far-refl : (xs : List Asked) → AreSoFar xs xs
+so-far-refl [] = tt
+so-far-refl (x ∷ xs) = (refl, so-far-refl xs)
+
+so-far-same : (xs ys : List Asked) → ys ≡ xs → AreSoFar xs ys
+so-far-same xs ys same = subst (AreSoFar xs) (sym same) (so-far-refl xs)
+
+so-far-behind : (xs ys zs : List Asked) → AreSoFar ys zs → AreSoFar (xs ++ ys) (xs ++ zs)
+so-far-behind [] ys zs s = s
+so-far-behind (x ∷ xs) ys zs s = (refl, so-far-behind xs ys zs s)
+
+gave-failed : Gave ≡ Failed → ⊥
+gave-failed is = let clash : Gave ≡ Failed = is in cc
+
+failed-one : (done others : List Asked) (f h : Asked) (left more : List Asked) (us vs : List Call) → AreSoFar (done ++ f ∷ left) (others ++ h ∷ more)
+    → answers_of (all_gave others ++ answered Failed h ∷ []) ++ vs ≡ answers_of (all_gave done ++ answered Failed f ∷ []) ++ us → all_gave others ++ answered Failed h ∷ [] ≡ all_gave done ++ answered Failed f ∷ []
+failed-one [] [] f h left more us vs s row = λ i. answered Failed (s.0 i) ∷ []
+failed-one [] (b ∷ others) f h left more us vs s row = absurd (gave-failed (cons-first Gave Failed (answers_of (all_gave others ++ answered Failed h ∷ []) ++ vs) us row))
+failed-one (a ∷ done) [] f h left more us vs s row = absurd (gave-failed (sym (cons-first Failed Gave vs (answers_of (all_gave done ++ answered Failed f ∷ []) ++ us) row)))
+failed-one (a ∷ done) (b ∷ others) f h left more us vs s row =
+    let rest = failed-one done others f h left more us vs s.1 (cons-rest Gave Gave (answers_of (all_gave others ++ answered Failed h ∷ []) ++ vs) (answers_of (all_gave done ++ answered Failed f ∷ []) ++ us) row) in
+    λ i. answered Gave (s.0 i) ∷ rest i
+
+-- where both ask for the same as far as they go, and were answered the same, the same one failed
+up-one : (asked others : List Asked) (xs ys : List DeviceCall) (us vs : List Call) → AreSoFar asked others → UpToFailed asked xs → UpToFailed others ys → answers_of ys ++ vs ≡ answers_of xs ++ us → ys ≡ xs
+up-one asked others xs ys us vs s x y row =
+    let so_far : AreSoFar (x.done ++ x.failed ∷ x.left) (y.done ++ y.failed ∷ y.left) = subst (λ (z : List Asked × List Asked). AreSoFar z.0 z.1) (λ i. (x.whole i, y.whole i)) s in
+    let rows : answers_of (all_gave y.done ++ answered Failed y.failed ∷ []) ++ vs ≡ answers_of (all_gave x.done ++ answered Failed x.failed ∷ []) ++ us =
+    ap (λ (l : List DeviceCall). answers_of l ++ vs) (sym y.calls_are) ∙ (row ∙ ap (λ (l : List DeviceCall). answers_of l ++ us) x.calls_are) in
+    y.calls_are ∙ (failed-one x.done y.done x.failed y.failed x.left y.left us vs so_far rows ∙ sym x.calls_are)
+
+up-behind : (front asked : List Asked) (xs : List DeviceCall) → UpToFailed asked xs → UpToFailed (front ++ asked) (all_gave front ++ xs)
+up-behind front asked xs x = record {
+  done = front ++ x.done;
+  failed = x.failed;
+  left = x.left;
+  whole = ap (λ (l : List Asked). front ++ l) x.whole ∙ sym (append_assoc front x.done (x.failed ∷ x.left));
+  calls_are =
+      ap (λ (l : List DeviceCall). all_gave front ++ l) x.calls_are
+      ∙ (sym (append_assoc (all_gave front) (all_gave x.done) (answered Failed x.failed ∷ [])) ∙ ap (λ (l : List DeviceCall). l ++ answered Failed x.failed ∷ []) (sym (map-append (answered Gave) front x.done)));
+}
+
+-- the header, the runs that were committed, and the one that was lost
+up-whole : (headers runs lost : List Asked) (last more calls : List DeviceCall) → UpToFailed lost last → more ≡ all_gave runs ++ last → calls ≡ all_gave headers ++ more → UpToFailed (headers ++ (runs ++ lost)) calls
+up-whole headers runs lost last more calls up is are =
+    let whole : all_gave headers ++ (all_gave runs ++ last) ≡ calls = sym (are ∙ ap (λ (l : List DeviceCall). all_gave headers ++ l) is) in
+    subst (UpToFailed (headers ++ (runs ++ lost))) whole (up-behind headers (runs ++ lost) (all_gave runs ++ last) (up-behind runs lost last up))
+
+-- what a run begins with, however far it came
+puts-then-log : (cursor : CursorState) (run : List Block) (xs : List Asked) → AsksLog cursor run xs → AreSoFar (puts_of cursor.ring.hand run) xs
+puts-then-log cursor run xs x = subst (AreSoFar (puts_of cursor.ring.hand run)) (sym x.asked_are) (so-far-front (puts_of cursor.ring.hand run) (log_calls (cursor.ring.hand + bytes_of run) x.log.bytes))
+
+log-then-run : (cursor : CursorState) (run : List Block) (xs : List Asked) → (x : AsksRun cursor run xs) → AreSoFar x.front xs
+log-then-run cursor run xs x = subst (AreSoFar x.front) (sym x.asked_are) (so-far-front x.front (header_calls x.sector))
+
+puts-then-run : (cursor : CursorState) (run : List Block) (xs : List Asked) → AsksRun cursor run xs → AreSoFar (puts_of cursor.ring.hand run) xs
+puts-then-run cursor run xs x =
+    let puts : List Asked = puts_of cursor.ring.hand run in
+    let logs : List Asked = log_calls (cursor.ring.hand + bytes_of run) x.log.log.bytes in
+    let all : xs ≡ puts ++ (logs ++ header_calls x.sector) = x.asked_are ∙ (ap (λ (l : List Asked). l ++ header_calls x.sector) x.log.asked_are ∙ append_assoc puts logs (header_calls x.sector)) in
+    subst (AreSoFar puts) (sym all) (so-far-front puts (logs ++ header_calls x.sector))
+
 -- ---- one run
 
 -- the numbers of both rings are the same, and so are the log blocks that they name
@@ -72,13 +152,15 @@ module _ (one other : CursorState) (run runs : List Block) (s : StandAlike one o
   behinds : other.ring.hand + (bytes_of runs + log_len) ≡ one.ring.hand + (bytes_of run + log_len)
   behinds = λ i. hands i + (same-bytes run runs same i + log_len)
 
+  puts-asked : puts_of other.ring.hand runs ≡ puts_of one.ring.hand run
+  puts-asked = ap (λ (h : ℕ). puts_of h runs) hands ∙ same-puts one.ring.hand run runs same
+
   log-asked : (xs ys : List Asked) → (x : AsksLog one run xs) → (y : AsksLog other runs ys) → (ys ≡ xs) × (y.ptr ≡ x.ptr)
   log-asked xs ys x y =
       let log = logs-alike one.ring.lap other.ring.lap one.ring.hand other.ring.hand one.second other.second run runs x.ptr y.ptr laps hands s.second same x.log y.log in
-      let puts : puts_of other.ring.hand runs ≡ puts_of one.ring.hand run = ap (λ (h : ℕ). puts_of h runs) hands ∙ same-puts one.ring.hand run runs same in
       let bytes = same-bytes run runs same in
       let calls : puts_of other.ring.hand runs ++ log_calls (other.ring.hand + bytes_of runs) y.log.bytes ≡ puts_of one.ring.hand run ++ log_calls (one.ring.hand + bytes_of run) x.log.bytes =
-      λ i. puts i ++ log_calls (hands i + bytes i) (log.0 i) in
+      λ i. puts-asked i ++ log_calls (hands i + bytes i) (log.0 i) in
       (y.asked_are ∙ (calls ∙ sym x.asked_are), log.1)
 
   run-asked : (xs ys : List Asked) → AsksRun one run xs → AsksRun other runs ys → ys ≡ xs
@@ -94,6 +176,18 @@ module _ (one other : CursorState) (run runs : List Block) (s : StandAlike one o
       } in
       let sectors = sectors-alike x.header y.header x.sector y.sector headers x.is y.is in
       y.asked_are ∙ ((λ i. log.0 i ++ header_calls (sectors i)) ∙ sym x.asked_are)
+
+  -- a run that was lost, however far it came
+  some-asked : (xs ys : List Asked) → AsksSome one run xs → AsksSome other runs ys → AreSoFar xs ys
+  some-asked xs ys (inl x) (inl y) = so-far-same xs ys (y ∙ (puts-asked ∙ sym x))
+  some-asked xs ys (inl x) (inr (inl y)) = subst (λ (l : List Asked). AreSoFar l ys) (puts-asked ∙ sym x) (puts-then-log other runs ys y)
+  some-asked xs ys (inl x) (inr (inr y)) = subst (λ (l : List Asked). AreSoFar l ys) (puts-asked ∙ sym x) (puts-then-run other runs ys y)
+  some-asked xs ys (inr (inl x)) (inl y) = so-far-sym ys xs (subst (λ (l : List Asked). AreSoFar l xs) (sym (y ∙ puts-asked)) (puts-then-log one run xs x))
+  some-asked xs ys (inr (inl x)) (inr (inl y)) = so-far-same xs ys (log-asked xs ys x y).0
+  some-asked xs ys (inr (inl x)) (inr (inr y)) = subst (λ (l : List Asked). AreSoFar l ys) (log-asked xs y.front x y.log).0 (log-then-run other runs ys y)
+  some-asked xs ys (inr (inr x)) (inl y) = so-far-sym ys xs (subst (λ (l : List Asked). AreSoFar l xs) (sym (y ∙ puts-asked)) (puts-then-run one run xs x))
+  some-asked xs ys (inr (inr x)) (inr (inl y)) = so-far-sym ys xs (subst (λ (l : List Asked). AreSoFar l xs) (sym (log-asked x.front ys x.log y).0) (log-then-run one run xs x))
+  some-asked xs ys (inr (inr x)) (inr (inr y)) = so-far-same xs ys (run-asked xs ys x y)
 
   -- behind it
   run-written : (next after : CursorState) → HasWritten run one next → HasWritten runs other after → StandAlike next after
@@ -113,14 +207,15 @@ module _ (one other : CursorState) (run runs : List Block) (s : StandAlike one o
 
 -- ---- run after run
 
-runs-asked : (count : ℕ) (blocks others : List Block) (old now before after : CursorState) (xs ys : List Asked) → StandAlike old before → AreSameBlocks blocks others → AskRuns count blocks old now xs → AskRuns count others before after ys → ys ≡ xs
-runs-asked zero blocks others old now before after xs ys s same x y = y.1 ∙ sym x.1
+runs-asked : (count : ℕ) (blocks others : List Block) (old now before after : CursorState) (xs ys : List Asked) → StandAlike old before → AreSameBlocks blocks others → AskRuns count blocks old now xs → AskRuns count others before after ys
+    → (ys ≡ xs) × StandAlike now after
+runs-asked zero blocks others old now before after xs ys s same x y = (y.1 ∙ sym x.1, subst (λ (z : CursorState × CursorState). StandAlike z.0 z.1) (λ i. (sym x.0 i, sym y.0 i)) s)
 runs-asked (suc count) blocks others old now before after xs ys s same (next, first, more, whole, wrote, asks, rest) (other_next, other_first, other_more, other_whole, other_wrote, other_asks, other_rest) =
     let run = same-front most blocks others same in
     let one = run-asked old before (take most blocks) (take most others) s run first other_first asks other_asks in
     let on = run-written old before (take most blocks) (take most others) s run next other_next wrote other_wrote in
     let behind = runs-asked count (drop most blocks) (drop most others) next now other_next after more other_more on (same-rest most blocks others same) rest other_rest in
-    other_whole ∙ ((λ i. one i ++ behind i) ∙ sym whole)
+    (other_whole ∙ ((λ i. one i ++ behind.0 i) ∙ sym whole), behind.1)
 
 -- where the run of a number lies
 places-same : (a b count : ℕ) (blocks others : List Block) → b ≡ a → AreSameBlocks blocks others → run_place b count others ≡ run_place a count blocks
@@ -212,23 +307,54 @@ module _ {old new before now : CursorState} {blocks others : List Block} {clears
       (ap (λ (p : Plan). p.lap) begun-alike.numbers) begun-hands same first w.ran.logs logs in
       record { ring = rings; newest = ap (λ (x : Option LogPtr × Option LogPtr). x.0) last; second = ap (λ (x : Option LogPtr × Option LogPtr). x.1) last }
 
-  batch-calls : (xs ys : List DeviceCall) → bare now.ring ≡ bare new.ring → BatchCalls w.begun blocks w.ran.count stop.Done xs → BatchCalls v.begun others v.ran.count stop.Done ys → ys ≡ xs
-  batch-calls xs ys rings (inl lost) asks = absurd (let clash : stop.Done ≡ stop.DevFault = lost.0 in cc)
-  batch-calls xs ys rings (inr all) (inl lost) = absurd (let clash : stop.Done ≡ stop.DevFault = lost.0 in cc)
-  batch-calls xs ys rings (inr (asked, more, header, runs, are)) (inr (other_asked, other_more, other_header, other_runs, other_are)) =
+  -- all were done
+  batch-done : (k : ℕ) (xs ys : List DeviceCall) → BatchCalls w.begun blocks k stop.Done xs → BatchCalls v.begun others k stop.Done ys → ys ≡ xs
+  batch-done k xs ys (inl lost) asks = absurd (let clash : stop.Done ≡ stop.DevFault = lost.0 in cc)
+  batch-done k xs ys (inr all) (inl lost) = absurd (let clash : stop.Done ≡ stop.DevFault = lost.0 in cc)
+  batch-done k xs ys (inr (asked, more, header, runs, are)) (inr (other_asked, other_more, other_header, other_runs, other_are)) =
       let headers : other_asked ≡ asked = header-asked asked other_asked header other_header in
-      let whole : AskRuns w.ran.count others v.begun other_runs.now other_runs.asked = subst (λ (k : ℕ). AskRuns k others v.begun other_runs.now other_runs.asked) (counts-same rings) other_runs.whole in
-      let all : other_runs.asked ≡ runs.asked = runs-asked w.ran.count blocks others w.begun runs.now v.begun other_runs.now runs.asked other_runs.asked begun-alike same runs.whole whole in
+      let all = runs-asked k blocks others w.begun runs.now v.begun other_runs.now runs.asked other_runs.asked begun-alike same runs.whole other_runs.whole in
       let none : other_runs.last ≡ runs.last = other_runs.ended ∙ sym runs.ended in
-      let behind : other_more ≡ more = other_runs.calls_are ∙ ((λ i. all_gave (all i) ++ none i) ∙ sym runs.calls_are) in
+      let behind : other_more ≡ more = other_runs.calls_are ∙ ((λ i. all_gave (all.0 i) ++ none i) ∙ sym runs.calls_are) in
       other_are ∙ ((λ i. all_gave (headers i) ++ behind i) ∙ sym are)
 
--- ---- one shard
+  -- one failed: at the header, or at a run
+  batch-lost : (k : ℕ) (xs ys : List DeviceCall) (us vs : List Call) → answers_of ys ++ vs ≡ answers_of xs ++ us → BatchCalls w.begun blocks k stop.DevFault xs → BatchCalls v.begun others k stop.DevFault ys → ys ≡ xs
+  batch-lost k xs ys us vs row (inl (is, none, asked, header, up)) (inl (other_is, other_none, other_asked, other_header, other_up)) =
+      up-one asked other_asked xs ys us vs (so-far-same asked other_asked (header-asked asked other_asked header other_header)) up other_up row
+  batch-lost k xs ys us vs row (inl (is, none, asked, header, up)) (inr (other_asked, other_more, other_header, other_runs, other_are)) =
+      let lost = other_runs.ended in
+      let rest : List Asked = other_runs.asked ++ lost.0 in
+      let so_far : AreSoFar asked (other_asked ++ rest) = subst (λ (l : List Asked). AreSoFar l (other_asked ++ rest)) (header-asked asked other_asked header other_header) (so-far-front other_asked rest) in
+      up-one asked (other_asked ++ rest) xs ys us vs so_far up (up-whole other_asked other_runs.asked lost.0 other_runs.last other_more ys lost.2 other_runs.calls_are other_are) row
+  batch-lost k xs ys us vs row (inr (asked, more, header, runs, are)) (inl (other_is, other_none, other_asked, other_header, other_up)) =
+      let lost = runs.ended in
+      let rest : List Asked = runs.asked ++ lost.0 in
+      let so_far : AreSoFar other_asked (asked ++ rest) = subst (λ (l : List Asked). AreSoFar l (asked ++ rest)) (sym (header-asked asked other_asked header other_header)) (so-far-front asked rest) in
+      up-one (asked ++ rest) other_asked xs ys us vs (so-far-sym other_asked (asked ++ rest) so_far) (up-whole asked runs.asked lost.0 runs.last more xs lost.2 runs.calls_are are) other_up row
+  batch-lost k xs ys us vs row (inr (asked, more, header, runs, are)) (inr (other_asked, other_more, other_header, other_runs, other_are)) =
+      let lost = runs.ended in
+      let other_lost = other_runs.ended in
+      let headers : other_asked ≡ asked = header-asked asked other_asked header other_header in
+      let all = runs-asked k blocks others w.begun runs.now v.begun other_runs.now runs.asked other_runs.asked begun-alike same runs.whole other_runs.whole in
+      let run = same-front most (drop (k * most) blocks) (drop (k * most) others) (same-rest (k * most) blocks others same) in
+      let some = some-asked runs.now other_runs.now (take most (drop (k * most) blocks)) (take most (drop (k * most) others)) all.1 run lost.0 other_lost.0 lost.1 other_lost.1 in
+      let so_far : AreSoFar (asked ++ (runs.asked ++ lost.0)) (other_asked ++ (other_runs.asked ++ other_lost.0)) =
+      subst (λ (z : List Asked × List Asked). AreSoFar (asked ++ (runs.asked ++ lost.0)) (z.0 ++ (z.1 ++ other_lost.0))) (λ i. (sym headers i, sym all.0 i))
+      (so-far-behind asked (runs.asked ++ lost.0) (runs.asked ++ other_lost.0) (so-far-behind runs.asked lost.0 other_lost.0 some)) in
+      up-one (asked ++ (runs.asked ++ lost.0)) (other_asked ++ (other_runs.asked ++ other_lost.0)) xs ys us vs so_far (up-whole asked runs.asked lost.0 runs.last more xs lost.2 runs.calls_are are)
+      (up-whole other_asked other_runs.asked other_lost.0 other_runs.last other_more ys other_lost.2 other_runs.calls_are other_are) row
 
--- They leave alike cursors, and where they were done, both asked the device for the same.
-record ComeByEnd (end : FeedStop) (new now : CursorState) (calls others : List DeviceCall) : Type 0 where
-  cursors : AreCursorsAlike new now
-  asked : end ≡ stop.Done → others ≡ calls
+  batch-by-end : (e : FeedStop) (k : ℕ) (xs ys : List DeviceCall) (us vs : List Call) → e ≢ stop.NoMemory → answers_of ys ++ vs ≡ answers_of xs ++ us → BatchCalls w.begun blocks k e xs → BatchCalls v.begun others k e ys → ys ≡ xs
+  batch-by-end stop.Done k xs ys us vs ended row asks other_asks = batch-done k xs ys asks other_asks
+  batch-by-end stop.DevFault k xs ys us vs ended row asks other_asks = batch-lost k xs ys us vs row asks other_asks
+  batch-by-end stop.NoMemory k xs ys us vs ended row asks other_asks = absurd (ended refl)
+
+  batch-calls : (e : FeedStop) (xs ys : List DeviceCall) (us vs : List Call) → e ≢ stop.NoMemory → answers_of ys ++ vs ≡ answers_of xs ++ us → bare now.ring ≡ bare new.ring → BatchCalls w.begun blocks w.ran.count e xs
+      → BatchCalls v.begun others v.ran.count e ys → ys ≡ xs
+  batch-calls e xs ys us vs ended row rings asks other_asks = batch-by-end e w.ran.count xs ys us vs ended row asks (subst (λ (k : ℕ). BatchCalls v.begun others k e ys) (counts-same rings) other_asks)
+
+-- ---- one shard
 
 none-picked : (picks : List Pick_of) (blocks : List Block) → [] ≡ picks → map pick_of_block blocks ≡ picks → 0 < length blocks → ⊥
 none-picked picks [] none are some = omega arith
@@ -239,9 +365,9 @@ same-cursors old new before now is other_is like =
     subst (λ (x : CursorState × CursorState). AreCursorsAlike x.0 x.1) (λ i. (sym is i, sym other_is i)) like
 
 module _ (g : Config) (n : ℕ) where
-  batch-comes : (shard : ℕ) (old new before now : CursorState) (acts others : List Act) (xs ys : List DeviceCall) (end : FeedStop) (s : ℕ → PlainShard) → end ≢ stop.NoMemory → FedBatch shard old new acts xs end → FedBatch shard before now others ys end
-      → AreOfShards g n s acts → AreOfShards g n s others → AreCursorsAlike old before → bare now.ring ≡ bare new.ring → ComeByEnd end new now xs ys ⊎ PicksTwo acts others
-  batch-comes shard old new before now acts others xs ys end s ended f h of other_of like rings = elim (lists-known (map (λ (b : Block). b.block.value) h.blocks) (map (λ (b : Block). b.block.value) f.blocks)) [
+  batch-comes : (shard : ℕ) (old new before now : CursorState) (acts others : List Act) (xs ys : List DeviceCall) (end : FeedStop) (s : ℕ → PlainShard) (us vs : List Call) → end ≢ stop.NoMemory → FedBatch shard old new acts xs end → FedBatch shard before now others ys end
+      → AreOfShards g n s acts → AreOfShards g n s others → AreCursorsAlike old before → bare now.ring ≡ bare new.ring → answers_of ys ++ vs ≡ answers_of xs ++ us → ComeToOne new now xs ys ⊎ PicksTwo acts others
+  batch-comes shard old new before now acts others xs ys end s us vs ended f h of other_of like rings row = elim (lists-known (map (λ (b : Block). b.block.value) h.blocks) (map (λ (b : Block). b.block.value) f.blocks)) [
     | inl bytes ↦ inl (go (same-blocks f.blocks h.blocks picks bytes) f.written f.asks h.written h.asks)
     | inr differ ↦ inr (record {
       shard = shard;
@@ -264,25 +390,25 @@ module _ (g : Config) (n : ℕ) where
       picks = other_all.0 ∙ sym all.0
 
       go : AreSameBlocks f.blocks h.blocks → (w : IsWritten old new f.blocks f.clears f.settles end ⊎ IsUnwritten old new f.blocks f.clears f.settles end) → WrittenCalls w xs
-          → (v : IsWritten before now h.blocks h.clears h.settles end ⊎ IsUnwritten before now h.blocks h.clears h.settles end) → WrittenCalls v ys → ComeByEnd end new now xs ys
+          → (v : IsWritten before now h.blocks h.clears h.settles end ⊎ IsUnwritten before now h.blocks h.clears h.settles end) → WrittenCalls v ys → ComeToOne new now xs ys
       go same (inr u) asks v other_asks = absurd (ended u.ended)
       go same (inl w) asks (inr u) other_asks = absurd (ended u.ended)
       go same (inl w) asks (inl v) other_asks = record {
         cursors = batch-cursors w v like same rings;
-        asked = λ done. batch-calls w v like same xs ys rings (subst (λ (e : FeedStop). BatchCalls w.begun f.blocks w.ran.count e xs) done asks) (subst (λ (e : FeedStop). BatchCalls v.begun h.blocks v.ran.count e ys) done other_asks);
+        asked = batch-calls w v like same end xs ys us vs ended row rings asks other_asks;
       }
 
-  shard-comes : (shard : ℕ) (old new before now : CursorState) (acts others : List Act) (xs ys : List DeviceCall) (end : FeedStop) (s : ℕ → PlainShard) → end ≢ stop.NoMemory → FedShard shard old new acts xs end → FedShard shard before now others ys end
-      → AreOfShards g n s acts → AreOfShards g n s others → AreCursorsAlike old before → bare now.ring ≡ bare new.ring → ComeByEnd end new now xs ys ⊎ PicksTwo acts others
-  shard-comes shard old new before now acts others xs ys end s ended (inl f) (inl h) of other_of like rings = inl (record { cursors = same-cursors old new before now f.1 h.1 like; asked = λ done. h.3 ∙ sym f.3 })
-  shard-comes shard old new before now acts others xs ys end s ended (inl f) (inr (inl h)) of other_of like rings = absurd (ended h.2)
-  shard-comes shard old new before now acts others xs ys end s ended (inl f) (inr (inr h)) of other_of like rings =
+  shard-comes : (shard : ℕ) (old new before now : CursorState) (acts others : List Act) (xs ys : List DeviceCall) (end : FeedStop) (s : ℕ → PlainShard) (us vs : List Call) → end ≢ stop.NoMemory → FedShard shard old new acts xs end → FedShard shard before now others ys end
+      → AreOfShards g n s acts → AreOfShards g n s others → AreCursorsAlike old before → bare now.ring ≡ bare new.ring → answers_of ys ++ vs ≡ answers_of xs ++ us → ComeToOne new now xs ys ⊎ PicksTwo acts others
+  shard-comes shard old new before now acts others xs ys end s us vs ended (inl f) (inl h) of other_of like rings row = inl (record { cursors = same-cursors old new before now f.1 h.1 like; asked = h.3 ∙ sym f.3 })
+  shard-comes shard old new before now acts others xs ys end s us vs ended (inl f) (inr (inl h)) of other_of like rings row = absurd (ended h.2)
+  shard-comes shard old new before now acts others xs ys end s us vs ended (inl f) (inr (inr h)) of other_of like rings row =
       absurd (none-picked (picks_from (s shard)) h.blocks (subst (AreOfShards g n s) f.0 of).0 (subst (AreOfShards g n s) h.acts_are other_of).0 h.some)
-  shard-comes shard old new before now acts others xs ys end s ended (inr (inl f)) h of other_of like rings = absurd (ended f.2)
-  shard-comes shard old new before now acts others xs ys end s ended (inr (inr f)) (inl h) of other_of like rings =
+  shard-comes shard old new before now acts others xs ys end s us vs ended (inr (inl f)) h of other_of like rings row = absurd (ended f.2)
+  shard-comes shard old new before now acts others xs ys end s us vs ended (inr (inr f)) (inl h) of other_of like rings row =
       absurd (none-picked (picks_from (s shard)) f.blocks (subst (AreOfShards g n s) h.0 other_of).0 (subst (AreOfShards g n s) f.acts_are of).0 f.some)
-  shard-comes shard old new before now acts others xs ys end s ended (inr (inr f)) (inr (inl h)) of other_of like rings = absurd (ended h.2)
-  shard-comes shard old new before now acts others xs ys end s ended (inr (inr f)) (inr (inr h)) of other_of like rings = batch-comes shard old new before now acts others xs ys end s ended f h of other_of like rings
+  shard-comes shard old new before now acts others xs ys end s us vs ended (inr (inr f)) (inr (inl h)) of other_of like rings row = absurd (ended h.2)
+  shard-comes shard old new before now acts others xs ys end s us vs ended (inr (inr f)) (inr (inr h)) of other_of like rings row = batch-comes shard old new before now acts others xs ys end s us vs ended f h of other_of like rings row
 
   -- ---- all of them
 
@@ -325,12 +451,12 @@ module _ (g : Config) (n : ℕ) where
 
   feeds-come : (shard count : ℕ) (old new before now : CursorState) (acts others : List Act) (xs ys : List DeviceCall) (end other_end : FeedStop) (s : ℕ → PlainShard) (us vs : List Call) → AreFed shard count old new acts xs end
       → AreFed shard count before now others ys other_end → end ≢ stop.NoMemory → other_end ≢ stop.NoMemory → NoneRefused acts → NoneRefused others → AreOfShards g n s acts → AreOfShards g n s others → AreCursorsAlike old before
-      → answers_of ys ++ vs ≡ answers_of xs ++ us → ComeByEnd end new now xs ys ⊎ PicksTwo acts others
-  feeds-come shard zero old new before now acts others xs ys end other_end s us vs f h ended other_ended none other_none of other_of like row = inl (record { cursors = same-cursors old new before now f.1 h.1 like; asked = λ done. h.3 ∙ sym f.3 })
+      → answers_of ys ++ vs ≡ answers_of xs ++ us → ComeToOne new now xs ys ⊎ PicksTwo acts others
+  feeds-come shard zero old new before now acts others xs ys end other_end s us vs f h ended other_ended none other_none of other_of like row = inl (record { cursors = same-cursors old new before now f.1 h.1 like; asked = h.3 ∙ sym f.3 })
   feeds-come shard (suc count) old new before now acts others xs ys end other_end s us vs (inl f) (inl h) ended other_ended none other_none of other_of like row =
       let joined = shards-joined shard old new before now acts others xs ys end other_end s us vs f.1 h.1 ended other_ended none other_none of other_of like row in
       let ends : other_end ≡ end = ap (λ (fed : PlainFed). fed.end) joined in
-      shard-comes shard old new before now acts others xs ys end s ended f.1 (subst (FedShard shard before now others ys) ends h.1) of other_of like (ap (λ (fed : PlainFed). fed.at.ring) joined)
+      shard-comes shard old new before now acts others xs ys end s us vs ended f.1 (subst (FedShard shard before now others ys) ends h.1) of other_of like (ap (λ (fed : PlainFed). fed.at.ring) joined) row
   feeds-come shard (suc count) old new before now acts others xs ys end other_end s us vs (inl f) (inr (first, more, between, front, behind, is, asked, one, rest)) ended other_ended none other_none of other_of like row =
       let cut = none_two first more (subst NoneRefused is other_none) in
       let parts = of_two g n s first more (subst (AreOfShards g n s) is other_of) in
@@ -353,30 +479,16 @@ module _ (g : Config) (n : ℕ) where
       let joined = shards-joined shard old between before other_between first other_first front other_front stop.Done stop.Done s (answers_of behind ++ us) (answers_of other_behind ++ vs) one other_one never-full never-full cut.0 other_cut.0
       parts.0 other_parts.0 like rows in
       let shards : all_after g n s other_first ≡ all_after g n s first = ap (λ (fed : PlainFed). fed.at.shards) joined in
-      elim (shard-comes shard old between before other_between first other_first front other_front stop.Done s never-full one other_one parts.0 other_parts.0 like (ap (λ (fed : PlainFed). fed.at.ring) joined)) [
+      elim (shard-comes shard old between before other_between first other_first front other_front stop.Done s (answers_of behind ++ us) (answers_of other_behind ++ vs) never-full one other_one parts.0 other_parts.0 like
+      (ap (λ (fed : PlainFed). fed.at.ring) joined) rows) [
         | inr two ↦ inr (two-front acts first more others other_first other_more is other_is two)
         | inl here ↦ elim (feeds-come (suc shard) count between new other_between now more other_more behind other_behind end other_end (all_after g n s first) us vs rest other_rest ended other_ended cut.1 other_cut.1 parts.1
             (subst (λ (t : ℕ → PlainShard). AreOfShards g n t other_more) shards other_parts.1) here.cursors (ap (λ (fed : PlainFed). fed.at.answers) joined)) [
               | inr two ↦ inr (two-behind acts first more others other_first other_more is other_is two)
-              | inl last ↦ inl (record { cursors = last.cursors; asked = λ done. other_asked ∙ ((λ i. here.asked refl i ++ last.asked done i) ∙ sym asked) })
+              | inl last ↦ inl (record { cursors = last.cursors; asked = other_asked ∙ ((λ i. here.asked i ++ last.asked i) ∙ sym asked) })
             ]
       ]
 
--- ---- where no call failed
-
-one-failed : (done : List Asked) (f : Asked) → has_failed (answers_of (all_gave done ++ answered Failed f ∷ [])) ≡ true
-one-failed [] f = refl
-one-failed (a ∷ done) f = one-failed done f
-
--- a feed of which no call failed and for which memory was not refused was done
-done-if-none-failed : (end : FeedStop) (calls : List DeviceCall) → AnsweredSo end calls → end ≢ stop.NoMemory → has_failed (answers_of calls) ≡ false → end ≡ stop.Done
-done-if-none-failed stop.Done calls so ended none = refl
-done-if-none-failed stop.DevFault calls so ended none = absurd (false≢true (sym none ∙ (ap (λ (l : List DeviceCall). has_failed (answers_of l)) so.2 ∙ one-failed so.0 so.1)))
-done-if-none-failed stop.NoMemory calls so ended none = absurd (ended refl)
-
 pub come_to_one : FeedsComeToOne
 come_to_one g n s old new before now acts others xs ys end other_end f h of other_of ended other_ended none other_none like row =
-    elim (feeds-come g n 0 g.shards old new before now acts others xs ys end other_end s [] [] f h ended other_ended none other_none of other_of like (ap (λ (l : List Call). l ++ []) row)) [
-      | inl come ↦ inl (record { cursors = come.cursors; asked = λ unfailed. come.asked (done-if-none-failed end xs (fed_answered 0 g.shards old new acts xs end f) ended unfailed) })
-      | inr two ↦ inr two
-    ]
+    feeds-come g n 0 g.shards old new before now acts others xs ys end other_end s [] [] f h ended other_ended none other_none of other_of like (ap (λ (l : List Call). l ++ []) row)

@@ -244,7 +244,7 @@ module _ {D : Type 0} (device : Ghosts D) where
 -- ---- how the calls of a feed were answered
 
 -- each was done, or the last one failed, as the end says
-abbrev pub AnsweredSo : FeedStop → List DeviceCall → Type 0
+abbrev AnsweredSo : FeedStop → List DeviceCall → Type 0
 AnsweredSo stop.Done calls = (asked : List Asked) × (calls ≡ all_gave asked)
 AnsweredSo stop.DevFault calls = (done : List Asked) × (failed : Asked) × (calls ≡ all_gave done ++ answered Failed failed ∷ [])
 AnsweredSo stop.NoMemory calls = (asked : List Asked) × (calls ≡ all_gave asked)
@@ -284,12 +284,22 @@ shard_answered shard old new acts calls end (inr (inr f)) = go f.written f.asks
     go (inl w) asks = batch_answered w.begun f.blocks w.ran.count end calls asks
     go (inr u) asks = none_answered end calls (inr u.ended) asks
 
-pub fed_answered : (shard count : ℕ) (old new : CursorState) (acts : List Act) (calls : List DeviceCall) (end : FeedStop) → AreFed shard count old new acts calls end → AnsweredSo end calls
+fed_answered : (shard count : ℕ) (old new : CursorState) (acts : List Act) (calls : List DeviceCall) (end : FeedStop) → AreFed shard count old new acts calls end → AnsweredSo end calls
 fed_answered shard zero old new acts calls end fed = none_answered end calls (inl fed.2) fed.3
 fed_answered shard (suc n) old new acts calls end (inl ends) = shard_answered shard old new acts calls end ends.1
 fed_answered shard (suc n) old new acts calls end (inr (first, more, between, front, behind, is, asked, one, rest)) =
     let a = shard_answered shard old between first front stop.Done one in
     subst (AnsweredSo end) (ap (λ (l : List DeviceCall). l ++ behind) (sym a.1) ∙ sym asked) (answered_then end a.0 behind (fed_answered (suc shard) n between new more behind end rest))
+
+-- all calls of a feed were done, or all but the last one
+pub fails_last : (shard count : ℕ) (old new : CursorState) (acts : List Act) (calls : List DeviceCall) (end : FeedStop) → AreFed shard count old new acts calls end
+    → ((asked : List Asked) × (calls ≡ all_gave asked)) ⊎ ((done : List Asked) × (last : Asked) × (calls ≡ all_gave done ++ answered Failed last ∷ []))
+fails_last shard count old new acts calls end fed = go end (fed_answered shard count old new acts calls end fed)
+  where
+    go : (e : FeedStop) → AnsweredSo e calls → ((asked : List Asked) × (calls ≡ all_gave asked)) ⊎ ((done : List Asked) × (last : Asked) × (calls ≡ all_gave done ++ answered Failed last ∷ []))
+    go stop.Done so = inl so
+    go stop.DevFault so = inr so
+    go stop.NoMemory so = inl so
 
 pub feed_asks : {D : Type 0} (device : Ghosts D) (shard count : ℕ) (old new : CursorState) (acts : List Act) (calls : List DeviceCall) (end : FeedStop) (a b : D) → MakesDeviceCalls device calls a b → AreFed shard count old new acts calls end → FeedAsks device a b end
 feed_asks device shard count old new acts calls end a b made fed = go end (fed_answered shard count old new acts calls end fed)

@@ -103,7 +103,7 @@ rest_none callers cells (e ∷ rest) numbers own = elim (cases_true (number_of e
   ]
 ]
 
-give_none : (k : Key) (es : List Event) → AllByRecursion GivesNone es → GiveNone k es
+pub give_none : (k : Key) (es : List Event) → AllByRecursion GivesNone es → GiveNone k es
 give_none k [] all y e at = absurd (some-ne-none e (sym at))
 give_none k (x ∷ es) all zero e at = subst (λ (v : Event). gives_place k v ≡ false) (some-injective x e at) (all.0 k)
 give_none k (x ∷ es) all (suc y) e at = give_none k es all.1 y e at

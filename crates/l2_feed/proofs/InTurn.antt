@@ -72,7 +72,7 @@ live_there k x [] live = live
 live_there k x (w ∷ ws) (inl is) = subst (IsLive k x) (sym (turned w ws)) (live_behind k x (reverse ws) (w ∷ []) (inl is))
 live_there k x (w ∷ ws) (inr live) = subst (IsLive k x) (sym (turned w ws)) (live_front k x (reverse ws) (w ∷ []) (live_there k x ws live))
 
-live_back : (k : Key) (x : ℕ) (ws : List Written) → IsLive k x (reverse ws) → IsLive k x ws
+pub live_back : (k : Key) (x : ℕ) (ws : List Written) → IsLive k x (reverse ws) → IsLive k x ws
 live_back k x [] live = live
 live_back k x (w ∷ ws) live = ⊎_elim
     (λ (front : IsLive k x (reverse ws)). inr (live_back k x ws front))
@@ -117,7 +117,7 @@ restored_live k x [] live = live
 restored_live k x (w ∷ ws) (inl is) = inl is
 restored_live k x (w ∷ ws) (inr live) = inr (restored_live k x ws live)
 
-live_restored : (k : Key) (x : ℕ) (ws : List Written) → IsRestoredAt k x (map restored_of ws) → IsLive k x ws
+pub live_restored : (k : Key) (x : ℕ) (ws : List Written) → IsRestoredAt k x (map restored_of ws) → IsLive k x ws
 live_restored k x [] at = at
 live_restored k x (w ∷ ws) (inl is) = inl is
 live_restored k x (w ∷ ws) (inr at) = inr (live_restored k x ws at)
@@ -173,7 +173,7 @@ restored_place s n y x j k d sound ok at = elim (cases_true (key_eq k j)) [
       (taking-places s (Restore n j y d) k sound ok (ap not other))
 ]
 
-restores_give : (g : Config) (n shard : ℕ) (rs : List Restored) (s : PlainShard) (k : Key) (x : ℕ) → IsSound s → IsTrue (is_legal_history s (restores_at g n rs shard)) → place_of k (replay s (restores_at g n rs shard)) ≡ Some x
+pub restores_give : (g : Config) (n shard : ℕ) (rs : List Restored) (s : PlainShard) (k : Key) (x : ℕ) → IsSound s → IsTrue (is_legal_history s (restores_at g n rs shard)) → place_of k (replay s (restores_at g n rs shard)) ≡ Some x
     → (place_of k s ≡ Some x) ⊎ IsRestoredAt k x rs
 restores_give g n shard [] s k x sound ok at = inl at
 restores_give g n shard (r ∷ rs) s k x sound ok at = elim (cases_true (shard_of g.shards r.key == shard)) [

@@ -62,7 +62,7 @@ abbrev pub IsDropped : Key → ℕ → List Live → Type 0
 IsDropped k x [] = ⊥
 IsDropped k x (l ∷ ls) = ((l.key ≡ k) × (l.place ≡ x)) ⊎ IsDropped k x ls
 
-kept_or_dropped : (plan : Plan) (k : Key) (x : ℕ) (ws : List Written) → IsLive k x ws → IsLive k x (filter (stays plan) ws) ⊎ IsDropped k x (map live_of (filter (falls plan) ws))
+pub kept_or_dropped : (plan : Plan) (k : Key) (x : ℕ) (ws : List Written) → IsLive k x ws → IsLive k x (filter (stays plan) ws) ⊎ IsDropped k x (map live_of (filter (falls plan) ws))
 kept_or_dropped plan k x [] live = absurd live
 kept_or_dropped plan k x (w ∷ ws) live = elim (cases_true (stays plan w)) [
   | inl keeps ↦ rw keeps (⊎_elim (λ (is : (w.live.key ≡ k) × (w.live.place ≡ x)). inl (inl is)) (λ (more : IsLive k x ws). ⊎_elim (λ (l : IsLive k x (filter (stays plan) ws)). inl (inr l)) (λ (r : IsDropped k x (map live_of (filter (falls plan) ws))). inr r) (kept_or_dropped plan k x ws more)) live)
@@ -168,7 +168,7 @@ set_live lap place k x (b ∷ bs) (Cleared j y ∷ acts) are among = absurd are
 set_live lap place k x (b ∷ bs) (Absent j y ∷ acts) are among = absurd are
 set_live lap place k x (b ∷ bs) (Refused j y ∷ acts) are among = absurd are
 
-runs_live : (lap hand count : ℕ) (k : Key) (x : ℕ) (bs : List Block) (acts : List Act) (ws : List Written) (left : List Block) → AreRuns lap hand count bs acts ws left → IsAmongActs (Placed k x) acts → IsLive k x ws
+pub runs_live : (lap hand count : ℕ) (k : Key) (x : ℕ) (bs : List Block) (acts : List Act) (ws : List Written) (left : List Block) → AreRuns lap hand count bs acts ws left → IsAmongActs (Placed k x) acts → IsLive k x ws
 runs_live lap hand zero k x bs acts ws left are among = absurd (subst (IsAmongActs (Placed k x)) are.0 among)
 runs_live lap hand (suc n) k x bs acts ws left (some, sets, more, behind, is, entries, set, rest) among =
     subst (IsLive k x) (sym entries) (⊎_elim

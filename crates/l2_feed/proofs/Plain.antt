@@ -99,7 +99,7 @@ answers_two a b later = ap (λ (l : List Call). l ++ later) (map-append (λ (c :
 -- ---- acts
 
 module _ (g : Config) (n : ℕ) where
-  after_two : (s : ℕ → PlainShard) (a b : List Act) → all_after g n s (a ++ b) ≡ all_after g n (all_after g n s a) b
+  pub after_two : (s : ℕ → PlainShard) (a b : List Act) → all_after g n s (a ++ b) ≡ all_after g n (all_after g n s a) b
   after_two s [] b = refl
   after_two s (x ∷ a) b = after_two (shards_after g n s x) a b
 

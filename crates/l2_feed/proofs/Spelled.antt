@@ -1,10 +1,9 @@
 -- That what a feed writes of its own has one spelling: a header by its numbers and pointers, and a log block by the blocks of its run.
-use Rattle.std.proofs.Common.{◌≡◌, Bool, ℕ, ◌+◌, ◌*◌, List, [], ◌∷◌, length, map, take, drop, Option, Some, refl, sym, ap, ◌∙◌, subst, arith}
+use Rattle.std.proofs.Common.{◌≡◌, Bool, ℕ, ◌+◌, ◌*◌, List, [], ◌∷◌, length, map, take, drop, Option, Some, refl, sym, ap, ◌∙◌, subst}
 use Rattle.std.proofs.lemmas.List.{drop-map, length-map, take-map}
-use Rattle.blk_ptr.specs.declared.digest.Digest.{Digest}
 use Rattle.blk_ptr.specs.declared.key.Key.{Key}
 use Rattle.blk_ptr.specs.Ptr.{sha256_of}
-use Rattle.vdev_io.specs.Calls.{Asked, Write}
+use Rattle.vdev_io.specs.Calls.{Write}
 use Rattle.arc_core.specs.declared.entry.Picked.{Picked as Pick_of}
 use Rattle.arc_table.specs.declared.picks.Picked.{Picked as Block}
 use Rattle.l2_log.specs.declared.entry.LogEntry.{LogEntry}

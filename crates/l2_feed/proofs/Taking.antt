@@ -63,7 +63,7 @@ picks_none g n turn j (_ ∷ es) picks y v at = absurd picks
 
 -- ---- the key's own event
 
-placed_only : (x y : ℕ) (o : Option Entry) → option_and_then (λ (e : Entry). e.place) (option_map (placed_at y) o) ≡ Some x → x ≡ y
+pub placed_only : (x y : ℕ) (o : Option Entry) → option_and_then (λ (e : Entry). e.place) (option_map (placed_at y) o) ≡ Some x → x ≡ y
 placed_only x y None at = cc
 placed_only x y (Some e) at = cc
 
@@ -71,7 +71,7 @@ lost_place : (b : Bool) (e : Entry) → option_and_then (λ (f : Entry). f.place
 lost_place true e = refl
 lost_place false e = refl
 
-none_placed : (o : Option Entry) → option_and_then (λ (e : Entry). e.place) (option_and_then without_place o) ≡ None
+pub none_placed : (o : Option Entry) → option_and_then (λ (e : Entry). e.place) (option_and_then without_place o) ≡ None
 none_placed None = refl
 none_placed (Some e) = lost_place (is_same_state e.state L2Only) e
 

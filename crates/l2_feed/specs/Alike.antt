@@ -1,6 +1,6 @@
 -- When two feeds come to the same: what the one wrote the other wrote, so that both leave the device alike.
-use Rattle.std.specs.Prelude.{◌≡◌, ◌≢◌, ◌⊎◌, ℕ, Bool, true, false, List, [], ◌∷◌, map}
-use Rattle.vdev_io.specs.Calls.{Call, DeviceCall, Failed, Gave}
+use Rattle.std.specs.Prelude.{◌≡◌, ◌≢◌, ◌⊎◌, ℕ, List, map}
+use Rattle.vdev_io.specs.Calls.{DeviceCall}
 use Rattle.arc_core.specs.declared.config.Config.{Config}
 use Rattle.arc_core.specs.PlainShard.{PlainShard}
 use Rattle.arc_table.specs.declared.picks.Picked.{Picked as Block}
@@ -12,12 +12,6 @@ use Rattle.l2_feed.specs.Alone.{AreOfShards, pick_of_block}
 use Rattle.l2_feed.specs.Places.{IsAmongActs}
 use Rattle.l2_feed.specs.Plain.{answers_of, bare}
 use Rattle.l2_feed.specs.Shape.{AreFed, NoneRefused}
-
--- a call was answered so that failed
-abbrev pub has_failed : List Call → Bool
-has_failed [] = false
-has_failed (Gave ∷ answers) = has_failed answers
-has_failed (Failed ∷ answers) = true
 
 -- the next feed finds the same ring, and its log blocks and headers name the same log blocks
 pub record AreCursorsAlike (one other : CursorState) : Type 0 where
@@ -35,10 +29,10 @@ pub record PicksTwo (acts others : List Act) : Type 0 where
   pub same : map pick_of_block other_blocks ≡ map pick_of_block blocks
   pub differ : map (λ b. b.block.value) other_blocks ≢ map (λ b. b.block.value) blocks
 
--- They leave alike cursors, and where no call of the device failed, both asked the device for the same, byte by byte.
+-- They leave alike cursors, and both asked the device for the same, byte by byte.
 pub record ComeToOne (new now : CursorState) (calls others : List DeviceCall) : Type 0 where
   pub cursors : AreCursorsAlike new now
-  pub asked : has_failed (answers_of calls) ≡ false → others ≡ calls
+  pub asked : others ≡ calls
 
 -- So it is of two feeds of the same shards, over alike cursors, whose calls were answered the same and for which memory was refused nowhere; or two contents of one digest were picked.
 abbrev pub FeedsComeToOne : Type 0

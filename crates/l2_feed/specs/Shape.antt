@@ -19,7 +19,7 @@ use Rattle.l2_dev.specs.Cursor.{CursorState}
 use Rattle.l2_dev.specs.Planned.{HasPlanned}
 use Rattle.l2_feed.specs.Acts.{Act, Picked, Refused, Unpicked}
 use Rattle.l2_feed.specs.Asking.{BatchCalls, PlanCalls}
-use Rattle.l2_feed.specs.Runs.{AreCleared, AreLeft, AreLogs, AreRuns, batch_len, run_place}
+use Rattle.l2_feed.specs.Runs.{AreCleared, AreLeft, AreLogs, AreRuns, AreWhole, batch_len, run_place}
 
 -- for which reason a key is left where a feed ends so
 abbrev pub why_of : FeedStop → Why
@@ -112,10 +112,11 @@ abbrev pub WrittenCalls : {old new : CursorState} {blocks : List Block} {clears 
 WrittenCalls {blocks = blocks} {end = end} (inl written) calls = BatchCalls written.begun blocks written.ran.count end calls
 WrittenCalls (inr unwritten) calls = calls ≡ []
 
--- a shard of which something was picked
+-- a shard of which something was picked: blocks of their keys' sizes
 pub record FedBatch (shard : ℕ) (old new : CursorState) (acts : List Act) (calls : List DeviceCall) (end : FeedStop) : Type 0 where
   pub blocks : List Block
   pub some : 0 < length blocks
+  pub whole : AreWhole blocks
   pub clears : List Act
   pub settles : List Act
   pub acts_are : acts ≡ Picked shard blocks ∷ (clears ++ settles)

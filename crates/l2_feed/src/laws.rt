@@ -24,7 +24,7 @@ pub fn newest_places_stay<C: Keeps, D: CacheDev>()
 {}
 
 /// Two feeds of the same shards, over rings that are alike, whose calls of the device were answered the same and for which memory was refused nowhere,
-/// leave alike rings, and where no call failed, they asked the device for the same, byte by byte; or two contents of one digest were picked.
+/// asked the device for the same, byte by byte, and leave alike rings; or two contents of one digest were picked.
 pub fn feeds_come_to_one()
     ensures { FeedsComeToOne }
 {}

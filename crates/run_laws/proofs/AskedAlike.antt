@@ -1,19 +1,27 @@
--- What two runs asked the cache device for to one read of a block: over devices that tell the same bytes, and of which the same calls failed, the bytes come from one source, and what the devices tell then is the same.
-use Rattle.std.proofs.Common.{◌≡◌, ℕ, false, List, [], ◌∷◌, ◌++◌, length, Option, Some, None, IfSome, inl, inr, refl, sym, ap, subst, ◌∙◌, arith}
+-- What two runs asked the cache device for to one read of a block: over devices that tell the same bytes at each place that a key has, and of which the same calls failed, the bytes come from one source, and the devices tell then what they told.
+use Rattle.std.proofs.Common.{◌≡◌, ◌+◌, ◌&&◌, ℕ, Bool, true, false, List, [], ◌∷◌, ◌++◌, length, Option, Some, None, IfSome, inl, inr, refl, sym, ap, subst, ◌∙◌, arith}
+use Rattle.std.specs.Prelude.{if◌then◌else◌, nat_le}
 use Rattle.std.specs.List.{AllByRecursion}
+use Rattle.std.specs.Option.{option_and_then, option_map_or}
+use Rattle.blk_ptr.specs.Hash.{shard_of}
+use Rattle.blk_ptr.specs.Order.{digest_eq}
+use Rattle.blk_ptr.specs.Ptr.{sha256_of}
+use Rattle.blk_ptr.specs.declared.digest.Digest.{Digest}
 use Rattle.blk_ptr.specs.declared.ptr.Ptr.{Ptr}
 use Rattle.arc_core.specs.declared.served.Served.{Served}
 use Rattle.arc_core.specs.declared.served.Served.TheVariants as served
-use Rattle.arc_core.specs.PlainShard.{PlainShard}
+use Rattle.arc_core.specs.PlainShard.{PlainShard, entry_of, place_of}
+use Rattle.arc_core.specs.declared.entry.Entry.{Entry}
+use Rattle.arc_table.specs.Fetching.{bytes_from}
 use Rattle.vdev_io.specs.declared.device.CacheDev.{Ghosts as Devices}
 use Rattle.vdev_io.specs.declared.pool.Pool.{Ghosts}
 use Rattle.vdev_io.specs.Calls as io
-use Rattle.vdev_io.specs.Calls.{Asked, Call, Gave, IsToldAfter, MakesDeviceCall, MakesDeviceCalls, answered}
+use Rattle.vdev_io.specs.Calls.{Asked, Call, Failed, Gave, IsToldAfter, MakesDeviceCall, MakesDeviceCalls, answered}
 use Rattle.trace_text.specs.declared.trace.Trace.{Trace}
 use Rattle.trace_run.specs.Effects.{Answered, Effect, GivenBack, NoEffect, PoolRefused}
 use Rattle.trace_run.specs.Read.{IsFromPool}
-use Rattle.trace_run.specs.one_caller.Access.{access_of}
-use Rattle.trace_run.specs.one_caller.Asking.{AsksBlock, AsksRead, CameFromDevice, NamesServed, answered_all, asked_by_read, next_call, place_asked, read_on, serves, source_at, source_of}
+use Rattle.trace_run.specs.one_caller.Access.{Access, Hit, Miss, Past, access_of}
+use Rattle.trace_run.specs.one_caller.Asking.{AsksBlock, AsksRead, CameFromDevice, NamesServed, answered_all, asked_by_read, next_call, place_asked, place_in, place_on, read_on, serves, source_at, source_of}
 use Rattle.trace_run.specs.one_caller.OneCaller.{NamesSource}
 use Rattle.trace_run.specs.one_caller.Sequence.{IfLent, NotFromDevice}
 use Rattle.trace_run.proofs.one_caller.AlonePlainLemmas.{named-pool}
@@ -129,6 +137,42 @@ not-device GivenBack none came = came
 not-device (PoolRefused call) none came = came
 not-device NoEffect none came = came
 
+-- ---- where it is asked
+
+-- a read asks a device only at the place that the key has
+asked-place : (size : ℕ) (s : PlainShard) (ptr : Ptr) (place : ℕ) → place_asked size ptr s ≡ Some place → place_of ptr.key s ≡ Some place
+asked-place size s ptr place is = by-access (access_of s ptr) is
+  where
+    by-range : (b : Bool) (at : ℕ) → (if b then Some at else None) ≡ Some place → ◌≡◌ {A = Option ℕ} (Some at) (Some place)
+    by-range true at is = is
+    by-range false at is = cc
+
+    by-place : (known : Option Digest) (o : Option ℕ) → option_and_then (place_in size ptr known) o ≡ Some place → o ≡ Some place
+    by-place known None is = cc
+    by-place known (Some at) is = by-range (nat_le (at + ptr.key.size) size && option_map_or (λ d. digest_eq d ptr.digest) known true) at is
+
+    by-entry : (o : Option Entry) → option_and_then (λ (e : Entry). option_and_then (place_in size ptr e.digest) e.place) o ≡ Some place → option_and_then (λ (e : Entry). e.place) o ≡ Some place
+    by-entry None is = cc
+    by-entry (Some e) is = by-place e.digest e.place is
+
+    by-access : (a : Access) → place_on size ptr s a ≡ Some place → place_of ptr.key s ≡ Some place
+    by-access Hit is = cc
+    by-access (Past kept) is = cc
+    by-access Miss is = by-entry (entry_of ptr.key s) is
+
+-- so images that are the same there serve it alike
+source-same : (size : ℕ) (image other : List ℕ) (s : PlainShard) (ptr : Ptr) (call : Call) → ((place : ℕ) → place_of ptr.key s ≡ Some place → bytes_from other place ptr.key ≡ bytes_from image place ptr.key)
+    → source_at size other s ptr call ≡ source_at size image s ptr call
+source-same size image other s ptr call same = ap (λ (b : Bool). source_of (access_of s ptr) b) (go (place_asked size ptr s) refl)
+  where
+    serve : (place : ℕ) (c : Call) → place_of ptr.key s ≡ Some place → serves other ptr (Some place) c ≡ serves image ptr (Some place) c
+    serve place Failed at = refl
+    serve place Gave at = ap (λ (bytes : List ℕ). digest_eq (sha256_of bytes) ptr.digest) (same place at)
+
+    go : (o : Option ℕ) → place_asked size ptr s ≡ o → serves other ptr o call ≡ serves image ptr o call
+    go None is = refl
+    go (Some place) is = serve place call (asked-place size s ptr place is)
+
 module _ {P D : Type 0} (pools : Ghosts P) (devices : Devices D) (trace : Trace) where
   -- what a device was asked for to a read of a block, or to a line that reads none, and how the calls were answered
   abbrev pub AsksByCalls : PlainShard → Option Ptr → Effect → (old new : D) → Type 0
@@ -138,57 +182,60 @@ module _ {P D : Type 0} (pools : Ghosts P) (devices : Devices D) (trace : Trace)
   block_answers s there e old new asks = lent_answers (NotFromDevice e) (AsksByCalls s there e) (λ old new asks. asks.0) old new asks
 
   -- the bytes of one block come from one source in both runs, whose shards are the same
-  pub source-alike : (ptr : Ptr) (s z : PlainShard) (e f : Effect) → z ≡ s → NamesSource (access_of s ptr) e → NamesSource (access_of z ptr) f → (old new other other_new : Option D)
-      → AreDevicesAlike pools devices trace old other → (asks : IfLent (NotFromDevice e) (AsksByCalls s (Some ptr) e) old new) → (other_asks : IfLent (NotFromDevice f) (AsksByCalls z (Some ptr) f) other other_new)
+  pub source-alike : (shards : ℕ → PlainShard) (ptr : Ptr) (s z : PlainShard) (e f : Effect) → s ≡ shards (shard_of trace.config.shards ptr.key) → z ≡ s → NamesSource (access_of s ptr) e → NamesSource (access_of z ptr) f → (old new other other_new : Option D)
+      → AreDevicesAlike pools devices trace shards old other → (asks : IfLent (NotFromDevice e) (AsksByCalls s (Some ptr) e) old new) → (other_asks : IfLent (NotFromDevice f) (AsksByCalls z (Some ptr) f) other other_new)
       → AreAlikeSoFar (block_answers s (Some ptr) e old new asks) (block_answers z (Some ptr) f other other_new other_asks) → (source : Served) × NamesServed source e × NamesServed source f
-  source-alike ptr s z e f same named other_named None None None None alike asks other_asks rows = (
+  source-alike shards ptr s z e f here same named other_named None None None None alike asks other_asks rows = (
     source_of (access_of s ptr) false,
     named-pool (access_of s ptr) e named (not-device e asks),
     named-pool (access_of s ptr) f (subst (λ (x : PlainShard). NamesSource (access_of x ptr) f) same other_named) (not-device f other_asks),
   )
-  source-alike ptr s z e f same named other_named None None None (Some y) alike asks other_asks rows = absurd other_asks
-  source-alike ptr s z e f same named other_named None None (Some x) other_new alike asks other_asks rows = absurd alike
-  source-alike ptr s z e f same named other_named None (Some x) other other_new alike asks other_asks rows = absurd asks
-  source-alike ptr s z e f same named other_named (Some x) None other other_new alike asks other_asks rows = absurd asks
-  source-alike ptr s z e f same named other_named (Some x) (Some y) None other_new alike asks other_asks rows = absurd alike
-  source-alike ptr s z e f same named other_named (Some x) (Some y) (Some v) None alike asks other_asks rows = absurd other_asks
-  source-alike ptr s z e f same named other_named (Some x) (Some y) (Some v) (Some w) alike asks other_asks rows =
-      let image : List ℕ = alike.1.0 in
+  source-alike shards ptr s z e f here same named other_named None None None (Some y) alike asks other_asks rows = absurd other_asks
+  source-alike shards ptr s z e f here same named other_named None None (Some x) other_new alike asks other_asks rows = absurd alike
+  source-alike shards ptr s z e f here same named other_named None (Some x) other other_new alike asks other_asks rows = absurd asks
+  source-alike shards ptr s z e f here same named other_named (Some x) None other other_new alike asks other_asks rows = absurd asks
+  source-alike shards ptr s z e f here same named other_named (Some x) (Some y) None other_new alike asks other_asks rows = absurd alike
+  source-alike shards ptr s z e f here same named other_named (Some x) (Some y) (Some v) None alike asks other_asks rows = absurd other_asks
+  source-alike shards ptr s z e f here same named other_named (Some x) (Some y) (Some v) (Some w) alike asks other_asks rows =
       let size : ℕ = devices.size x in
-      let told : TellsImage devices size image x = (refl, alike.1.1) in
-      let other_told : TellsImage devices size image v = (alike.0, alike.1.2) in
-      both-named size image s ptr e f asks.0 other_asks.0 (read-many devices size image s ptr e asks.0 x y told asks.1)
-      (subst (λ (k : PlainShard). length other_asks.0 ≡ length (asked_by_read size k ptr f)) same (read-many devices size image z ptr f other_asks.0 v w other_told other_asks.1))
-      (read-named devices size image s ptr e asks.0 x y told asks.1)
-      (subst (λ (k : PlainShard). NamesServed (source_at size image k ptr (next_call other_asks.0)) f) same (read-named devices size image z ptr f other_asks.0 v w other_told other_asks.1)) rows
+      let told : TellsImage devices size alike.image x = (refl, alike.told) in
+      let other_told : TellsImage devices size alike.other_image v = (alike.size, alike.other_told) in
+      let there : (place : ℕ) → place_of ptr.key s ≡ Some place → bytes_from alike.other_image place ptr.key ≡ bytes_from alike.image place ptr.key = λ place at. alike.places ptr.key place (sym (ap (place_of ptr.key) here) ∙ at) in
+      let its : NamesServed (source_at size alike.other_image s ptr (next_call other_asks.0)) f =
+      subst (λ (k : PlainShard). NamesServed (source_at size alike.other_image k ptr (next_call other_asks.0)) f) same (read-named devices size alike.other_image z ptr f other_asks.0 v w other_told other_asks.1) in
+      both-named size alike.image s ptr e f asks.0 other_asks.0 (read-many devices size alike.image s ptr e asks.0 x y told asks.1)
+      (subst (λ (k : PlainShard). length other_asks.0 ≡ length (asked_by_read size k ptr f)) same (read-many devices size alike.other_image z ptr f other_asks.0 v w other_told other_asks.1))
+      (read-named devices size alike.image s ptr e asks.0 x y told asks.1)
+      (subst (λ (source : Served). NamesServed source f) (source-same size alike.image alike.other_image s ptr (next_call other_asks.0) there) its) rows
 
   -- of one effect, both were asked and answered the same
-  calls-same : (size : ℕ) (image : List ℕ) (s z : PlainShard) (there : Option Ptr) (e f : Effect) → z ≡ s → f ≡ e → (x y v w : D) → TellsImage devices size image x → TellsImage devices size image v
+  calls-same : (size : ℕ) (image other_image : List ℕ) (s z : PlainShard) (there : Option Ptr) (e f : Effect) → z ≡ s → f ≡ e → (x y v w : D) → TellsImage devices size image x → TellsImage devices size other_image v
       → (asks : AsksByCalls s there e x y) → (other_asks : AsksByCalls z there f v w) → AreAlikeSoFar asks.0 other_asks.0 → other_asks.0 ≡ asks.0
-  calls-same size image s z None e f same one x y v w told other_told asks other_asks rows = other_asks.1.0 ∙ sym asks.1.0
-  calls-same size image s z (Some ptr) e f same one x y v w told other_told asks other_asks rows =
+  calls-same size image other_image s z None e f same one x y v w told other_told asks other_asks rows = other_asks.1.0 ∙ sym asks.1.0
+  calls-same size image other_image s z (Some ptr) e f same one x y v w told other_told asks other_asks rows =
       let many : length asks.0 ≡ length (asked_by_read size s ptr e) = read-many devices size image s ptr e asks.0 x y told asks.1 in
-      let other_many : length other_asks.0 ≡ length (asked_by_read size z ptr f) = read-many devices size image z ptr f other_asks.0 v w other_told other_asks.1 in
+      let other_many : length other_asks.0 ≡ length (asked_by_read size z ptr f) = read-many devices size other_image z ptr f other_asks.0 v w other_told other_asks.1 in
       let both : length (asked_by_read size z ptr f) ≡ length (asked_by_read size s ptr e) = λ h. length (asked_by_read size (same h) ptr (one h)) in
       sym (so-far-same asks.0 other_asks.0 (many ∙ sym (other_many ∙ both)) rows)
 
-  -- and so they tell the same behind it
-  pub asked-alike : (there : Option Ptr) (s z : PlainShard) (e f : Effect) → z ≡ s → f ≡ e → (old new other other_new : Option D) → AreDevicesAlike pools devices trace old other
+  -- and so they tell what they told behind it
+  pub asked-alike : (shards : ℕ → PlainShard) (there : Option Ptr) (s z : PlainShard) (e f : Effect) → z ≡ s → f ≡ e → (old new other other_new : Option D) → AreDevicesAlike pools devices trace shards old other
       → (asks : IfLent (NotFromDevice e) (AsksByCalls s there e) old new) → (other_asks : IfLent (NotFromDevice f) (AsksByCalls z there f) other other_new)
       → AreAlikeSoFar (block_answers s there e old new asks) (block_answers z there f other other_new other_asks)
-      → (block_answers z there f other other_new other_asks ≡ block_answers s there e old new asks) × AreDevicesAlike pools devices trace new other_new
-  asked-alike there s z e f same one None None None None alike asks other_asks rows = (refl, tt)
-  asked-alike there s z e f same one None None None (Some y) alike asks other_asks rows = absurd other_asks
-  asked-alike there s z e f same one None None (Some x) other_new alike asks other_asks rows = absurd alike
-  asked-alike there s z e f same one None (Some x) other other_new alike asks other_asks rows = absurd asks
-  asked-alike there s z e f same one (Some x) None other other_new alike asks other_asks rows = absurd asks
-  asked-alike there s z e f same one (Some x) (Some y) None other_new alike asks other_asks rows = absurd alike
-  asked-alike there s z e f same one (Some x) (Some y) (Some v) None alike asks other_asks rows = absurd other_asks
-  asked-alike there s z e f same one (Some x) (Some y) (Some v) (Some w) alike asks other_asks rows =
-      let image : List ℕ = alike.1.0 in
+      → (block_answers z there f other other_new other_asks ≡ block_answers s there e old new asks) × AreDevicesAlike pools devices trace shards new other_new
+  asked-alike shards there s z e f same one None None None None alike asks other_asks rows = (refl, tt)
+  asked-alike shards there s z e f same one None None None (Some y) alike asks other_asks rows = absurd other_asks
+  asked-alike shards there s z e f same one None None (Some x) other_new alike asks other_asks rows = absurd alike
+  asked-alike shards there s z e f same one None (Some x) other other_new alike asks other_asks rows = absurd asks
+  asked-alike shards there s z e f same one (Some x) None other other_new alike asks other_asks rows = absurd asks
+  asked-alike shards there s z e f same one (Some x) (Some y) None other_new alike asks other_asks rows = absurd alike
+  asked-alike shards there s z e f same one (Some x) (Some y) (Some v) None alike asks other_asks rows = absurd other_asks
+  asked-alike shards there s z e f same one (Some x) (Some y) (Some v) (Some w) alike asks other_asks rows =
       let size : ℕ = devices.size x in
-      let told : TellsImage devices size image x = (refl, alike.1.1) in
-      let other_told : TellsImage devices size image v = (alike.0, alike.1.2) in
-      let behind = block-told devices size image s there e asks.0 x y told asks.1 in
-      let other_behind = block-told devices size image z there f other_asks.0 v w other_told other_asks.1 in
-      (calls-same size image s z there e f same one x y v w told other_told asks other_asks rows, (other_behind.0 ∙ sym behind.0, (image, behind.1, other_behind.1)))
+      let told : TellsImage devices size alike.image x = (refl, alike.told) in
+      let other_told : TellsImage devices size alike.other_image v = (alike.size, alike.other_told) in
+      let behind = block-told devices size alike.image s there e asks.0 x y told asks.1 in
+      let other_behind = block-told devices size alike.other_image z there f other_asks.0 v w other_told other_asks.1 in (
+        calls-same size alike.image alike.other_image s z there e f same one x y v w told other_told asks other_asks rows,
+        record { size = other_behind.0 ∙ sym behind.0; image = alike.image; other_image = alike.other_image; told = behind.1; other_told = other_behind.1; long = alike.long; places = alike.places },
+      )

@@ -1,8 +1,8 @@
 -- A trace that was read from a text is formed, with the bound of a feed that its device gives too.
-use Rattle.std.proofs.Common.{◌≡◌, ◌≤◌, ℕ, Bool, true, false, List, min, nat_lt, if◌then◌else◌, ◌-◌, ◌/◌, ◌^◌, sym, ap, subst, inl, inr, arith}
+use Rattle.std.proofs.Common.{◌≡◌, ◌≤◌, ℕ, Bool, min, nat_lt, if◌then◌else◌, ◌-◌, ◌/◌, ◌^◌, sym, ap, subst, inl, inr, arith}
 use Rattle.std.proofs.lemmas.Bool.{cases_Bool}
 use Rattle.std.proofs.lemmas.Bool.Decides.{nat_tests}
-use Rattle.arc_core.specs.Config.{AreAmounts, AreBounds, AreCounts, IsConfig, IsFromTo}
+use Rattle.arc_core.specs.Config.{IsFromTo}
 use Rattle.l2_dev.specs.Rebuilding.{ring_end_of}
 use Rattle.l2_log.specs.Rules.{least_ring_end, ring_start}
 use Rattle.trace_text.specs.Grammar.{IsFormed}

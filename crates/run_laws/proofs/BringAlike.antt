@@ -288,7 +288,7 @@ module _ {P D : Type 0} (pools : Ghosts P) (devices : Devices D) (trace : Trace)
   abbrev pub shard_in : (ℕ → PlainShard) → Ptr → PlainShard
   shard_in s ptr = s (shard_of trace.config.shards ptr.key)
 
-  module _ (s z : ℕ → PlainShard) (same : (shard : ℕ) → z shard ≡ s shard) (old new other other_new : Option D) (alike : AreDevicesAlike pools devices trace old other) where
+  module _ (s z : ℕ → PlainShard) (same : (shard : ℕ) → z shard ≡ s shard) (old new other other_new : Option D) (alike : AreDevicesAlike pools devices trace s old other) where
     -- one source of a block that both lines read
     one-of : (ptr p : Ptr) → p ≡ ptr → (e f : Effect) → NamesSource (access_of (shard_in s ptr) ptr) e → NamesSource (access_of (shard_in z p) p) f
         → (asks : IfLent (NotFromDevice e) (AsksByCalls pools devices trace (shard_in s ptr) (Some ptr) e) old new) → (other_asks : IfLent (NotFromDevice f) (AsksByCalls pools devices trace (shard_in z p) (Some p) f) other other_new)
@@ -300,7 +300,7 @@ module _ {P D : Type 0} (pools : Ghosts P) (devices : Devices D) (trace : Trace)
         → AreAlikeSoFar (block_answers pools devices trace (shard_in s ptr) (Some ptr) e old new asks) (block_answers pools devices trace (shard_in z x) (Some x) f other other_new other_asks)
         → (source : Served) × NamesServed source e × NamesServed source f)
         (sym is)
-        (λ its_named its_asks its_rows. source-alike pools devices trace ptr (shard_in s ptr) (shard_in z ptr) e f (same (shard_of trace.config.shards ptr.key)) named its_named old new other other_new alike asks its_asks its_rows)
+        (λ its_named its_asks its_rows. source-alike pools devices trace s ptr (shard_in s ptr) (shard_in z ptr) e f refl (same (shard_of trace.config.shards ptr.key)) named its_named old new other other_new alike asks its_asks its_rows)
         other_named other_asks rows
 
     -- one source, which both lines name
@@ -327,11 +327,11 @@ module _ {P D : Type 0} (pools : Ghosts P) (devices : Devices D) (trace : Trace)
 
     -- where nothing was brought no device was asked
     unasked-alike : (r : Reply) → (asks : AsksToBring s Nothing r old new) → (other_asks : AsksToBring z Nothing r other other_new)
-        → (bringing_row z Nothing r other other_new other_asks ≡ bringing_row s Nothing r old new asks) × AreDevicesAlike pools devices trace new other_new
+        → (bringing_row z Nothing r other other_new other_asks ≡ bringing_row s Nothing r old new asks) × AreDevicesAlike pools devices trace s new other_new
     unasked-alike r asks other_asks = go old new other other_new alike asks other_asks
       where
-        go : (old new other other_new : Option D) → AreDevicesAlike pools devices trace old other → (asks : AsksToBring s Nothing r old new) → (other_asks : AsksToBring z Nothing r other other_new)
-            → (bringing_row z Nothing r other other_new other_asks ≡ bringing_row s Nothing r old new asks) × AreDevicesAlike pools devices trace new other_new
+        go : (old new other other_new : Option D) → AreDevicesAlike pools devices trace s old other → (asks : AsksToBring s Nothing r old new) → (other_asks : AsksToBring z Nothing r other other_new)
+            → (bringing_row z Nothing r other other_new other_asks ≡ bringing_row s Nothing r old new asks) × AreDevicesAlike pools devices trace s new other_new
         go None None None None alike asks other_asks = (refl, tt)
         go None None None (Some y) alike asks other_asks = absurd other_asks
         go None None (Some x) other_new alike asks other_asks = absurd alike
@@ -339,24 +339,24 @@ module _ {P D : Type 0} (pools : Ghosts P) (devices : Devices D) (trace : Trace)
         go (Some x) None other other_new alike asks other_asks = absurd asks
         go (Some x) (Some y) None other_new alike asks other_asks = absurd alike
         go (Some x) (Some y) (Some v) None alike asks other_asks = absurd other_asks
-        go (Some x) (Some y) (Some v) (Some w) alike asks other_asks = (refl, subst (λ (d : D × D). AreDevicesAlike pools devices trace (Some d.0) (Some d.1)) (λ h. (sym asks h, sym other_asks h)) alike)
+        go (Some x) (Some y) (Some v) (Some w) alike asks other_asks = (refl, subst (λ (d : D × D). AreDevicesAlike pools devices trace s (Some d.0) (Some d.1)) (λ h. (sym asks h, sym other_asks h)) alike)
 
     row-same : (r : Reply) (b : Brought) → (asks : AsksToBring s b r old new) → (other_asks : AsksToBring z b r other other_new) → AreAlikeSoFar (bringing_row s b r old new asks) (bringing_row z b r other other_new other_asks)
-        → (bringing_row z b r other other_new other_asks ≡ bringing_row s b r old new asks) × AreDevicesAlike pools devices trace new other_new
+        → (bringing_row z b r other other_new other_asks ≡ bringing_row s b r old new asks) × AreDevicesAlike pools devices trace s new other_new
     row-same r Nothing asks other_asks rows = unasked-alike r asks other_asks
     row-same r (Loaded ptr from) asks other_asks rows =
-        asked-alike pools devices trace (Some ptr) (shard_in s ptr) (shard_in z ptr) (Answered from) (Answered from) (same (shard_of trace.config.shards ptr.key)) refl old new other other_new alike asks other_asks rows
+        asked-alike pools devices trace s (Some ptr) (shard_in s ptr) (shard_in z ptr) (Answered from) (Answered from) (same (shard_of trace.config.shards ptr.key)) refl old new other other_new alike asks other_asks rows
     row-same r (Refused ptr) asks other_asks rows =
-        asked-alike pools devices trace (Some ptr) (shard_in s ptr) (shard_in z ptr) (effect_of r) (effect_of r) (same (shard_of trace.config.shards ptr.key)) refl old new other other_new alike asks other_asks rows
+        asked-alike pools devices trace s (Some ptr) (shard_in s ptr) (shard_in z ptr) (effect_of r) (effect_of r) (same (shard_of trace.config.shards ptr.key)) refl old new other other_new alike asks other_asks rows
 
     -- both asked the device the same, and so it tells the same behind it
     pub device-same : (b c : Brought) (r q : Reply) → c ≡ b → q ≡ r → (asks : AsksToBring s b r old new) → (other_asks : AsksToBring z c q other other_new)
         → AreAlikeSoFar (bringing_row s b r old new asks) (bringing_row z c q other other_new other_asks)
-        → (bringing_row z c q other other_new other_asks ≡ bringing_row s b r old new asks) × AreDevicesAlike pools devices trace new other_new
+        → (bringing_row z c q other other_new other_asks ≡ bringing_row s b r old new asks) × AreDevicesAlike pools devices trace s new other_new
     device-same b c r q one reply asks other_asks rows =
         subst
         (λ (x : Brought × Reply). (other_asks : AsksToBring z x.0 x.1 other other_new) → AreAlikeSoFar (bringing_row s b r old new asks) (bringing_row z x.0 x.1 other other_new other_asks)
-        → (bringing_row z x.0 x.1 other other_new other_asks ≡ bringing_row s b r old new asks) × AreDevicesAlike pools devices trace new other_new)
+        → (bringing_row z x.0 x.1 other other_new other_asks ≡ bringing_row s b r old new asks) × AreDevicesAlike pools devices trace s new other_new)
         (λ h. (sym one h, sym reply h)) (row-same r b asks) other_asks rows
 
 -- ---- both lines come to one outcome
@@ -392,7 +392,7 @@ unless-no-read (Some refusals.NoMemory) = tt
 pub no-read : (reply : Reply) → TellsRefusal reply → IsNoRead (effect_of reply)
 no-read reply tells = subst IsNoRead (sym tells) (unless-no-read (refusal_of reply))
 
-module _ {P D : Type 0} (pools : Ghosts P) (devices : Devices D) (trace : Trace) (s z : ℕ → PlainShard) (same : (shard : ℕ) → z shard ≡ s shard) (old new other other_new : Option D) (alike : AreDevicesAlike pools devices trace old other) where
+module _ {P D : Type 0} (pools : Ghosts P) (devices : Devices D) (trace : Trace) (s z : ℕ → PlainShard) (same : (shard : ℕ) → z shard ≡ s shard) (old new other other_new : Option D) (alike : AreDevicesAlike pools devices trace s old other) where
   -- Two lines that ask for the bytes of one block, over shards and devices that are alike, of whose calls the same failed: the same block is brought, or none, and both are answered, or refused for one cause.
   pub brought-alike : (image : List ℕ) (limit : ℕ) (opening : List Mapping) (front : List CellEvent) (at : Oid) (last : ℕ) (b c : Brought) (r q : Reply) → TellsRefusal r → TellsRefusal q
       → AsksSo image limit opening front at last b (refusal_of r) → AsksSo image limit opening front at last c (refusal_of q) → IsKeptValid image at (outline_after limit opening front)

@@ -1,4 +1,4 @@
--- Two feeds of the same shards over alike cursors, of which the same calls failed: they make the same events, leave alike cursors and have the same report, and where no call failed they asked the device for the same; or they picked two
+-- Two feeds of the same shards over alike cursors, of which the same calls failed: they make the same events, leave alike cursors and have the same report, and they asked the device for the same; or they picked two
 -- contents of one digest (l2arc_feed_thread for a single thread).
 use Rattle.std.proofs.Common.{◌≡◌, ◌≢◌, ◌⊎◌, ◌==◌, ℕ, true, false, if◌then◌else◌, List, [], ◌∷◌, ◌++◌, map, refl, sym, ap, ◌∙◌, inl, inr, append-nil}
 use Rattle.std.proofs.lemmas.Bool.{cases_Bool}
@@ -11,7 +11,7 @@ use Rattle.l2_dev.specs.declared.report.FeedReport.{FeedReport}
 use Rattle.l2_dev.specs.declared.report.FeedStop.{FeedStop}
 use Rattle.l2_dev.specs.declared.report.FeedStop.TheVariants as stop
 use Rattle.l2_feed.specs.Acts.{Act, Absent, Cleared, Left, Picked, Placed, Refused, Unpicked}
-use Rattle.l2_feed.specs.Alike.{AreCursorsAlike, PicksTwo, has_failed}
+use Rattle.l2_feed.specs.Alike.{AreCursorsAlike, PicksTwo}
 use Rattle.l2_feed.specs.Alone.{events_at}
 use Rattle.l2_feed.specs.Plain.{IsPlainFeed, PlainFed, all_after, answers_of, bare, fed_of, report_of, told_of}
 use Rattle.l2_feed.specs.Shape.{IsRefusal, NoneRefused}
@@ -133,7 +133,7 @@ end-known stop.Done = inr (λ is. absurd (let clash : stop.Done ≡ stop.NoMemor
 end-known stop.DevFault = inr (λ is. absurd (let clash : stop.DevFault ≡ stop.NoMemory = is in cc))
 
 -- memory was refused for the feed or for a place in it, or it is the plain one of its shards
-plain-known : (feed : FeedDone) → WantsMemory (feed ∷ []) ⊎ ((feed.report.end ≢ stop.NoMemory) × NoneRefused feed.acts)
+pub plain-known : (feed : FeedDone) → WantsMemory (feed ∷ []) ⊎ ((feed.report.end ≢ stop.NoMemory) × NoneRefused feed.acts)
 plain-known feed = elim (end-known feed.report.end) [
   | inl is ↦ inl (record { place = 0; feed = feed; at = refl; wants = inl is })
   | inr other ↦ elim (none-known feed.acts) [
@@ -146,7 +146,8 @@ plain-known feed = elim (end-known feed.report.end) [
 pub record AreFedAlike (g : Config) (feed fed : FeedDone) : Type 0 where
   pub used : AreUsedAlike g g.callers feed.acts fed.acts feed.calls fed.calls feed.after.ring fed.after.ring feed.report fed.report
   pub cursors : AreCursorsAlike feed.after fed.after
-  pub calls : has_failed (answers_of feed.calls) ≡ false → fed.calls ≡ feed.calls
+  pub calls : fed.calls ≡ feed.calls
+  pub plain : (feed.report.end ≢ stop.NoMemory) × NoneRefused feed.acts
 
 -- both are the plain one, so what they wrote is one too; or they picked two contents of one digest
 plain-alike : (g : Config) (s : ℕ → PlainShard) (feed fed : FeedDone) → IsFeedHere g s feed → IsFeedHere g s fed → IsFeedOf g.shards feed → IsFeedOf g.shards fed → AreCursorsAlike feed.before fed.before
@@ -155,7 +156,7 @@ plain-alike g s feed fed one other shape other_shape cursors alike plain other_p
     let used = used-alike g g.callers s feed.before.ring fed.before.ring feed.after.ring fed.after.ring feed.acts fed.acts feed.calls fed.calls feed.report fed.report cursors.ring (one.plain plain.0 plain.1) (other.plain other_plain.0 other_plain.1) alike in
     elim (come_to_one g g.callers s feed.before feed.after fed.before fed.after feed.acts fed.acts feed.calls fed.calls feed.report.end fed.report.end shape.fed other_shape.fed one.of_shards other.of_shards
     plain.0 other_plain.0 plain.1 other_plain.1 cursors used.answers) [
-      | inl come ↦ inl (record { used = used; cursors = come.cursors; calls = come.asked })
+      | inl come ↦ inl (record { used = used; cursors = come.cursors; calls = come.asked; plain = plain })
       | inr two ↦ inr two
     ]
 

@@ -2,6 +2,7 @@
 use Rattle.std.proofs.Common.{◌≡◌, ℕ, zero, suc, List, [], ◌∷◌, ◌++◌, length, take, Option, None, Some, refl, sym, ap, ◌∙◌, subst, inl, inr, append-nil, arith}
 use Rattle.std.specs.Prelude.{◌⊎◌, slice_get}
 use Rattle.std.proofs.lemmas.Option.{slice_get_within}
+use Rattle.arc_core.specs.Config.{IsConfig}
 use Rattle.arc_core.specs.declared.event.Event.{Event}
 use Rattle.arc_table.specs.Geometry.{IsCell, cell_number}
 use Rattle.dbuf_state.specs.Outline.{outline_after}
@@ -28,6 +29,7 @@ use Rattle.trace_run.specs.one_caller.OneCaller.{events_of_drops}
 use Rattle.trace_run.specs.one_caller.Sequence.{BetweenLines, DoesAnyLine, DoesSync, EndsThere, outline_behind}
 use Rattle.trace_run.proofs.callers.GroupLists.{some-same}
 use Rattle.run_laws.specs.Alike.{AreAlikeSoFar, BeginAlike, ComeToTheSame, FailAlike, MayPart, OneRun, SameUpTo, HoldsFewer, answers_at_stop, at_stop, before_close as fewer_before_close, begun, done_to, front_at, front_last, pool_answers_to, shard_closing, fewer as may_fewer}
+use Rattle.run_laws.proofs.Begins.{start-same}
 use Rattle.run_laws.proofs.Closing.{EndAlike, close-alike}
 use Rattle.run_laws.proofs.EndedOrder.{SomeHoldsFewer, drops-or}
 use Rattle.run_laws.proofs.Facts.{AreCachedValid, AreSettled, OfEachLine}
@@ -119,13 +121,13 @@ module _ {P D : Type 0} (pools : Ghosts P) (devices : Devices D) (pool_len : (p 
   sync-line ops.Feed is = let clash : Feeds ≡ Syncs = is in cc
   sync-line (ops.Cap c) is = let clash : Caps ≡ Syncs = is in cc
 
-  syncs-steps : StepsAlike pools devices trace (IsKnown pools devices trace) Syncs
-  syncs-steps (ops.Txg t) is r q v w here there from to other other_to did other_did a b c d both =
-      elim (sync-step pools devices trace t r q v w here there from to other other_to did other_did both.holds.fits.brought both.other_holds.fits.brought both.alike) [
+  syncs-steps : IsConfig trace.config → StepsAlike pools devices trace (IsKnown pools devices trace) Syncs
+  syncs-steps valid (ops.Txg t) is r q v w here there from to other other_to did other_did a b c d both =
+      elim (sync-step pools devices trace t r q v w here there from to other other_to did other_did both.holds.fits.brought both.other_holds.fits.brought valid both.holds.legal both.alike) [
         | inl step ↦ inl (step, unfed-cursors here there a b c d did.0 other_did.0 both.feeds both.other_feeds both.cursors)
         | inr parts ↦ inr parts
       ]
-  syncs-steps op is r q v w here there from to other other_to did other_did a b c d both = absurd (sync-line op is)
+  syncs-steps valid op is r q v w here there from to other other_to did other_did a b c d both = absurd (sync-line op is)
 
   -- ---- one run goes on where the other stopped
 
@@ -171,13 +173,13 @@ module _ {P D : Type 0} (pools : Ghosts P) (devices : Devices D) (pool_len : (p 
 
   module _ (formed : IsFormed trace) (shown : IsShown pools devices trace) where
     known-steps : (kind : Kind) → StepsAlike pools devices trace (IsKnown pools devices trace) kind
-    known-steps Reads = reads-steps pools devices pool_len trace (IsKnown pools devices trace)
+    known-steps Reads = reads-steps pools devices pool_len trace (IsKnown pools devices trace) formed.config (λ l from to known. known.legal)
     known-steps Objects = shown.objects
-    known-steps Feeds = feeds-steps pools devices pool_len trace (IsKnown pools devices trace) (λ l from to known. known.fits)
-    known-steps Syncs = syncs-steps
-    known-steps Caps = caps-steps pools devices pool_len trace (IsKnown pools devices trace) (λ l from to known. known.fits)
+    known-steps Feeds = feeds-steps pools devices pool_len trace (IsKnown pools devices trace) formed.config (λ l from to known. known.legal) (λ l from to known. known.fits)
+    known-steps Syncs = syncs-steps formed.config
+    known-steps Caps = caps-steps pools devices pool_len trace (IsKnown pools devices trace) formed.config (λ l from to known. known.legal) (λ l from to known. known.fits)
 
-    module _ (one other : OneRun pools devices trace) (begin : BeginAlike pools devices trace one other) where
+    module _ (one other : OneRun pools devices trace) (begin : BeginAlike pools devices trace one other) (fail : FailAlike pools devices trace one other) where
       abbrev SameOrParts : Type 0
       SameOrParts = ComeToTheSame pools devices trace one other ⊎ MayPart pools devices trace one other
 
@@ -241,7 +243,7 @@ module _ {P D : Type 0} (pools : Ghosts P) (devices : Devices D) (pool_len : (p 
 
         close : StopsSame → SameOrParts
         close last = elim (close-or last) [
-          | inl dropped ↦ inl (close-alike pools devices trace one other (last-same last dropped) begin.found)
+          | inl dropped ↦ inl (close-alike pools devices trace one other (last-same last dropped) (start-same pools devices trace one other begin fail).found)
           | inr s ↦ inr (fewer-last last s)
         ]
 
@@ -259,8 +261,8 @@ module _ {P D : Type 0} (pools : Ghosts P) (devices : Devices D) (pool_len : (p 
       come (one_further g) = absurd (further-part other one (answers_at_stop one.ending one.run.work.stopped) g)
       come (parted p) = inr (parts-may pools devices trace one other formed.config p)
 
-      come-so : FailAlike pools devices trace one other → SameOrParts
-      come-so fail = come (runs-come pools devices pool_len trace one other begin (IsKnown pools devices trace) (shown.known one begin.image begin.told) (shown.known other begin.image begin.other_told) fail (λ l from to known. known.fits) known-steps)
+      come-so : SameOrParts
+      come-so = come (runs-come pools devices pool_len trace one other begin fail (IsKnown pools devices trace) (shown.known one begin.image begin.told) (shown.known other begin.image begin.other_told) formed.config (λ l from to known. known.legal) (λ l from to known. known.fits) known-steps)
 
     pub runs-alike : (one other : OneRun pools devices trace) → BeginAlike pools devices trace one other → FailAlike pools devices trace one other → ComeToTheSame pools devices trace one other ⊎ MayPart pools devices trace one other
     runs-alike one other begin fail = come-so one other begin fail

@@ -2,6 +2,9 @@
 use Rattle.std.proofs.Common.{◌≡◌, ℕ, suc, List, [], ◌∷◌, ◌++◌, length, take, Option, None, Some, refl, sym, ap, ◌∙◌, subst, inl, inr, append_assoc, append-nil}
 use Rattle.std.specs.Prelude.{◌⊎◌, slice_get}
 use Rattle.std.specs.List.{AllByRecursion}
+use Rattle.blk_ptr.specs.Hash.{shard_of}
+use Rattle.arc_core.specs.Config.{IsConfig}
+use Rattle.arc_core.specs.PlainShard.{PlainShard, place_of}
 use Rattle.arc_core.specs.declared.event.Event.{Event}
 use Rattle.arc_table.specs.Geometry.{IsCell}
 use Rattle.dbuf_state.specs.declared.event.CellEvent.{CellEvent}
@@ -21,12 +24,16 @@ use Rattle.trace_run.specs.Feeds.{FeedDone, IsFeedOf}
 use Rattle.trace_run.specs.Lines.{caller_of}
 use Rattle.trace_run.specs.RunWork.{FitsBy}
 use Rattle.trace_run.specs.dbufs.Objects.{Line, Work, ops_of, replies_of}
-use Rattle.trace_run.specs.one_caller.Sequence.{AreInSequence, BetweenLines, DoesAnyLine}
-use Rattle.run_laws.specs.Alike.{AreAlike, AreAlikeSoFar, AreDevicesAlike, device_answers, device_answers_to, feeds_at, front_at, left_behind, left_by_feeds, stands_at, pool_answers, pool_answers_to}
+use Rattle.trace_run.specs.one_caller.Sequence.{AreInSequence, BetweenLines, DoesAnyLine, shard_behind}
+use Rattle.run_laws.specs.Alike.{AreAlike, AreAlikeSoFar, AreDevicesAlike, device_answers, device_answers_to, feeds_at, front_at, stands_at, pool_answers, pool_answers_to}
+use Rattle.run_laws.proofs.Behind.{same-shard}
 use Rattle.run_laws.proofs.Facts.{OfEachLine}
+use Rattle.run_laws.proofs.LinePlaces.{line-live}
+use Rattle.run_laws.proofs.FeedPlaces.{PlacesLive}
 use Rattle.run_laws.proofs.Rows.{so-far-front, so-far-rest, so-far-sym}
 use Rattle.run_laws.proofs.Settled.{NotesAll, line-notes}
-use Rattle.run_laws.proofs.Steps.{PartsAt, StepAlike}
+use Rattle.run_laws.proofs.ShardsLegal.{AreLegalShards}
+use Rattle.run_laws.proofs.Steps.{PartsAt, StepAlike, memory}
 
 -- ---- kinds of lines
 
@@ -62,11 +69,19 @@ go-on-cut (feed ∷ here) behind a b on = let r = go-on-cut here behind feed.aft
 module _ {P D : Type 0} (pools : Ghosts P) (devices : Devices D) (trace : Trace) where
   -- ---- which of two runs is named first
 
-  devices-sym : (one other : Option D) → AreDevicesAlike pools devices trace one other → AreDevicesAlike pools devices trace other one
-  devices-sym None None alike = tt
-  devices-sym None (Some other) alike = alike
-  devices-sym (Some one) None alike = alike
-  devices-sym (Some one) (Some other) alike = (sym alike.0, (alike.1.0, alike.1.2, alike.1.1))
+  devices-sym : (s z : ℕ → PlainShard) → ((shard : ℕ) → z shard ≡ s shard) → (one other : Option D) → AreDevicesAlike pools devices trace s one other → AreDevicesAlike pools devices trace z other one
+  devices-sym s z same None None alike = tt
+  devices-sym s z same None (Some other) alike = absurd alike
+  devices-sym s z same (Some one) None alike = absurd alike
+  devices-sym s z same (Some one) (Some other) alike = record {
+    size = sym alike.size;
+    image = alike.other_image;
+    other_image = alike.image;
+    told = alike.other_told;
+    other_told = alike.told;
+    long = sym alike.long;
+    places = λ k x at. sym (alike.places k x (sym (ap (place_of k) (same (shard_of trace.config.shards k))) ∙ at));
+  }
 
   pub alike-sym : (one other : BetweenLines P D) → AreAlike pools devices trace one other → AreAlike pools devices trace other one
   alike-sym one other alike = record {
@@ -75,7 +90,7 @@ module _ {P D : Type 0} (pools : Ghosts P) (devices : Devices D) (trace : Trace)
     other_told = alike.told;
     group = sym alike.group;
     next = sym alike.next;
-    device = devices-sym one.device other.device alike.device;
+    device = devices-sym (shard_behind trace.config one.shards) (shard_behind trace.config other.shards) (same-shard pools devices trace one other alike) one.device other.device alike.device;
     shards = λ shard. sym (alike.shards shard);
     cells = λ i is_cell. sym (alike.cells i is_cell);
     kept = sym alike.kept;
@@ -135,7 +150,7 @@ module _ {P D : Type 0} (pools : Ghosts P) (devices : Devices D) (trace : Trace)
   -- ---- one line
 
   module _ (Holds : Line → (from to : BetweenLines P D) → Type 0) where
-    -- A line was done in both runs, which had come to the same; the same of its calls failed; its feeds went on from the same ring; and what is known of each run by itself holds of it.
+    -- A line was done in both runs, which had come to the same; the same of its calls failed; its feeds went on from the same ring, in which each place stands that a key has; and what is known of each run by itself holds of it.
     pub record BothDo (l m : Line) (here there : List FeedDone) (from to other other_to : BetweenLines P D) (did : DoesAnyLine pools devices trace (caller_of l.op) l here from to)
         (other_did : DoesAnyLine pools devices trace (caller_of m.op) m there other other_to) (a b c d : CursorState) : Type 0 where
       pub alike : AreAlike pools devices trace from other
@@ -146,9 +161,9 @@ module _ {P D : Type 0} (pools : Ghosts P) (devices : Devices D) (trace : Trace)
       pub shapes : AllByRecursion (IsFeedOf trace.config.shards) here
       pub other_shapes : AllByRecursion (IsFeedOf trace.config.shards) there
       pub cursors : AreCursorsAlike a c
+      pub placed : PlacesLive trace.config (shard_behind trace.config from.shards) a.ring.live
       pub pool : AreAlikeSoFar (pool_answers_to l) (pool_answers_to m)
       pub device : AreAlikeSoFar (device_answers_to pools devices trace (caller_of l.op) l here from to did) (device_answers_to pools devices trace (caller_of m.op) m there other other_to other_did)
-      pub left : AreAlikeSoFar (left_behind devices here to.device) (left_behind devices there other_to.device)
 
     -- It came to the same in both, and so did the ring; or the runs part there.
     abbrev pub AlikeOrParts : (l m : Line) (here there : List FeedDone) (from to other other_to : BetweenLines P D) (did : DoesAnyLine pools devices trace (caller_of l.op) l here from to)
@@ -165,7 +180,7 @@ module _ {P D : Type 0} (pools : Ghosts P) (devices : Devices D) (trace : Trace)
 
     -- ---- all lines
 
-    -- What is known before these lines of both runs: they had come to the same, the lines are as far as both go of the same operations, and the same of their calls failed, with those that follow.
+    -- What is known before these lines of both runs: they had come to the same, the lines are as far as both go of the same operations, the same of their calls failed, with those that follow, and each place that a key has stands in the ring.
     pub record BothGo (ls ms : List Line) (fs es : List FeedDone) (from to other other_to : BetweenLines P D) (did : AreInSequence pools devices trace ls fs from to) (other_did : AreInSequence pools devices trace ms es other other_to)
         (us vs : List Call) (a b c d : CursorState) : Type 0 where
       pub alike : AreAlike pools devices trace from other
@@ -177,9 +192,9 @@ module _ {P D : Type 0} (pools : Ghosts P) (devices : Devices D) (trace : Trace)
       pub shapes : AllByRecursion (IsFeedOf trace.config.shards) fs
       pub other_shapes : AllByRecursion (IsFeedOf trace.config.shards) es
       pub cursors : AreCursorsAlike a c
+      pub placed : PlacesLive trace.config (shard_behind trace.config from.shards) a.ring.live
       pub pool : AreAlikeSoFar (pool_answers ls ++ us) (pool_answers ms ++ vs)
       pub device : AreAlikeSoFar (device_answers pools devices trace ls fs from to did) (device_answers pools devices trace ms es other other_to other_did)
-      pub left : AreAlikeSoFar (left_by_feeds pools devices trace ls fs from to did) (left_by_feeds pools devices trace ms es other other_to other_did)
 
     -- All lines of the one are done, and it had come to the same as the other before its next line.
     pub record GoesFurther (ls ms : List Line) (was to other_was other_to : BetweenLines P D) (us vs : List Call) : Type 0 where
@@ -242,14 +257,14 @@ module _ {P D : Type 0} (pools : Ghosts P) (devices : Devices D) (trace : Trace)
         shapes = all_left (IsFeedOf trace.config.shards) did.1 did.2 (subst (AllByRecursion (IsFeedOf trace.config.shards)) did.3 both.shapes);
         other_shapes = all_left (IsFeedOf trace.config.shards) other_did.1 other_did.2 (subst (AllByRecursion (IsFeedOf trace.config.shards)) other_did.3 both.other_shapes);
         cursors = both.cursors;
+        placed = both.placed;
         pool = so-far-front (pool_answers_to l) (pool_answers ls ++ us) (pool_answers_to m) (pool_answers ms ++ vs) pool-rows;
         device = so-far-front (device_answers_to pools devices trace (caller_of l.op) l did.1 from did.0 did.4) _ (device_answers_to pools devices trace (caller_of m.op) m other_did.1 other other_did.0 other_did.4) _ both.device;
-        left = so-far-front (left_behind devices did.1 did.0.device) _ (left_behind devices other_did.1 other_did.0.device) _ both.left;
       }
 
-      both-go-on : StepAlike pools devices trace l m did.1 other_did.1 from did.0 other other_did.0 did.4 other_did.4 → AreCursorsAlike cut.0 other_cut.0
+      both-go-on : StepAlike pools devices trace l m did.1 other_did.1 from did.0 other other_did.0 did.4 other_did.4 → AreCursorsAlike cut.0 other_cut.0 → PlacesLive trace.config (shard_behind trace.config did.0.shards) cut.0.ring.live
           → BothGo ls ms did.2 other_did.2 did.0 to other_did.0 other_to did.5 other_did.5 us vs cut.0 b other_cut.0 d
-      both-go-on s cursors = record {
+      both-go-on s cursors placed = record {
         alike = s.then;
         same = both.same.1;
         holds = both.holds.1;
@@ -259,9 +274,9 @@ module _ {P D : Type 0} (pools : Ghosts P) (devices : Devices D) (trace : Trace)
         shapes = all_right (IsFeedOf trace.config.shards) did.1 did.2 (subst (AllByRecursion (IsFeedOf trace.config.shards)) did.3 both.shapes);
         other_shapes = all_right (IsFeedOf trace.config.shards) other_did.1 other_did.2 (subst (AllByRecursion (IsFeedOf trace.config.shards)) other_did.3 both.other_shapes);
         cursors = cursors;
+        placed = placed;
         pool = so-far-rest (pool_answers_to l) (pool_answers ls ++ us) (pool_answers_to m) (pool_answers ms ++ vs) s.pool pool-rows;
         device = so-far-rest (device_answers_to pools devices trace (caller_of l.op) l did.1 from did.0 did.4) _ (device_answers_to pools devices trace (caller_of m.op) m other_did.1 other other_did.0 other_did.4) _ s.device both.device;
-        left = so-far-rest (left_behind devices did.1 did.0.device) _ (left_behind devices other_did.1 other_did.0.device) _ s.left both.left;
       }
 
       parts-here : PartsAt pools devices trace from.cells from.shards l m did.1 other_did.1 → PartsSomewhere (l ∷ ls) (m ∷ ms) fs es from to other other_to did other_did
@@ -335,7 +350,7 @@ module _ {P D : Type 0} (pools : Ghosts P) (devices : Devices D) (trace : Trace)
         come-more (one_further g) = one_further (one-more g)
         come-more (parted p) = parted (parts-more p)
 
-    module _ (fits : (l : Line) (from to : BetweenLines P D) → Holds l from to → FitsBy trace.config (caller_of l.op) l) (steps : (kind : Kind) → StepsAlike kind) where
+    module _ (valid : IsConfig trace.config) (legal : (l : Line) (from to : BetweenLines P D) → Holds l from to → AreLegalShards trace to.shards) (fits : (l : Line) (from to : BetweenLines P D) → Holds l from to → FitsBy trace.config (caller_of l.op) l) (steps : (kind : Kind) → StepsAlike kind) where
       -- one operation is named by both
       step : (l m : Line) → m.op ≡ l.op → (here there : List FeedDone) (from to other other_to : BetweenLines P D) (did : DoesAnyLine pools devices trace (caller_of l.op) l here from to)
           → (other_did : DoesAnyLine pools devices trace (caller_of m.op) m there other other_to) → (a b c d : CursorState) → BothDo l m here there from to other other_to did other_did a b c d
@@ -356,12 +371,17 @@ module _ {P D : Type 0} (pools : Ghosts P) (devices : Devices D) (trace : Trace)
           one_further (subst (λ (x : BetweenLines P D). GoesFurther [] (l ∷ ls) other x from to vs us) (sym other_did.1)
           (further-here l ls fs other from to did vs us both.holds (alike-sym from other both.alike) (so-far-sym (pool_answers (l ∷ ls) ++ us) vs both.pool)))
       lines-alike (l ∷ ls) (m ∷ ms) fs es from to other other_to did other_did us vs a b c d both =
-          elim (step l m (sym both.same.0) did.1 other_did.1 from did.0 other other_did.0 did.4 other_did.4 a (cut l m ls ms fs es from to other other_to did other_did us vs a b c d both).0 c (other_cut l m ls ms fs es from to other other_to did other_did us vs a b c d both).0
-          (both-do l m ls ms fs es from to other other_to did other_did us vs a b c d both)) [
-            | inl s ↦ come-more l m ls ms fs es from to other other_to did other_did us vs a b c d both s.0.reply
-                (line-notes pools devices trace (caller_of l.op) l did.1 from did.0 (fits l from did.0 both.holds.0) did.4)
-                (line-notes pools devices trace (caller_of m.op) m other_did.1 other other_did.0 (fits m other other_did.0 both.other_holds.0) other_did.4)
-                (lines-alike ls ms did.2 other_did.2 did.0 to other_did.0 other_to did.5 other_did.5 us vs (cut l m ls ms fs es from to other other_to did other_did us vs a b c d both).0 b (other_cut l m ls ms fs es from to other other_to did other_did us vs a b c d both).0 d
-                (both-go-on l m ls ms fs es from to other other_to did other_did us vs a b c d both s.0 s.1))
-            | inr p ↦ parted (parts-here l m ls ms fs es from to other other_to did other_did us vs a b c d both p)
+          let first = cut l m ls ms fs es from to other other_to did other_did us vs a b c d both in
+          let second = other_cut l m ls ms fs es from to other other_to did other_did us vs a b c d both in
+          let do_both = both-do l m ls ms fs es from to other other_to did other_did us vs a b c d both in
+          elim (line-live pools devices trace valid (caller_of l.op) l did.1 from did.0 a first.0 did.4 (legal l from did.0 both.holds.0) do_both.shapes first.1 both.placed) [
+            | inl wants ↦ parted (parts-here l m ls ms fs es from to other other_to did other_did us vs a b c d both (memory (inl wants)))
+            | inr placed ↦ (elim (step l m (sym both.same.0) did.1 other_did.1 from did.0 other other_did.0 did.4 other_did.4 a first.0 c second.0 do_both) [
+              | inl s ↦ come-more l m ls ms fs es from to other other_to did other_did us vs a b c d both s.0.reply
+                  (line-notes pools devices trace (caller_of l.op) l did.1 from did.0 (fits l from did.0 both.holds.0) did.4)
+                  (line-notes pools devices trace (caller_of m.op) m other_did.1 other other_did.0 (fits m other other_did.0 both.other_holds.0) other_did.4)
+                  (lines-alike ls ms did.2 other_did.2 did.0 to other_did.0 other_to did.5 other_did.5 us vs first.0 b second.0 d
+                  (both-go-on l m ls ms fs es from to other other_to did other_did us vs a b c d both s.0 s.1 placed))
+              | inr p ↦ parted (parts-here l m ls ms fs es from to other other_to did other_did us vs a b c d both p)
+            ])
           ]

@@ -37,7 +37,7 @@ use Rattle.trace_run.specs.dbufs.ObjectReplies.{ActsAt, ActsBy, AnswersDone, Ans
 use Rattle.trace_run.specs.dbufs.Objects.{Brought, GoesTogether, NotesNothing, OwnEvent, Work}
 use Rattle.trace_run.specs.one_caller.Sequence.{BetweenLines, DoesAnyLine, DoesLine, DoesObject, bringing_in, outline_behind, shard_behind, shard_found}
 use Rattle.trace_run.proofs.deeds.OperatesDone.{cell-there}
-use Rattle.run_laws.specs.Alike.{AreAlike, AreAlikeSoFar, AreDevicesAlike, HoldsFewer, device_answers_to, left_behind, pool_answers_to, writes_of}
+use Rattle.run_laws.specs.Alike.{AreAlike, AreAlikeSoFar, AreDevicesAlike, HoldsFewer, device_answers_to, pool_answers_to, writes_of}
 use Rattle.run_laws.proofs.ActsAlike.{IsHeldSo, acts-alike}
 use Rattle.run_laws.proofs.Behind.{caller-then, goes-cell, goes-shard, same-shard}
 use Rattle.run_laws.proofs.BringAlike.{IsKeptValid, bringing_row, brought-alike, device-same, refusal_of}
@@ -217,7 +217,7 @@ module _ {P D : Type 0} (pools : Ghosts P) (devices : Devices D) (pool_len : (p 
           subst (λ (es : List Event). IsTrue (is_legal_history (opening_of trace.config) es)) goes (both.other_legal shard there)
 
       device-then : (bringing_row pools devices trace (shard_behind trace.config other.shards) v.brought q other.device other_to.device both.other_did.asks
-          ≡ bringing_row pools devices trace (shard_behind trace.config from.shards) w.brought r from.device to.device both.did.asks) × AreDevicesAlike pools devices trace to.device other_to.device
+          ≡ bringing_row pools devices trace (shard_behind trace.config from.shards) w.brought r from.device to.device both.did.asks) × AreDevicesAlike pools devices trace (shard_behind trace.config from.shards) to.device other_to.device
       device-then = device-same pools devices trace (shard_behind trace.config from.shards) (shard_behind trace.config other.shards) (same-shard pools devices trace from other both.alike) from.device to.device other.device other_to.device both.alike.device
           w.brought v.brought r q brings same both.did.asks both.other_did.asks both.rows
 
@@ -233,7 +233,7 @@ module _ {P D : Type 0} (pools : Ghosts P) (devices : Devices D) (pool_len : (p 
             let es : ℕ → List Event = λ shard. brings_in w.brought from shard ++ events_there trace.config shard both.did.made in
             let fs : ℕ → List Event = λ shard. brings_in v.brought other shard ++ events_there trace.config shard both.other_did.made in
             let same_events : (shard : ℕ) → fs shard ≡ es shard = λ shard h. brings-same shard h ++ events_there trace.config shard (made-same h) in
-            caller-then pools devices trace (line_of op r w) (line_of op q v) from to other other_to both.alike does other_does device-then.1
+            caller-then pools devices trace valid (line_of op r w) (line_of op q v) from to other other_to both.alike does other_does both.legal device-then.1
             (λ shard. goes-shard trace.config es fs w.noted v.noted from to other other_to both.did.goes_on both.other_did.goes_on shard (both.alike.shards shard) (same_events shard))
             (λ i is. goes-cell trace.config es fs w.noted v.noted from to other other_to both.did.goes_on both.other_did.goes_on i is (both.alike.cells i is) works.0)
             (both.other_did.kept ∙ (both.alike.kept ∙ sym both.did.kept))
@@ -244,9 +244,6 @@ module _ {P D : Type 0} (pools : Ghosts P) (devices : Devices D) (pool_len : (p 
       → DoesAnyLine pools devices trace (caller_of op) (line_of op q v) there other other_to → Type 0
   ComesOn op r q w v here there from to other other_to did other_did =
       StepAlike pools devices trace (line_of op r w) (line_of op q v) here there from to other other_to did other_did ⊎ PartsAt pools devices trace from.cells from.shards (line_of op r w) (line_of op q v) here there
-
-  none-left : (here there : List FeedDone) (behind other_behind : Option D) → here ≡ [] → there ≡ [] → left_behind devices there other_behind ≡ left_behind devices here behind
-  none-left here there behind other_behind none other_none = ap (λ (fs : List FeedDone). left_behind devices fs other_behind) other_none ∙ sym (ap (λ (fs : List FeedDone). left_behind devices fs behind) none)
 
   -- What is known of two lines of one operation: what stood before them was alike; each line's work fits its reply; each leaves its cell with no eviction due; a cached block's key is valid; the histories of shards behind them are legal; and of their calls the same failed.
   pub record BothObjects (op : Op) (r q : Reply) (w v : Work) (here there : List FeedDone) (from to other other_to : BetweenLines P D) (did : DoesAnyLine pools devices trace (caller_of op) (line_of op r w) here from to)
@@ -343,7 +340,6 @@ module _ {P D : Type 0} (pools : Ghosts P) (devices : Devices D) (pool_len : (p 
           reply = same;
           pool = pool-then op r q w v came.0 same works;
           device = (device-then op own t r q w v from to other other_to both came.0 same).0;
-          left = none-left here there to.device other_to.device line.0 other_line.0;
           many = ap (λ (fs : List FeedDone). length fs) (other_line.0 ∙ sym line.0);
         })
         | inr parts ↦ inr parts
@@ -366,7 +362,6 @@ module _ {P D : Type 0} (pools : Ghosts P) (devices : Devices D) (pool_len : (p 
         reply = same;
         pool = pool-then op r q w v came.0 same works;
         device = (device-then op own t r q w v from to other other_to both came.0 same).0;
-        left = none-left here there to.device other_to.device line.0 other_line.0;
         many = ap (λ (fs : List FeedDone). length fs) (other_line.0 ∙ sym line.0);
       })
   object-step (ops.Pin n t at) on r q w v here there from to other other_to line other_line b =
@@ -387,7 +382,6 @@ module _ {P D : Type 0} (pools : Ghosts P) (devices : Devices D) (pool_len : (p 
         reply = same;
         pool = pool-then op r q w v came.0 same works;
         device = (device-then op own t r q w v from to other other_to both came.0 same).0;
-        left = none-left here there to.device other_to.device line.0 other_line.0;
         many = ap (λ (fs : List FeedDone). length fs) (other_line.0 ∙ sym line.0);
       })
   object-step (ops.Put n t at size fill) on r q w v here there from to other other_to line other_line b =
@@ -406,7 +400,6 @@ module _ {P D : Type 0} (pools : Ghosts P) (devices : Devices D) (pool_len : (p 
         reply = same;
         pool = pool-then op r q w v brings same works;
         device = (device-then op own 0 r q w v from to other other_to both brings same).0;
-        left = none-left here there to.device other_to.device line.0 other_line.0;
         many = ap (λ (fs : List FeedDone). length fs) (other_line.0 ∙ sym line.0);
       })
   object-step (ops.Unpin n at) on r q w v here there from to other other_to line other_line b =
@@ -425,7 +418,6 @@ module _ {P D : Type 0} (pools : Ghosts P) (devices : Devices D) (pool_len : (p 
         reply = same;
         pool = pool-then op r q w v brings same works;
         device = (device-then op own 0 r q w v from to other other_to both brings same).0;
-        left = none-left here there to.device other_to.device line.0 other_line.0;
         many = ap (λ (fs : List FeedDone). length fs) (other_line.0 ∙ sym line.0);
       })
   object-step (ops.Read n t x window) on r q w v here there from to other other_to line other_line b = absurd on

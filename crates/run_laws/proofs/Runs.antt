@@ -1,16 +1,20 @@
 -- Two runs of one caller as the law names them: how a report of `run` gives one, that they begin alike, and what all their lines come to.
 use Rattle.std.proofs.Common.{◌≡◌, ◌≤◌, ℕ, zero, suc, true, false, List, [], ◌∷◌, length, take, Option, None, Some, refl, sym, ap, ◌∙◌, subst, inl, inr, arith, append-nil}
 use Rattle.std.specs.List.{AllByRecursion}
+use Rattle.std.proofs.lemmas.Bool.{cases_lt}
 use Rattle.std.proofs.lemmas.List.{length-map}
 use Rattle.blk_ptr.specs.declared.ptr.Ptr.{Ptr}
+use Rattle.arc_core.specs.Config.{IsConfig}
 use Rattle.arc_core.specs.declared.config.Config.{Config}
 use Rattle.arc_core.specs.declared.event.Event.{Event}
 use Rattle.arc_table.specs.Ended.{Ended}
 use Rattle.arc_table.specs.Fronts.{StartsWith}
 use Rattle.dbuf_cells.specs.Turns.{OnHeap}
+use Rattle.l2_log.specs.Rules.{least_ring_end}
+use Rattle.l2_ring.specs.declared.live.Written.{Written}
 use Rattle.l2_dev.specs.Cursor.{CursorState}
 use Rattle.l2_feed.specs.Alike.{AreCursorsAlike}
-use Rattle.vdev_io.specs.Calls.{Call}
+use Rattle.vdev_io.specs.Calls.{Call, DeviceCall}
 use Rattle.vdev_io.specs.declared.device.CacheDev.{Ghosts as Devices}
 use Rattle.vdev_io.specs.declared.pool.Pool.{Ghosts}
 use Rattle.trace_text.proofs.FormedLemmas.{IsFormed-trace}
@@ -20,7 +24,7 @@ use Rattle.trace_text.specs.declared.reply.Reply.{Reply}
 use Rattle.trace_text.specs.declared.report.Report.{Report}
 use Rattle.trace_text.specs.declared.trace.Trace.{Trace}
 use Rattle.trace_run.specs.Bounded.{device_len, with_bound}
-use Rattle.trace_run.specs.Devices.{usable}
+use Rattle.trace_run.specs.Devices.{Finds, IsFoundOn, usable}
 use Rattle.trace_run.specs.FeedSeries.{GoOn, WasFedFrom}
 use Rattle.trace_run.specs.Feeds.{FeedDone}
 use Rattle.trace_run.specs.Lines.{caller_of, has_further}
@@ -33,13 +37,18 @@ use Rattle.trace_run.specs.dbufs.Objects.{Line, ops_of, replies_of}
 use Rattle.trace_run.specs.declared.ran.Ending.{Ending}
 use Rattle.trace_run.specs.declared.ran.Ending.TheVariants.{Fork, Full, Sync, Whole}
 use Rattle.trace_run.specs.declared.status.Status.{Status}
-use Rattle.trace_run.specs.one_caller.Sequence.{AreInSequence, BetweenLines}
+use Rattle.trace_run.specs.one_caller.Sequence.{AreInSequence, BetweenLines, shard_behind}
 use Rattle.trace_run.proofs.theorem.LineAnswers.{lines-ops, lines-replies}
-use Rattle.run_laws.specs.Alike.{AreAlike, AreAlikeSoFar, AreFirstAlike, BeginAlike, FailAlike, GoOnFrom, OneRun, ReportsAreRuns, answers_at_stop, begun}
+use Rattle.run_laws.specs.Alike.{AreAlike, AreAlikeSoFar, BeginAlike, FailAlike, GoOnFrom, OneRun, ReportsAreRuns, Starts, StartsSo, answers_at_stop, begun}
+use Rattle.run_laws.proofs.Begins.{AreFirstAlike, AreStartedSame, start-same}
 use Rattle.run_laws.proofs.BoundedTrace.{formed-bound}
 use Rattle.run_laws.proofs.Facts.{OfEachLine}
+use Rattle.run_laws.proofs.FeedPlaces.{PlacesLive}
 use Rattle.run_laws.proofs.LinesAlike.{BothGo, ComeTo, Kind, StepsAlike, lines-alike}
 use Rattle.run_laws.proofs.Rows.{so-far-front}
+use Rattle.run_laws.proofs.ShardsLegal.{AreLegalShards, begun-legal}
+use Rattle.run_laws.proofs.StartOne.{too-long}
+use Rattle.run_laws.proofs.StartPlaces.{live_first, start-live}
 
 -- ---- the place of the first sync: the greatest end of the declared blocks that a pool of this length has (spa_sync's first allocation)
 
@@ -60,6 +69,23 @@ module _ {P D : Type 0} (pool : Ghosts P) (device : Devices D) where
   fed-from g before started after None found feeds histories fed = fed
   fed-from g before started after (Some first) found feeds histories fed = (fed.8.last, fed.8.turn)
 
+  -- the reads of a start
+  started-so : (before after : D) (first : Option CursorState) (rebuilt : Rebuilt) → IsFoundOn device before after first rebuilt → (reads : List DeviceCall) × StartsSo device before after reads first rebuilt
+  started-so before after first rebuilt f = elim (cases_lt (device.size before) least_ring_end) [
+    | inl less ↦
+        let s = f.short less in
+        ([], record { short = λ also. (s.0, s.1, s.3, refl); long = λ most. absurd (too-long least_ring_end (device.size before) less most); only = f.only })
+    | inr most ↦
+        let r = f.reads most in
+        (r.0, record { short = λ less. absurd (too-long least_ring_end (device.size before) less most); long = λ also. (r.1, r.2, r.3, r.4, r.5); only = f.only })
+  ]
+
+  its-start : (handed started : Option D) (first : Option CursorState) (rebuilt : Option Rebuilt) → Finds device handed started first rebuilt → (reads : List DeviceCall) × Starts device handed started reads first rebuilt
+  its-start None started first rebuilt f = ([], (f.0, refl, f.1, f.2))
+  its-start (Some before) None first rebuilt f = absurd f
+  its-start (Some before) (Some after) first None f = absurd f
+  its-start (Some before) (Some after) first (Some rebuilt) f = started-so before after first rebuilt f
+
   -- A report of `run` with one caller, of a trace with lines on objects, syncs or feeds, is one run of the trace with the bound of its device.
   one-run : (before after : Handed P D) (answer : Status) (closed : Ended OnHeap) (report : Report) (r : IsReport pool device before after answer closed report) → r.trace.config.callers ≡ 1 → has_further r.trace.ops ≡ true
       → OneRun pool device (with_bound r.trace (device_len device.size before.cache))
@@ -77,6 +103,11 @@ module _ {P D : Type 0} (pool : Ghosts P) (device : Devices D) where
     in_turn = r.run.run.in_turn one further;
     in_turn_is = refl;
     first = r.first;
+    handed = before.cache;
+    started = r.started;
+    lent_is = refl;
+    reads = (its-start before.cache r.started r.first report.rebuilt r.found).0;
+    start = (its-start before.cache r.started r.first report.rebuilt r.found).1;
     fed = fed-from (with_bound r.trace (device_len device.size before.cache)).config before.cache r.started after.cache r.first report.rebuilt r.run.work.feeds report.histories r.fed;
     whole = r.whole;
   }
@@ -85,7 +116,7 @@ pub reports-are-runs : {P D : Type 0} (pool : Ghosts P) (device : Devices D) →
 unfolding one-run
 reports-are-runs pool device before after answer closed report r one further = (
   formed-bound r.trace (device_len device.size before.cache) (IsFormed-trace r.read.text r.trace r.read.is_trace),
-  (one-run pool device before after answer closed report r one further, refl, refl, refl, refl, refl, refl, refl, refl, refl),
+  (one-run pool device before after answer closed report r one further, refl, refl, refl, refl, refl, refl, refl, refl, refl, refl),
 )
 
 -- ---- fronts of one list of operations
@@ -110,9 +141,10 @@ answered-front trace (Full need left) replies = take-front (length replies) trac
 
 -- ---- the ring
 
--- feeds of two runs that went on from one ring, whose log blocks are the same
-record Rings (fs es : List FeedDone) : Type 0 where
+-- feeds of two runs that went on from one ring, whose log blocks are the same, and of whose live entries this holds
+record Rings (Of : List Written → Type 0) (fs es : List FeedDone) : Type 0 where
   pub first : CursorState
+  pub placed : Of first.ring.live
   pub last : CursorState
   pub other_first : CursorState
   pub other_last : CursorState
@@ -121,12 +153,13 @@ record Rings (fs es : List FeedDone) : Type 0 where
   pub cursors : AreCursorsAlike first other_first
 
 -- where there is no device any cursor stands for that of no feed
-no_cursor : CursorState
+abbrev no_cursor : CursorState
 no_cursor = record { ring = record { end = 0; hand = 0; evict = 0; top = 0; lap = 0; live = []; spare = 0 }; base = 0; newest = None; second = None; pending = []; ready = false }
 
-rings : (first other : Option CursorState) (fs es : List FeedDone) → GoOnFrom first fs → GoOnFrom other es → AreFirstAlike first other → Rings fs es
-rings None None fs es none other_none alike = record {
+rings : (Of : List Written → Type 0) (first other : Option CursorState) (fs es : List FeedDone) → Of (live_first first) → GoOnFrom first fs → GoOnFrom other es → AreFirstAlike first other → Rings Of fs es
+rings Of None None fs es placed none other_none alike = record {
   first = no_cursor;
+  placed = placed;
   last = no_cursor;
   other_first = no_cursor;
   other_last = no_cursor;
@@ -134,9 +167,9 @@ rings None None fs es none other_none alike = record {
   other_feeds = subst (λ (l : List FeedDone). GoOn l no_cursor no_cursor) (sym other_none) refl;
   cursors = record { ring = refl; newest = refl; second = refl };
 }
-rings None (Some other) fs es fed other_fed alike = absurd alike
-rings (Some first) None fs es fed other_fed alike = absurd alike
-rings (Some first) (Some other) fs es fed other_fed alike = record { first = first; last = fed.0; other_first = other; other_last = other_fed.0; feeds = fed.1; other_feeds = other_fed.1; cursors = alike }
+rings Of None (Some other) fs es placed fed other_fed alike = absurd alike
+rings Of (Some first) None fs es placed fed other_fed alike = absurd alike
+rings Of (Some first) (Some other) fs es placed fed other_fed alike = record { first = first; placed = placed; last = fed.0; other_first = other; other_last = other_fed.0; feeds = fed.1; other_feeds = other_fed.1; cursors = alike }
 
 -- ---- what is known of each line
 
@@ -175,7 +208,11 @@ module _ {P D : Type 0} (pools : Ghosts P) (devices : Devices D) (trace : Trace)
 
 -- ---- all lines of two runs
 
-module _ {P D : Type 0} (pools : Ghosts P) (devices : Devices D) (pool_len : (p : P) (bytes : List ℕ) → pools.told p ≡ Some bytes → length bytes ≡ pools.size p) (trace : Trace) (one other : OneRun pools devices trace) (begin : BeginAlike pools devices trace one other) where
+module _ {P D : Type 0} (pools : Ghosts P) (devices : Devices D) (pool_len : (p : P) (bytes : List ℕ) → pools.told p ≡ Some bytes → length bytes ≡ pools.size p) (trace : Trace) (one other : OneRun pools devices trace) (begin : BeginAlike pools devices trace one other) (fail : FailAlike pools devices trace one other) where
+  -- both starts found the same
+  abbrev start : AreStartedSame pools devices trace one other
+  start = start-same pools devices trace one other begin fail
+
   -- both pools have one length
   sizes : pools.size other.before ≡ pools.size one.before
   sizes = sym (pool_len other.before begin.image begin.other_told) ∙ pool_len one.before begin.image begin.told
@@ -187,21 +224,24 @@ module _ {P D : Type 0} (pools : Ghosts P) (devices : Devices D) (pool_len : (p 
     other_told = begin.other_told;
     group = refl;
     next = place-one (pools.size one.before) trace.blocks one.run.run.place other.run.run.place one.run.run.first (subst (λ (n : ℕ). IsFirstPlace n trace.blocks other.run.run.place) sizes other.run.run.first);
-    device = begin.device;
-    shards = λ shard. ap (λ (r : Option Rebuilt). restores_in trace.config (found_keys r) shard) begin.found;
+    device = start.device (shard_behind trace.config (begun pools devices trace one).shards);
+    shards = λ shard. ap (λ (r : Option Rebuilt). restores_in trace.config (found_keys r) shard) start.found;
     cells = λ i is_cell. refl;
     kept = refl;
   }
 
   module _ (Holds : Line → (from to : BetweenLines P D) → Type 0) (holds : OfEachLine pools devices trace Holds one.run.work.lines one.run.work.feeds (begun pools devices trace one) one.in_turn.reached one.in_turn.lines)
-      (other_holds : OfEachLine pools devices trace Holds other.run.work.lines other.run.work.feeds (begun pools devices trace other) other.in_turn.reached other.in_turn.lines) (fail : FailAlike pools devices trace one other) where
+      (other_holds : OfEachLine pools devices trace Holds other.run.work.lines other.run.work.feeds (begun pools devices trace other) other.in_turn.reached other.in_turn.lines) where
     abbrev stop : List Call
     stop = answers_at_stop one.ending one.run.work.stopped
 
     abbrev other_stop : List Call
     other_stop = answers_at_stop other.ending other.run.work.stopped
 
-    both-begin : (r : Rings one.run.work.feeds other.run.work.feeds) → BothGo pools devices trace Holds one.run.work.lines other.run.work.lines one.run.work.feeds other.run.work.feeds (begun pools devices trace one) one.in_turn.reached
+    abbrev Placed : List Written → Type 0
+    Placed live = PlacesLive trace.config (shard_behind trace.config (begun pools devices trace one).shards) live
+
+    both-begin : (r : Rings Placed one.run.work.feeds other.run.work.feeds) → BothGo pools devices trace Holds one.run.work.lines other.run.work.lines one.run.work.feeds other.run.work.feeds (begun pools devices trace one) one.in_turn.reached
         (begun pools devices trace other) other.in_turn.reached one.in_turn.lines other.in_turn.lines stop other_stop r.first r.last r.other_first r.other_last
     both-begin r = record {
       alike = begins-alike;
@@ -213,16 +253,17 @@ module _ {P D : Type 0} (pools : Ghosts P) (devices : Devices D) (pool_len : (p 
       shapes = one.run.did.fed.shapes;
       other_shapes = other.run.did.fed.shapes;
       cursors = r.cursors;
+      placed = r.placed;
       pool = fail.pool;
-      device = fail.device;
-      left = fail.left;
+      device = start.device_rows;
     }
 
     -- all their lines come to the same, as far as both go; or they part
-    pub runs-come : ((l : Line) (from to : BetweenLines P D) → Holds l from to → FitsBy trace.config (caller_of l.op) l) → ((kind : Kind) → StepsAlike pools devices trace Holds kind)
+    pub runs-come : IsConfig trace.config → ((l : Line) (from to : BetweenLines P D) → Holds l from to → AreLegalShards trace to.shards) → ((l : Line) (from to : BetweenLines P D) → Holds l from to → FitsBy trace.config (caller_of l.op) l) → ((kind : Kind) → StepsAlike pools devices trace Holds kind)
         → ComeTo pools devices trace Holds one.run.work.lines other.run.work.lines one.run.work.feeds other.run.work.feeds (begun pools devices trace one) one.in_turn.reached (begun pools devices trace other) other.in_turn.reached
         one.in_turn.lines other.in_turn.lines stop other_stop
-    runs-come fits steps =
-        let r = rings one.first other.first one.run.work.feeds other.run.work.feeds one.fed other.fed begin.cursors in
-        lines-alike pools devices trace Holds fits steps one.run.work.lines other.run.work.lines one.run.work.feeds other.run.work.feeds (begun pools devices trace one) one.in_turn.reached (begun pools devices trace other) other.in_turn.reached
+    runs-come valid legal fits steps =
+        let placed : Placed (live_first one.first) = start-live devices trace valid one.handed one.started one.reads one.first one.report.rebuilt one.start (begun-legal pools devices trace one) in
+        let r = rings Placed one.first other.first one.run.work.feeds other.run.work.feeds placed one.fed other.fed start.cursors in
+        lines-alike pools devices trace Holds valid legal fits steps one.run.work.lines other.run.work.lines one.run.work.feeds other.run.work.feeds (begun pools devices trace one) one.in_turn.reached (begun pools devices trace other) other.in_turn.reached
         one.in_turn.lines other.in_turn.lines stop other_stop r.first r.last r.other_first r.other_last (both-begin r)

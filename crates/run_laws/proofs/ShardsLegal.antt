@@ -112,8 +112,15 @@ module _ {P D : Type 0} (pools : Ghosts P) (devices : Devices D) (trace : Trace)
         let drops : List Event = events_of_drops 0 (held_in_shard trace.config shard last.kept) in
         prefix-legal (opening_of trace.config) (last.shards shard) drops (prefix-legal (opening_of trace.config) (last.shards shard ++ drops) (events_there trace.config shard run.run.work.ended) whole)
 
+    its-legal : AreLegalLines run.run.work.lines run.run.work.feeds (begun pools devices trace run) run.in_turn.reached run.in_turn.lines
+    its-legal =
+        all-legal run.run.work.lines run.run.work.feeds (begun pools devices trace run) run.in_turn.reached run.in_turn.lines
+        (ended-legal run.report.replies run.run.work.stopped run.ending run.in_turn.reached run.after run.in_turn.last_line run.in_turn.ended last-legal)
+
+    -- as the first line begins
+    pub begun-legal : AreLegalShards trace (begun pools devices trace run).shards
+    begun-legal = its-legal.first
+
     -- at each line of the run
     pub legal-lines : OfEachLine pools devices trace (StandsLegal trace) run.run.work.lines run.run.work.feeds (begun pools devices trace run) run.in_turn.reached run.in_turn.lines
-    legal-lines =
-        (all-legal run.run.work.lines run.run.work.feeds (begun pools devices trace run) run.in_turn.reached run.in_turn.lines
-        (ended-legal run.report.replies run.run.work.stopped run.ending run.in_turn.reached run.after run.in_turn.last_line run.in_turn.ended last-legal)).each
+    legal-lines = its-legal.each

@@ -1,5 +1,6 @@
 -- Lines on blocks, capacities and feeds among all lines of two runs. The first two make no feed, so the ring stays as it was.
 use Rattle.std.proofs.Common.{◌≡◌, ℕ, List, [], length, Some, inl, inr, sym, subst}
+use Rattle.arc_core.specs.Config.{IsConfig}
 use Rattle.l2_dev.specs.Cursor.{CursorState}
 use Rattle.l2_feed.specs.Alike.{AreCursorsAlike}
 use Rattle.vdev_io.specs.declared.device.CacheDev.{Ghosts as Devices}
@@ -18,6 +19,7 @@ use Rattle.run_laws.proofs.CapStep.{cap-step}
 use Rattle.run_laws.proofs.FeedStep.{feed-step}
 use Rattle.run_laws.proofs.LinesAlike.{Caps, Feeds, Objects, Reads, StepsAlike, Syncs, kind_of}
 use Rattle.run_laws.proofs.ReadStep.{IsOnBlock, block-step, line_of}
+use Rattle.run_laws.proofs.ShardsLegal.{AreLegalShards}
 
 on-block : (op : Op) → kind_of op ≡ Reads → IsOnBlock op
 on-block (ops.Read n t x window) is = tt
@@ -73,11 +75,11 @@ module _ {P D : Type 0} (pools : Ghosts P) (devices : Devices D) (pool_len : (p 
   block-unfed (ops.Drop n x) on r w here from to did = did.0
   block-unfed other on r w here from to did = absurd on
 
-  module _ (Holds : Line → (from to : BetweenLines P D) → Type 0) where
+  module _ (Holds : Line → (from to : BetweenLines P D) → Type 0) (valid : IsConfig trace.config) (legal : (l : Line) (from to : BetweenLines P D) → Holds l from to → AreLegalShards trace to.shards) where
     pub reads-steps : StepsAlike pools devices trace Holds Reads
     reads-steps op is r q v w here there from to other other_to did other_did a b c d both =
         let on : IsOnBlock op = on-block op is in
-        elim (block-step pools devices pool_len trace op on r q v w here there from to other other_to did other_did both.alike both.pool both.device) [
+        elim (block-step pools devices pool_len trace op on r q v w here there from to other other_to did other_did valid (legal (line_of op r v) from to both.holds) both.alike both.pool both.device) [
           | inl step ↦ inl (step, unfed-cursors here there a b c d (block-unfed op on r v here from to did) (block-unfed op on q w there other other_to other_did) both.feeds both.other_feeds both.cursors)
           | inr parts ↦ inr parts
         ]
@@ -86,7 +88,7 @@ module _ {P D : Type 0} (pools : Ghosts P) (devices : Devices D) (pool_len : (p 
       pub caps-steps : StepsAlike pools devices trace Holds Caps
       caps-steps (ops.Cap k) is r q v w here there from to other other_to did other_did a b c d both =
           inl (
-            cap-step pools devices trace k r q v w here there from to other other_to (fits (line_of (ops.Cap k) r v) from to both.holds) (fits (line_of (ops.Cap k) q w) other other_to both.other_holds) did other_did both.alike,
+            cap-step pools devices trace valid k r q v w here there from to other other_to (legal (line_of (ops.Cap k) r v) from to both.holds) (fits (line_of (ops.Cap k) r v) from to both.holds) (fits (line_of (ops.Cap k) q w) other other_to both.other_holds) did other_did both.alike,
             unfed-cursors here there a b c d did.0 other_did.0 both.feeds both.other_feeds both.cursors,
           )
       caps-steps (ops.Read n t x window) is r q v w here there from to other other_to did other_did a b c d both = absurd (let clash : Reads ≡ Caps = is in cc)
@@ -103,5 +105,5 @@ module _ {P D : Type 0} (pools : Ghosts P) (devices : Devices D) (pool_len : (p 
       pub feeds-steps : StepsAlike pools devices trace Holds Feeds
       feeds-steps ops.Feed is r q v w here there from to other other_to did other_did a b c d both =
           feed-step pools devices trace r q v w here there from to other other_to did other_did (fits (record { op = ops.Feed; reply = r; work = v }) from to both.holds) (fits (record { op = ops.Feed; reply = q; work = w }) other other_to both.other_holds)
-          both.alike a b c d both.feeds both.other_feeds both.shapes both.other_shapes both.cursors both.device both.left
+          valid (legal (record { op = ops.Feed; reply = r; work = v }) from to both.holds) both.alike a b c d both.feeds both.other_feeds both.shapes both.other_shapes both.cursors both.placed both.device
       feeds-steps op is r q v w here there from to other other_to did other_did a b c d both = absurd (feed-line op is)

@@ -16,7 +16,7 @@ use Rattle.trace_run.specs.Openings.{opening_map}
 use Rattle.trace_run.specs.dbufs.ObjectLines.{OnObject, on_object}
 use Rattle.trace_run.specs.dbufs.Objects.{Line}
 use Rattle.trace_run.specs.one_caller.Sequence.{BetweenLines, DoesAnyLine, outline_behind, shard_found}
-use Rattle.run_laws.specs.Alike.{AreAlike, FeedsPickTwo, HoldsFewer, SeesBoth, ShowsBoth, TwoContents, WantsMemory, device_answers_to, left_behind, pool_answers_to}
+use Rattle.run_laws.specs.Alike.{AreAlike, FeedsPickTwo, HoldsFewer, SeesBoth, ShowsBoth, TwoContents, WantsMemory, device_answers_to, pool_answers_to}
 
 module _ {P D : Type 0} (pools : Ghosts P) (devices : Devices D) (trace : Trace) where
   -- Two runs part at this line, whose cells and shards had come to this by then: two contents of one digest are shown; a cell has come to two states by one history; a feed picked two contents of one digest; a feed wanted memory; or the line is on an object, whose cell holds fewer entries under a key than it has blocks cached.
@@ -37,5 +37,4 @@ module _ {P D : Type 0} (pools : Ghosts P) (devices : Devices D) (trace : Trace)
     pub reply : m.reply ≡ l.reply
     pub pool : pool_answers_to m ≡ pool_answers_to l
     pub device : device_answers_to pools devices trace (caller_of m.op) m there other other_to other_did ≡ device_answers_to pools devices trace (caller_of l.op) l here from to did
-    pub left : left_behind devices there other_to.device ≡ left_behind devices here to.device
     pub many : length there ≡ length here

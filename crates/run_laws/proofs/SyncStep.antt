@@ -1,6 +1,8 @@
 -- The step of a line `txg` of two runs: both write the same blocks to the same places, and what stands behind the line is alike again; or one history led a cell to two states (spa_sync for a single thread).
 use Rattle.std.proofs.Common.{◌≡◌, ◌⊎◌, ◌+◌, ℕ, suc, List, [], ◌++◌, length, map, Option, sym, ap, ◌∙◌, subst, inl, inr}
 use Rattle.std.specs.List.{AllByRecursion}
+use Rattle.arc_core.specs.Config.{IsConfig}
+use Rattle.arc_core.specs.PlainShard.{PlainShard}
 use Rattle.arc_core.specs.declared.config.Config.{Config}
 use Rattle.arc_core.specs.declared.event.Event.{Event}
 use Rattle.dbuf_cells.specs.Turns.{OnHeap}
@@ -18,10 +20,12 @@ use Rattle.trace_run.specs.Feeds.{FeedDone}
 use Rattle.trace_run.specs.Syncing.{inserts_noted, noted_of}
 use Rattle.trace_run.specs.callers.WorkLines.{effect_with}
 use Rattle.trace_run.specs.dbufs.Objects.{Line, Nothing, Work}
-use Rattle.trace_run.specs.one_caller.Sequence.{BetweenLines, DoesSync}
-use Rattle.run_laws.specs.Alike.{AreAlike, AreDevicesAlike, feed_answers, left_behind}
-use Rattle.run_laws.proofs.Behind.{goes-cell, goes-shard}
+use Rattle.trace_run.specs.one_caller.Sequence.{BetweenLines, DoesSync, shard_behind}
+use Rattle.run_laws.specs.Alike.{AreAlike, AreDevicesAlike, feed_answers}
+use Rattle.run_laws.proofs.Behind.{devices-go, goes-cell, goes-shard}
+use Rattle.run_laws.proofs.PlacesGo.{sync-places}
 use Rattle.run_laws.proofs.PlainDues.{DueApart, IsEven, even-or-apart, items-same, need-same, sizes-same, views_of}
+use Rattle.run_laws.proofs.ShardsLegal.{AreLegalShards}
 use Rattle.run_laws.proofs.Steps.{PartsAt, StepAlike, replays}
 use Rattle.run_laws.proofs.SyncCells.{CollidesIn, apart-collides, dirty-one, views-alike}
 
@@ -38,8 +42,8 @@ module _ {P D : Type 0} (pools : Ghosts P) (devices : Devices D) (trace : Trace)
   g = trace.config
 
   -- devices that are as they were are alike still
-  pub devices-still : (was other_was now other_now : Option D) → now ≡ was → other_now ≡ other_was → AreDevicesAlike pools devices trace was other_was → AreDevicesAlike pools devices trace now other_now
-  devices-still was other_was now other_now same other_same alike = subst (λ (x : Option D × Option D). AreDevicesAlike pools devices trace x.0 x.1) (λ i. (sym same i, sym other_same i)) alike
+  pub devices-still : (s : ℕ → PlainShard) (was other_was now other_now : Option D) → now ≡ was → other_now ≡ other_was → AreDevicesAlike pools devices trace s was other_was → AreDevicesAlike pools devices trace s now other_now
+  devices-still s was other_was now other_now same other_same alike = subst (λ (x : Option D × Option D). AreDevicesAlike pools devices trace s x.0 x.1) (λ i. (sym same i, sym other_same i)) alike
 
   abbrev pub sync_line : ℕ → Reply → Work → Line
   sync_line t r v = record { op = ops.Txg t; reply = r; work = v }
@@ -93,8 +97,9 @@ module _ {P D : Type 0} (pools : Ghosts P) (devices : Devices D) (trace : Trace)
       inserted : (shard : ℕ) → inserts_noted g t w.noted shard (other.shards shard) ≡ inserts_noted g t v.noted shard (from.shards shard)
       inserted shard = λ i. inserts_noted g t (noted i) shard (like.shards shard i)
 
-      sync-then : AreAlike pools devices trace to other_to
-      sync-then =
+      sync-then : IsConfig trace.config → AreLegalShards trace to.shards → AreAlike pools devices trace to other_to
+      sync-then valid legal =
+          let was : ℕ → PlainShard = shard_behind trace.config from.shards in
           let es : ℕ → List Event = λ shard. inserts_noted g t v.noted shard (from.shards shard) in
           let fs : ℕ → List Event = λ shard. inserts_noted g t w.noted shard (other.shards shard) in
           let next : other.outside.next + need_of others ends ≡ from.outside.next + need_of cells dues = λ i. like.next i + needs i in
@@ -104,7 +109,8 @@ module _ {P D : Type 0} (pools : Ghosts P) (devices : Devices D) (trace : Trace)
             other_told = other_did.synced.answer.told ∙ (λ i. tells_written (items i) (like.other_told i));
             group = other_did.synced.group ∙ (ap suc like.group ∙ sym did.synced.group);
             next = other_did.synced.next ∙ (other_did.synced.answer.next_is ∙ (next ∙ sym (did.synced.next ∙ did.synced.answer.next_is)));
-            device = devices-still from.device other.device to.device other_to.device did.leaves.device other_did.leaves.device like.device;
+            device = devices-go pools devices trace was (shard_behind trace.config to.shards) (sync-places pools devices trace valid t r v from to did legal) to.device other_to.device
+                (devices-still was from.device other.device to.device other_to.device did.leaves.device other_did.leaves.device like.device);
             shards = λ shard. goes-shard g es fs v.noted w.noted from to other other_to did.leaves.goes_on other_did.leaves.goes_on shard (like.shards shard) (inserted shard);
             cells = λ i is_cell. goes-cell g es fs v.noted w.noted from to other other_to did.leaves.goes_on other_did.leaves.goes_on i is_cell (like.cells i is_cell) noted;
             kept = other_did.leaves.kept ∙ (like.kept ∙ sym did.leaves.kept);
@@ -112,9 +118,9 @@ module _ {P D : Type 0} (pools : Ghosts P) (devices : Devices D) (trace : Trace)
 
   -- no bytes were brought, since the line is a sync's
   pub sync-step : (t : ℕ) (r q : Reply) (v w : Work) (here there : List FeedDone) (from to other other_to : BetweenLines P D) (did : (here ≡ []) × DoesSync pools devices trace t r v from to)
-      (other_did : (there ≡ []) × DoesSync pools devices trace t q w other other_to) → v.brought ≡ Nothing → w.brought ≡ Nothing → AreAlike pools devices trace from other
+      (other_did : (there ≡ []) × DoesSync pools devices trace t q w other other_to) → v.brought ≡ Nothing → w.brought ≡ Nothing → IsConfig trace.config → AreLegalShards trace to.shards → AreAlike pools devices trace from other
       → StepAlike pools devices trace (sync_line t r v) (sync_line t q w) here there from to other other_to did other_did ⊎ PartsAt pools devices trace from.cells from.shards (sync_line t r v) (sync_line t q w) here there
-  sync-step t r q v w here there from to other other_to did other_did none other_none like =
+  sync-step t r q v w here there from to other other_to did other_did none other_none valid legal like =
       let one = did.1.synced.answer in
       let two = other_did.1.synced.answer in
       elim (even-or-apart one.cells two.cells one.dues) [
@@ -123,11 +129,10 @@ module _ {P D : Type 0} (pools : Ghosts P) (devices : Devices D) (trace : Trace)
             let notes : w.noted ≡ v.noted = noted t r q v w from to other other_to did.1 other_did.1 like same in
             let brought : w.brought ≡ v.brought = other_none ∙ sym none in
             inl (record {
-              then = sync-then t r q v w from to other other_to did.1 other_did.1 like same;
+              then = sync-then t r q v w from to other other_to did.1 other_did.1 like same valid legal;
               reply = reply;
               pool = λ i. calls_of (effect_with (brought i) (reply i)) ++ map (λ note. Gave) (notes i);
               device = ap feed_answers (other_did.0 ∙ sym did.0);
-              left = ap (λ (fs : List FeedDone). left_behind devices fs other_to.device) other_did.0 ∙ sym (ap (λ (fs : List FeedDone). left_behind devices fs to.device) did.0);
               many = ap (λ (fs : List FeedDone). length fs) (other_did.0 ∙ sym did.0);
             })
         | inr x ↦

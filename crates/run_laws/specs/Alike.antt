@@ -1,14 +1,16 @@
 -- Two runs of one trace by one caller, over the same bytes, of which the same calls failed: they come to the same (arc_read, dmu_read, dmu_write, spa_sync and l2arc_feed_thread, for a single thread).
-use Rattle.std.specs.Prelude.{◌≡◌, ◌≢◌, ◌⊎◌, ℕ, ◌<◌, zero, suc, true, false, if◌then◌else◌, List, [], ◌∷◌, ◌++◌, length, map, take, Option, None, Some, slice_get}
+use Rattle.std.specs.Prelude.{◌≡◌, ◌≢◌, ◌⊎◌, ◌<◌, ◌≤◌, ℕ, zero, suc, true, false, List, [], ◌∷◌, ◌++◌, length, map, take, Option, None, Some, IfSome, slice_get}
+use Rattle.blk_ptr.specs.Hash.{shard_of}
 use Rattle.blk_ptr.specs.declared.key.Key.{Key}
 use Rattle.blk_ptr.specs.declared.ptr.Ptr.{Ptr}
 use Rattle.blk_ptr.specs.Ptr.{IsOf}
-use Rattle.blk_ptr.specs.Hash.{shard_of}
-use Rattle.arc_core.specs.PlainShard.{PlainShard, count_of}
+use Rattle.arc_core.specs.PlainShard.{PlainShard, count_of, place_of}
+use Rattle.arc_core.specs.declared.config.Config.{Config}
 use Rattle.arc_core.specs.declared.event.Event.{Event}
 use Rattle.arc_core.specs.declared.served.Served.{Served}
 use Rattle.arc_core.specs.declared.served.Served.TheVariants as served
 use Rattle.arc_table.specs.Ended.{Ended}
+use Rattle.arc_table.specs.Fetching.{bytes_from}
 use Rattle.arc_table.specs.Geometry.{IsCell, cell_number}
 use Rattle.dbuf_cells.specs.Places.{cell_of}
 use Rattle.dbuf_cells.specs.Turns.{OnHeap, cached_under}
@@ -21,17 +23,21 @@ use Rattle.dbuf_state.specs.declared.event.CellEvent.TheVariants.{Synced as WasS
 use Rattle.dbuf_state.specs.declared.oid.Oid.{Oid}
 use Rattle.dbuf_state.specs.declared.state.Mapped.TheVariants.{Clean}
 use Rattle.dbuf_state.specs.declared.window.Window.{Window}
+use Rattle.l2_log.specs.Rules.{least_ring_end}
 use Rattle.l2_dev.specs.Cursor.{CursorState}
+use Rattle.l2_dev.specs.Rebuilding.{IsOpened, IsStarted, ring_end_of}
 use Rattle.l2_dev.specs.declared.report.FeedStop.TheVariants as stop
-use Rattle.l2_feed.specs.Alike.{AreCursorsAlike, PicksTwo, has_failed}
+use Rattle.l2_dev.specs.declared.stop.Stop.TheVariants as stops
+use Rattle.l2_feed.specs.Alike.{PicksTwo}
 use Rattle.l2_feed.specs.Plain.{answers_of}
 use Rattle.l2_feed.specs.Shape.{NoneRefused}
-use Rattle.vdev_io.specs.Calls.{Call, Failed, Gave}
+use Rattle.vdev_io.specs.Calls.{Call, DeviceCall, Failed, Gave, MakesDeviceCalls}
 use Rattle.vdev_io.specs.declared.device.CacheDev.{Ghosts as Devices}
 use Rattle.vdev_io.specs.declared.pool.Pool.{Ghosts}
 use Rattle.trace_text.specs.Grammar.{IsFormed}
 use Rattle.trace_text.specs.declared.op.Op.{Op}
 use Rattle.trace_text.specs.declared.op.Op.TheVariants as ops
+use Rattle.trace_text.specs.declared.rebuilt.Rebuilt.{Rebuilt}
 use Rattle.trace_text.specs.declared.reply.Reply.{Reply}
 use Rattle.trace_text.specs.declared.reply.Reply.TheVariants as replies
 use Rattle.trace_text.specs.declared.report.Report.{Report}
@@ -41,7 +47,7 @@ use Rattle.trace_run.specs.declared.ran.Ending.TheVariants.{Fork, Full, Sync, Wh
 use Rattle.trace_run.specs.declared.status.Status.{Status}
 use Rattle.trace_run.specs.Bounded.{device_len, with_bound}
 use Rattle.trace_run.specs.Deeds.{Noted, events_of_cell}
-use Rattle.trace_run.specs.Devices.{usable}
+use Rattle.trace_run.specs.Devices.{WasOnlyRead, usable}
 use Rattle.trace_run.specs.Effects.{calls_of, effect_of}
 use Rattle.trace_run.specs.FeedSeries.{GoOn}
 use Rattle.trace_run.specs.Feeds.{FeedDone}
@@ -58,7 +64,6 @@ use Rattle.trace_run.specs.dbufs.ObjectLines.{OnObject, on_object}
 use Rattle.trace_run.specs.dbufs.Objects.{Brought, Line, Loaded, Nothing, Refused, Work, replies_of}
 use Rattle.trace_run.specs.one_caller.Asking.{AsksLine}
 use Rattle.trace_run.specs.one_caller.InTurn.{RunsInTurn}
-use Rattle.trace_run.specs.one_caller.Lent.{told_lent}
 use Rattle.trace_run.specs.one_caller.Sequence.{AreInSequence, BetweenLines, DoesAnyLine, DoesOwn, IfLent, NotFromDevice, begins_so, outline_behind, shard_behind, shard_found}
 use Rattle.trace_run.specs.one_caller.OneCaller.{events_of_drops}
 
@@ -111,12 +116,6 @@ lent_answers none asks calls None (Some new) did = []
 lent_answers none asks calls (Some old) None did = []
 lent_answers none asks calls (Some old) (Some new) did = calls old new did
 
-module _ {D : Type 0} (devices : Devices D) where
-  -- What the device tells behind a line that fed it, where a call of the feed failed: a write that fails leaves any bytes in its range.
-  abbrev pub left_behind : List FeedDone → (behind : Option D) → List (Option (List ℕ))
-  left_behind [] behind = []
-  left_behind (feed ∷ feeds) behind = if has_failed (answers_of feed.calls) then told_lent devices behind ∷ [] else []
-
 module _ {P D : Type 0} (pools : Ghosts P) (devices : Devices D) (trace : Trace) where
   -- to the read that brings a block
   abbrev pub bringing_answers : (s : ℕ → PlainShard) (brought : Brought) (reply : Reply) (old new : D) → AsksBrought devices trace.config s brought reply old new → List Call
@@ -153,21 +152,27 @@ module _ {P D : Type 0} (pools : Ghosts P) (devices : Devices D) (trace : Trace)
   stands_at (l ∷ ls) feeds from to did zero = from
   stands_at (l ∷ ls) feeds from to did (suc place) = stands_at ls did.2 did.0 to did.5 place
 
-  -- behind each line whose feed met a call that failed
-  abbrev pub left_by_feeds : (ls : List Line) (feeds : List FeedDone) (from to : BetweenLines P D) → AreInSequence pools devices trace ls feeds from to → List (Option (List ℕ))
-  left_by_feeds [] feeds from to did = []
-  left_by_feeds (l ∷ ls) feeds from to did = left_behind devices did.1 did.0.device ++ left_by_feeds ls did.2 did.0 to did.5
+-- ---- what stands between two lines is alike
 
-  -- ---- what stands between two lines is alike
+-- Both devices are of one length and tell bytes, as many, that are the same at each place that a key has in these shards. What a write that failed left elsewhere may differ: no read looks there.
+pub record TellAlike {D : Type 0} (devices : Devices D) (g : Config) (s : ℕ → PlainShard) (one other : D) : Type 0 where
+  pub size : devices.size other ≡ devices.size one
+  pub image : List ℕ
+  pub other_image : List ℕ
+  pub told : devices.told one ≡ Some image
+  pub other_told : devices.told other ≡ Some other_image
+  pub long : length other_image ≡ length image
+  pub places : (k : Key) (x : ℕ) → place_of k (s (shard_of g.shards k)) ≡ Some x → bytes_from other_image x k ≡ bytes_from image x k
 
-  -- both tell the same bytes, or there is none
-  abbrev pub AreDevicesAlike : (one other : Option D) → Type 0
-  AreDevicesAlike None None = Unit {0}
-  AreDevicesAlike None (Some other) = ⊥
-  AreDevicesAlike (Some one) None = ⊥
-  AreDevicesAlike (Some one) (Some other) = (devices.size other ≡ devices.size one) × ((image : List ℕ) × (devices.told one ≡ Some image) × (devices.told other ≡ Some image))
+module _ {P D : Type 0} (pools : Ghosts P) (devices : Devices D) (trace : Trace) where
+  -- both tell bytes that are the same at the places of these shards, or there is none
+  abbrev pub AreDevicesAlike : (s : ℕ → PlainShard) → (one other : Option D) → Type 0
+  AreDevicesAlike s None None = Unit {0}
+  AreDevicesAlike s None (Some other) = ⊥
+  AreDevicesAlike s (Some one) None = ⊥
+  AreDevicesAlike s (Some one) (Some other) = TellAlike devices trace.config s one other
 
-  -- The pools tell the same bytes, and so do the devices; the next sync writes the same group, from the same place; the same was done to each shard and to each cell; and the same reads are kept. What
+  -- The pools tell the same bytes, and so do the devices at each place that a key has; the next sync writes the same group, from the same place; the same was done to each shard and to each cell; and the same reads are kept. What
   -- pool and device have counted may differ.
   pub record AreAlike (one other : BetweenLines P D) : Type 0 where
     pub image : List ℕ
@@ -175,17 +180,35 @@ module _ {P D : Type 0} (pools : Ghosts P) (devices : Devices D) (trace : Trace)
     pub other_told : pools.told other.outside.pool ≡ Some image
     pub group : other.outside.group ≡ one.outside.group
     pub next : other.outside.next ≡ one.outside.next
-    pub device : AreDevicesAlike one.device other.device
+    pub device : AreDevicesAlike (shard_behind trace.config one.shards) one.device other.device
     pub shards : (shard : ℕ) → other.shards shard ≡ one.shards shard
     pub cells : (i : ℕ) → IsCell trace.config i → other.cells i ≡ one.cells i
     pub kept : other.kept ≡ one.kept
 
--- the first feeds find the same ring, and name the same log blocks; or there is none, since no device was started
-abbrev pub AreFirstAlike : (one other : Option CursorState) → Type 0
-AreFirstAlike None None = Unit {0}
-AreFirstAlike None (Some other) = ⊥
-AreFirstAlike (Some one) None = ⊥
-AreFirstAlike (Some one) (Some other) = AreCursorsAlike one other
+-- ---- the start of the cache device
+
+module _ {D : Type 0} (devices : Devices D) where
+  -- both tell the same bytes, or there is none
+  abbrev pub TellTheSame : (one other : Option D) → Type 0
+  TellTheSame None None = Unit {0}
+  TellTheSame None (Some other) = ⊥
+  TellTheSame (Some one) None = ⊥
+  TellTheSame (Some one) (Some other) = (devices.size other ≡ devices.size one) × ((image : List ℕ) × (devices.told one ≡ Some image) × (devices.told other ≡ Some image))
+
+  -- A start of this device left that one. One that is too short is not looked at. Any other one was asked for just these reads; the list and the stop are those of the bytes that it tells, and its ring is
+  -- written from this cursor on.
+  pub record StartsSo (before after : D) (reads : List DeviceCall) (first : Option CursorState) (rebuilt : Rebuilt) : Type 0 where
+    pub short : devices.size before < least_ring_end → (rebuilt.list ≡ []) × (rebuilt.stop ≡ stops.Short (devices.size before)) × (first ≡ None) × (reads ≡ [])
+    pub long : least_ring_end ≤ devices.size before → MakesDeviceCalls devices reads before after × (cursor : CursorState) × (first ≡ Some cursor) × IsOpened (ring_end_of (devices.size before)) cursor rebuilt.list
+        × IfSome (devices.told before) (λ image. IsStarted (ring_end_of (devices.size before)) image reads cursor rebuilt.list rebuilt.stop)
+    pub only : WasOnlyRead devices before after
+
+  -- so it was of the device that was handed in, where there was one
+  abbrev pub Starts : (handed started : Option D) → (reads : List DeviceCall) → (first : Option CursorState) → Option Rebuilt → Type 0
+  Starts None started reads first rebuilt = (started ≡ None) × (reads ≡ []) × (first ≡ None) × (rebuilt ≡ None)
+  Starts (Some before) None reads first rebuilt = ⊥
+  Starts (Some before) (Some after) reads first None = ⊥
+  Starts (Some before) (Some after) reads first (Some rebuilt) = StartsSo before after reads first rebuilt
 
 -- the feeds of a run went on from this cursor; where no device was started there was none
 abbrev pub GoOnFrom : Option CursorState → List FeedDone → Type 0
@@ -337,7 +360,8 @@ front_last lines stopped i = done_to i lines ++ events_of_cell i stopped.noted
 
 -- ---- the law
 
--- A run of one caller that came to a report, of a trace with a line on an object, a sync or a feed. Its lines were done in sequence; its feeds went on from the cursor that the start of its device found.
+-- A run of one caller that came to a report, of a trace with a line on an object, a sync or a feed. Its device was started by these reads; its lines were done in sequence; its feeds went on from the cursor that the
+-- start found.
 pub record OneRun {P D : Type 0} (pools : Ghosts P) (devices : Devices D) (trace : Trace) : Type 0 where
   pub before : P
   pub after : P
@@ -351,7 +375,12 @@ pub record OneRun {P D : Type 0} (pools : Ghosts P) (devices : Devices D) (trace
   pub further : has_further trace.ops ≡ true
   pub in_turn : RunsInTurn pools devices before after lent back run.run.place trace ending run.work run.run.explained.owner closed.cells report
   pub in_turn_is : in_turn ≡ run.run.in_turn callers further
+  pub handed : Option D
+  pub started : Option D
+  pub lent_is : lent ≡ usable devices started
+  pub reads : List DeviceCall
   pub first : Option CursorState
+  pub start : Starts devices handed started reads first report.rebuilt
   pub fed : GoOnFrom first run.work.feeds
   pub whole : report.short ≡ false
 
@@ -364,7 +393,7 @@ module _ {P D : Type 0} (pools : Ghosts P) (devices : Devices D) (trace : Trace)
   pool_row run = pool_answers run.run.work.lines ++ answers_at_stop run.ending run.run.work.stopped
 
   abbrev pub device_row : OneRun pools devices trace → List Call
-  device_row run = device_answers pools devices trace run.run.work.lines run.run.work.feeds (begun run) run.in_turn.reached run.in_turn.lines
+  device_row run = answers_of run.reads ++ device_answers pools devices trace run.run.work.lines run.run.work.feeds (begun run) run.in_turn.reached run.in_turn.lines
 
   -- the feeds of its line at this place
   abbrev pub feeds_of : OneRun pools devices trace → (place : ℕ) → List FeedDone
@@ -379,25 +408,18 @@ module _ {P D : Type 0} (pools : Ghosts P) (devices : Devices D) (trace : Trace)
   shard_closing run drops k = shard_behind trace.config (with_more trace.config (λ shard. run.in_turn.last_line.shards shard ++ events_of_drops 0 (held_in_shard trace.config shard run.in_turn.last_line.kept)) drops)
       (shard_of trace.config.shards k)
 
-  -- what its device told behind each line whose feed met a call that failed
-  abbrev pub left_row : OneRun pools devices trace → List (Option (List ℕ))
-  left_row run = left_by_feeds pools devices trace run.run.work.lines run.run.work.feeds (begun run) run.in_turn.reached run.in_turn.lines
-
 module _ {P D : Type 0} (pools : Ghosts P) (devices : Devices D) (trace : Trace) (one other : OneRun pools devices trace) where
-  -- both began over the same bytes, and found the same on the device
+  -- both began over the same bytes of the pool and of the device
   pub record BeginAlike : Type 0 where
     pub image : List ℕ
     pub told : pools.told one.before ≡ Some image
     pub other_told : pools.told other.before ≡ Some image
-    pub device : AreDevicesAlike pools devices trace one.lent other.lent
-    pub found : other.report.rebuilt ≡ one.report.rebuilt
-    pub cursors : AreFirstAlike one.first other.first
+    pub device : TellTheSame devices one.handed other.handed
 
-  -- As far as both made calls the same ones failed; and behind each feed of which one did, the device tells the same.
+  -- as far as both made calls the same ones failed
   pub record FailAlike : Type 0 where
     pub pool : AreAlikeSoFar (pool_row pools devices trace one) (pool_row pools devices trace other)
     pub device : AreAlikeSoFar (device_row pools devices trace one) (device_row pools devices trace other)
-    pub left : AreAlikeSoFar (left_row pools devices trace one) (left_row pools devices trace other)
 
   -- Of a line before which both came to the same, one feed picked in both the same keys of a shard, each with the same digest, and other bytes.
   pub record PicksThere : Type 0 where
@@ -451,5 +473,5 @@ abbrev pub ReportsAreRuns : {P D : Type 0} → Ghosts P → Devices D → Type 0
 ReportsAreRuns {P} {D} pool device = (before after : Handed P D) (answer : Status) (closed : Ended OnHeap) (report : Report) (r : IsReport pool device before after answer closed report)
     → r.trace.config.callers ≡ 1 → has_further r.trace.ops ≡ true
     → IsFormed (with_bound r.trace (device_len device.size before.cache)) × ((run : OneRun pool device (with_bound r.trace (device_len device.size before.cache)))
-    × (run.before ≡ before.pool) × (run.after ≡ after.pool) × (run.lent ≡ usable device r.started) × (run.back ≡ usable device after.cache) × (run.first ≡ r.first)
+    × (run.before ≡ before.pool) × (run.after ≡ after.pool) × (run.handed ≡ before.cache) × (run.started ≡ r.started) × (run.back ≡ usable device after.cache) × (run.first ≡ r.first)
     × (run.ending ≡ r.ending) × (run.closed ≡ closed) × (run.report ≡ report) × (run.run.work ≡ r.run.work))

@@ -51,32 +51,18 @@ fn is_found<R: AllocGlobal + Threads + Wait + Sync>(
     Ok(outcome.status == Status::Ok && has_line && is_back)
 }
 
-// A fault of the device is no refusal.
+// A fault of the device is no refusal. The device is asked for a fork for each caller, behind the read of its header: one that is refused leaves its
+// caller with no device. A short device is not read.
 #[test]
-fn a_device_whose_header_cannot_be_read(rt: HostRuntime) -> Result<(), Fail> {
-    let right = is_found(&rt, 266_240, &[0], "\nrebuilt 0 device\n")?;
-    assert!(rt; right);
-    Ok(())
-}
-
-// The device is asked for a fork for each caller, behind the read of its header. One that is refused leaves its caller with no device.
-#[test]
-fn a_device_whose_first_fork_fails(rt: HostRuntime) -> Result<(), Fail> {
-    let right = is_found(&rt, 266_240, &[1], "\nrebuilt 0 header magic\n")?;
-    assert!(rt; right);
-    Ok(())
-}
-
-#[test]
-fn a_device_of_which_no_fork_can_be_made(rt: HostRuntime) -> Result<(), Fail> {
-    let right = is_found(&rt, 266_240, &[1, 2], "\nrebuilt 0 header magic\n")?;
-    assert!(rt; right);
-    Ok(())
-}
-
-#[test]
-fn a_short_device_is_not_read(rt: HostRuntime) -> Result<(), Fail> {
-    let right = is_found(&rt, 512, &[0], "\nrebuilt 0 short\n")?;
-    assert!(rt; right);
+fn a_device_of_which_calls_fail(rt: HostRuntime) -> Result<(), Fail> {
+    let rows: [(usize, &[u64], &str); 4] = [
+        (266_240, &[0], "\nrebuilt 0 device\n"),
+        (266_240, &[1], "\nrebuilt 0 header magic\n"),
+        (266_240, &[1, 2], "\nrebuilt 0 header magic\n"),
+        (512, &[0], "\nrebuilt 0 short\n"),
+    ];
+    for (len, fails, line) in rows {
+        assert!(rt; is_found(&rt, len, fails, line)?);
+    }
     Ok(())
 }

@@ -1,80 +1,32 @@
 //! Runs over a source, a sink, a pool and forks of which single calls fail.
 use super::runs::{ran, source_of, spelled, zeros};
-use std::alloc::Global;
 use std::sync::Wait;
 use std::test::Fail;
 use std::thread::Threads;
-use trace_run::{Outcome, Status};
-use trace_text::report_text;
+use trace_run::Status;
 use vdev_io::FreeGate;
 
-/// A read of the only block.
-const ONE_READ: &str = "arc 1 1 16 1 4096 0 4096\nblock 0 512 1 Z\nread 0 1 0 0 4\n";
-
-/// Its report, with the events.
-const ONE_READ_REPORT: &str = "arc 1
-0 ok pool Z 00000000
-e 0 0 miss 0 0 512 1 1
-e 0 1 arrive 0 0 512 1 Z pool
-e 0 2 drop 0 0 512 1
-shard 0 c 4096 p 2048 anon 0 mru 512 mrug 0 mfu 0 mfug 0 l2 0
-count hit 0 miss 1 past 0 pool 1 l2 0 pass 0 set 0
-end 0
-";
-
-/// Runs a text with these words, where these calls of the source and of the sink fail.
-fn run_text<R: AllocGlobal + Threads + Wait + Sync>(
+/// Whether the policy over a list of two pages, where these calls of the source and of the sink fail, ends with this status and no report, and has
+/// written this.
+fn ends_so<R: AllocGlobal + Threads + Wait + Sync>(
     rt: &R,
-    words: &[&str],
-    text: &str,
     source_fails: &[u64],
     sink_fails: &[u64],
-) -> Result<(Outcome, Vec<u8>), Fail> {
-    let mut source = source_of(rt.alloc(), text, source_fails)?;
+    status: Status,
+    written: &[u8],
+) -> Result<bool, Fail> {
+    let words = ["paper", "2"];
+    let mut source = source_of(rt.alloc(), "1\n2\n", source_fails)?;
     let mut pool = zeros(rt.alloc(), 512, &[], &[])?;
-    Ok(ran(rt, words, &mut source, &mut pool, sink_fails, &FreeGate)?)
+    let (outcome, text) = ran(rt, &words, &mut source, &mut pool, sink_fails, &FreeGate)?;
+    Ok(outcome.status == status && outcome.report.is_none() && text.as_slice() == written)
 }
 
+// The sink takes twelve bytes at a time.
 #[test]
-fn a_source_that_fails(rt: HostRuntime) -> Result<(), Fail> {
-    for call in [0, 1] {
-        for words in [
-            ["run", "--events"].as_slice(),
-            ["paper", "2"].as_slice(),
-            ["check"].as_slice(),
-        ] {
-            let (outcome, text) = run_text(&rt, words, "1\n2\n", &[call], &[])?;
-            assert!(rt; outcome.status == Status::SourceFault && outcome.report.is_none());
-            assert!(rt; text.is_empty());
-        }
-    }
-    Ok(())
-}
-
-/// The text of a report with its events, as far as memory is there.
-fn text_of(alloc: Global, outcome: &Outcome) -> Result<Vec<u8>, Fail> {
-    let mut text = Vec::new(alloc);
-    if let Some(report) = &outcome.report {
-        report_text(alloc, report, true, &mut text)?;
-    }
-    Ok(text)
-}
-
-// The report is there all the same, and tells the status of the run.
-#[test]
-fn a_sink_that_fails(rt: HostRuntime) -> Result<(), Fail> {
-    let (outcome, text) = run_text(&rt, &["run"], ONE_READ, &[], &[0])?;
-    assert!(rt; outcome.status == Status::SinkFault && text.is_empty());
-    let told = text_of(rt.alloc(), &outcome)?;
-    assert!(rt; told.as_slice() == spelled(rt.alloc(), ONE_READ_REPORT)?.as_bytes());
-    Ok(())
-}
-
-#[test]
-fn a_sink_that_fails_behind_twelve_bytes(rt: HostRuntime) -> Result<(), Fail> {
-    let (outcome, text) = run_text(&rt, &["paper", "2"], "1\n2\n", &[], &[1])?;
-    assert!(rt; outcome.status == Status::SinkFault && outcome.report.is_none());
-    assert!(rt; text.as_slice() == b"0 miss\n1 mis".as_slice());
+fn a_later_call_of_a_stream_fails(rt: HostRuntime) -> Result<(), Fail> {
+    assert!(rt; ends_so(&rt, &[1], &[], Status::SourceFault, b"")?);
+    assert!(rt; ends_so(&rt, &[], &[1], Status::SinkFault, b"0 miss\n1 mis")?);
     Ok(())
 }
 

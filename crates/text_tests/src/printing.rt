@@ -42,27 +42,35 @@ fn a_trace_of_every_line(rt: HostRuntime) -> Result<(), Fail> {
     Ok(())
 }
 
-#[test]
-fn lines_that_are_passed_over_and_lines_in_another_order(rt: HostRuntime) -> Result<(), Fail> {
-    let ones = "1111111111111111111111111111111111111111111111111111111111111111";
-    let text = format!(in rt.alloc();
-        "#\narc 1 1 1 1 4096 0 0\nblock 0 1 2 {ones}\nobject 0 0 0\n\nblock 3 4 5 {ones}\nfeed"
-    )?;
-    let want = format!(in rt.alloc();
-        "arc 1 1 1 1 4096 0 0\nl2 8388608 2\nblock 0 1 2 {ones}\nblock 3 4 5 {ones}\nobject 0 0 0\nfeed\n"
-    )?;
-    let out = printed(rt.alloc(), text.as_str())?;
-    assert!(rt; out.as_slice() == want.as_bytes());
-    Ok(())
-}
+/// The made trace of ten reads of eight blocks.
+const MADE: &str = "\
+arc 1 1 256 1 4096 0 0
+l2 8388608 2
+block 0 512 1 076a27c79e5ace2a3d47f9dd2e83e4ff6ea8872b3c2218f66c92b89b55f36560
+block 512 512 1 076a27c79e5ace2a3d47f9dd2e83e4ff6ea8872b3c2218f66c92b89b55f36560
+block 1024 512 1 076a27c79e5ace2a3d47f9dd2e83e4ff6ea8872b3c2218f66c92b89b55f36560
+block 1536 512 1 076a27c79e5ace2a3d47f9dd2e83e4ff6ea8872b3c2218f66c92b89b55f36560
+block 2048 512 1 076a27c79e5ace2a3d47f9dd2e83e4ff6ea8872b3c2218f66c92b89b55f36560
+block 2560 512 1 076a27c79e5ace2a3d47f9dd2e83e4ff6ea8872b3c2218f66c92b89b55f36560
+block 3072 512 1 076a27c79e5ace2a3d47f9dd2e83e4ff6ea8872b3c2218f66c92b89b55f36560
+block 3584 512 1 076a27c79e5ace2a3d47f9dd2e83e4ff6ea8872b3c2218f66c92b89b55f36560
+read 0 1 6 0 0
+read 0 2 6 0 0
+read 0 3 1 0 0
+read 0 4 3 0 0
+read 0 5 3 0 0
+read 0 6 3 0 0
+read 0 7 2 0 0
+read 0 8 3 0 0
+read 0 9 4 0 0
+read 0 10 6 0 0
+";
 
 #[test]
-fn a_made_trace_behind_another_text(rt: HostRuntime) -> Result<(), Fail> {
-    let trace = gen_trace(rt.alloc(), 1, 1, 2)?;
-    let mut out = Vec::from_slice(rt.alloc(), b"# made\n")?;
+fn a_made_trace(rt: HostRuntime) -> Result<(), Fail> {
+    let trace = gen_trace(rt.alloc(), 1, 8, 10)?;
+    let mut out = Vec::new(rt.alloc());
     print_trace(rt.alloc(), &trace, &mut out)?;
-    let want =
-        b"# made\narc 1 1 256 1 4096 0 0\nl2 8388608 2\nblock 0 512 1 076a27c79e5ace2a3d47f9dd2e83e4ff6ea8872b3c2218f66c92b89b55f36560\nread 0 1 0 0 0\nread 0 2 0 0 0\n";
-    assert!(rt; out.as_slice() == want.as_slice());
+    assert!(rt; out.as_slice() == MADE.as_bytes());
     Ok(())
 }

@@ -49,10 +49,11 @@ impl Model for Draft {
 fn begun(config: Option<Config>, first: &[u8]) -> Result<Word, Kind>
     ensures { IsBegun config first.now result }
 {
-    match word_of(first) {
-        Some(word) if (word == Word::Arc) == config.is_none() => Ok(word),
-        _ if config.is_none() => Err(Kind::First),
-        _ => Err(Kind::Word),
+    match (word_of(first), config) {
+        (Some(Word::Arc), None) => Ok(Word::Arc),
+        (_, None) => Err(Kind::First),
+        (Some(Word::Arc) | None, Some(_)) => Err(Kind::Word),
+        (Some(word), Some(_)) => Ok(word),
     }
 }
 

@@ -1,25 +1,26 @@
 //! How an event is printed: its name, who made it, its key, and what else it tells.
-ghost use Rattle.std.specs.Prelude.{◌≡◌, Some};
-ghost use Rattle.trace_text.specs.EventText.{event_words, failed_word, key_words, origin_word, sole_word, told_words, why_word};
+ghost use Rattle.std.specs.Prelude.{◌≡◌, [], ◌∷◌, Some, decimal};
+ghost use Rattle.trace_text.specs.EventText.{event_words, failed_word, key_words, origin_word, sole_word, spaced, told_words, why_word};
 
 use arc_core::{Event, FailedAt, Origin, Why};
 use blk_ptr::{Digest, Key};
 use std::fmt;
 
-/// A key as its offset, its size and its birth.
+/// What the words of an event begin with, where it has a key: its name, who made it, and the key as its offset, its size and its birth.
 #[derive(Clone, Copy)]
-pub(crate) struct KeyWords(pub(crate) Key);
+struct UpToKey<'a>(&'a str, u32, Key);
 
-impl fmt::Display for KeyWords {
-    ghost output = { λ words. Some (key_words words.0) };
+impl fmt::Display for UpToKey<'_> {
+    ghost output = { λ words. Some (spaced (words.0.now ∷ decimal words.1 ∷ key_words words.2 ∷ [])) };
 
     fn fmt<W: fmt::Write>(&self, f: &mut fmt::Formatter<W>) -> fmt::Result {
+        let UpToKey(name, n, key) = *self;
         let Key {
             offset,
             size,
             birth,
-        } = self.0;
-        write!(f, "{offset} {size} {birth}")
+        } = key;
+        write!(f, "{name} {n} {offset} {size} {birth}")
     }
 }
 
@@ -47,61 +48,57 @@ impl fmt::Display for EventWords {
 
     fn fmt<W: fmt::Write>(&self, f: &mut fmt::Formatter<W>) -> fmt::Result {
         match self.0 {
-            Event::Pass { n, key, owner } => write!(f, "pass {n} {} {owner}", KeyWords(key)),
-            Event::Hit { n, key, t } => write!(f, "hit {n} {} {t}", KeyWords(key)),
-            Event::Miss { n, key, t } => write!(f, "miss {n} {} {t}", KeyWords(key)),
+            Event::Pass { n, key, owner } => write!(f, "{} {owner}", UpToKey("pass", n, key)),
+            Event::Hit { n, key, t } => write!(f, "{} {t}", UpToKey("hit", n, key)),
+            Event::Miss { n, key, t } => write!(f, "{} {t}", UpToKey("miss", n, key)),
             Event::Arrive {
                 n,
                 key,
                 digest,
                 from,
-            } => write!(
-                f,
-                "arrive {n} {} {digest} {}",
-                KeyWords(key),
-                word_of_origin(from)
-            ),
+            } => {
+                let front = UpToKey("arrive", n, key);
+                write!(f, "{front} {digest} {}", word_of_origin(from))
+            }
             Event::Fail { n, key, at } => write!(
                 f,
-                "fail {n} {} {}",
-                KeyWords(key),
+                "{} {}",
+                UpToKey("fail", n, key),
                 word_of_fault(at)
             ),
-            Event::Drop { n, key } => write!(f, "drop {n} {}", KeyWords(key)),
-            Event::Past { n, key, kept } => write!(f, "past {n} {} {kept}", KeyWords(key)),
-            Event::Hand { n, key, to } => write!(f, "hand {n} {} {to}", KeyWords(key)),
+            Event::Drop { n, key } => write!(f, "{}", UpToKey("drop", n, key)),
+            Event::Past { n, key, kept } => write!(f, "{} {kept}", UpToKey("past", n, key)),
+            Event::Hand { n, key, to } => write!(f, "{} {to}", UpToKey("hand", n, key)),
             Event::Insert { n, key, digest, t } => write!(
                 f,
-                "insert {n} {} {digest} {t}",
-                KeyWords(key)
+                "{} {digest} {t}",
+                UpToKey("insert", n, key)
             ),
             Event::Release { n, key, sole } => write!(
                 f,
-                "release {n} {} {}",
-                KeyWords(key),
+                "{} {}",
+                UpToKey("release", n, key),
                 word_of_hold(sole)
             ),
-            Event::Pick { n, key } => write!(f, "pick {n} {}", KeyWords(key)),
+            Event::Pick { n, key } => write!(f, "{}", UpToKey("pick", n, key)),
             Event::FeedEnd { n } => write!(f, "feedend {n}"),
-            Event::Set { n, key, place } => write!(f, "set {n} {} {place}", KeyWords(key)),
+            Event::Set { n, key, place } => write!(f, "{} {place}", UpToKey("set", n, key)),
             Event::Leave { n, key, why } => write!(
                 f,
-                "leave {n} {} {}",
-                KeyWords(key),
+                "{} {}",
+                UpToKey("leave", n, key),
                 word_of_cause(why)
             ),
-            Event::Clear { n, key } => write!(f, "clear {n} {}", KeyWords(key)),
+            Event::Clear { n, key } => write!(f, "{}", UpToKey("clear", n, key)),
             Event::Restore {
                 n,
                 key,
                 place,
                 digest,
-            } => write!(
-                f,
-                "restore {n} {} {place} {}",
-                KeyWords(key),
-                ToldDigest(digest)
-            ),
+            } => {
+                let front = UpToKey("restore", n, key);
+                write!(f, "{front} {place} {}", ToldDigest(digest))
+            }
             Event::Resize { n, c } => write!(f, "resize {n} {c}"),
         }
     }

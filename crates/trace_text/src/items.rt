@@ -14,7 +14,7 @@ use std::marker::Model;
 use std::sync::Arc;
 
 /// A list whose vector is taken in and given back as it is. Contracts see the list.
-#[derive(Debug, Drop)]
+#[derive(Drop)]
 pub struct Items<T> {
     items: Vec<T>,
 }
@@ -49,13 +49,13 @@ impl<T> Model for Items<T> {
 }
 
 /// The events of one shard, in their order: in a list of their own, or in the shard, which a closed cache owns too. Contracts see the events.
-#[derive(Debug, Drop)]
+#[derive(Drop)]
 pub struct History {
     events: Events,
 }
 
 /// Where the events of a shard lie.
-#[derive(Debug, Drop)]
+#[derive(Drop)]
 enum Events {
     Listed(EventList),
     InShard(Arc<Vec<Shard>>, usize),

@@ -1,7 +1,7 @@
 use dbuf_state::Oid;
 
 /// A line of a trace that says what a block of an object is at the start.
-#[derive(Clone, Copy, Debug, PartialEq, Eq)]
+#[derive(Clone, Copy)]
 pub struct Mapping {
     /// The object, and which of its blocks.
     pub at: Oid,

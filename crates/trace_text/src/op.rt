@@ -3,7 +3,7 @@ use crate::run::Run;
 use dbuf_state::{Oid, Window};
 
 /// One operation of a trace.
-#[derive(Debug, Drop)]
+#[derive(Drop)]
 pub enum Op {
     /// Caller `n` reads block `x` at tick `t`, shows the window `w` of its bytes, and lets the block go.
     Read {

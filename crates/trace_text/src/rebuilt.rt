@@ -8,7 +8,7 @@ use l2_log::LogFault;
 use std::fmt;
 
 /// What the start of a cache device found on it.
-#[derive(Debug, Drop)]
+#[derive(Drop)]
 pub struct Rebuilt {
     /// The keys that it restored, in the order in which they were found.
     pub list: RestoredList,

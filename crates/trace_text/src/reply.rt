@@ -10,7 +10,7 @@ use l2_dev::{FeedReport, FeedStop};
 use std::fmt;
 
 /// Why an operation was refused.
-#[derive(Clone, Copy, Debug, PartialEq, Eq)]
+#[derive(Clone, Copy)]
 pub enum Refusal {
     /// The caller's pool failed in this operation.
     PoolFault,
@@ -50,7 +50,7 @@ impl fmt::Display for Refusal {
 }
 
 /// What an operation of the trace was answered.
-#[derive(Debug, Drop)]
+#[derive(Drop)]
 pub enum Reply {
     /// A read: where its bytes came from, their digest, and those of its window.
     Read {

@@ -3,7 +3,7 @@ use crate::rebuilt::Rebuilt;
 use crate::totals::Totals;
 
 /// What a run reports.
-#[derive(Debug, Drop)]
+#[derive(Drop)]
 pub struct Report {
     /// What each operation was answered, in the order of the operations.
     pub replies: Replies,

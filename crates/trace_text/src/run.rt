@@ -6,7 +6,7 @@ use std::alloc::{AllocError, Global};
 use std::marker::Model;
 
 /// From 1 to 64 bytes that a line writes. They lie on the heap, so that other operations don't take their room. Contracts see the list of them.
-#[derive(Debug, Drop)]
+#[derive(Drop)]
 pub struct Run {
     bytes: Box<Shown>,
 }

@@ -11,7 +11,7 @@ use std::marker::Model;
 const MOST_INSIDE: usize = 22;
 
 /// Where the bytes lie.
-#[derive(Debug, Drop)]
+#[derive(Drop)]
 enum Room {
     /// In the reply.
     Inside { len: u8, room: [u8; 22] },
@@ -21,7 +21,7 @@ enum Room {
 
 /// At most [`MOST_SHOWN`] bytes. A few lie in the reply itself, more of them on the heap: a run keeps all its replies. Contracts see the list of
 /// them.
-#[derive(Debug, Drop)]
+#[derive(Drop)]
 pub struct ShownBytes {
     room: Room,
 }

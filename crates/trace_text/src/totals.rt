@@ -4,7 +4,7 @@ ghost use Rattle.std.specs.Prelude.{Some};
 use std::fmt;
 
 /// How often the workers that read the pool for callers were asked, over all groups. Each count goes round at 2^64.
-#[derive(Clone, Copy, Debug, PartialEq, Eq)]
+#[derive(Clone, Copy)]
 pub struct Totals {
     /// The reads that were asked for.
     pub asked: u64,

@@ -2,7 +2,7 @@ use crate::items::{Blocks, Objects, Ops};
 use arc_core::Config;
 
 /// What a trace's text says.
-#[derive(Debug, Drop)]
+#[derive(Drop)]
 pub struct Trace {
     /// The sizes of the cache.
     pub config: Config,

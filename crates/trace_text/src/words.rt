@@ -11,7 +11,7 @@ use key_table::NoMemory;
 use std::alloc::{AllocError, AllocFailed};
 
 /// The words that a line may begin with.
-#[derive(Clone, Copy, Debug, PartialEq, Eq)]
+#[derive(Clone, Copy)]
 pub(crate) enum Word {
     Arc,
     L2,
@@ -46,7 +46,7 @@ pub(crate) enum Line {
 }
 
 /// Why a line is not added to what the lines before it say.
-#[derive(Clone, Copy, Debug, PartialEq, Eq)]
+#[derive(Clone, Copy)]
 pub(crate) enum LineFault {
     /// What is wrong with the line.
     Wrong(Kind),
@@ -55,7 +55,7 @@ pub(crate) enum LineFault {
 }
 
 /// How much the lines so far say.
-#[derive(Clone, Copy, Debug, PartialEq, Eq)]
+#[derive(Clone, Copy)]
 pub(crate) struct Seen {
     /// The number of callers.
     pub(crate) callers: u32,

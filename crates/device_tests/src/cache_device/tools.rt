@@ -83,12 +83,11 @@ fn feed<D: CacheDev>(
     Ok(place)
 }
 
-/// A device that was fed, what each feed answered, and what the feeds dropped.
+/// A device that was fed, and what each feed answered.
 #[derive(Drop)]
 pub(super) struct Fed<D: CacheDev> {
     pub l2: L2Dev<D>,
     pub answers: Vec<Result<u64, DevErr>>,
-    pub dropped: Vec<Live>,
 }
 
 /// Starts a device, and feeds these blocks one by one, whatever is answered.
@@ -102,11 +101,7 @@ pub(super) fn after_feeds<D: CacheDev>(alloc: Global, dev: D, numbers: &[u8]) ->
             .push(feed(&mut l2, &mut dropped, key(*number), &block))
             .ok()?;
     }
-    Some(Fed {
-        l2,
-        answers,
-        dropped,
-    })
+    Some(Fed { l2, answers })
 }
 
 /// Whether these blocks were restored, in this order, each at its place and with its digest.

@@ -223,6 +223,7 @@ returns-clause-fed g c =
       inr (inr record {
         blocks = c.as_slice-picked.result.now;
         some = some_is c.as_slice-picked.result.now (sym c.is_empty.ensures ∙ c.if-is_empty.false);
+        whole = picked_whole cache.config turn (picks_of turn q) c.as_slice-picked.result.now f.here;
         clears = e.0;
         settles = e.1;
         acts_are = refl;
