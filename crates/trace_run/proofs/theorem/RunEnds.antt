@@ -39,7 +39,7 @@ use Rattle.trace_run.specs.declared.groups.Crew.{Crew}
 use Rattle.trace_run.specs.declared.kept_blocks.KeptBlock.{KeptBlock}
 use Rattle.trace_run.specs.Acts.{acts_of_drops}
 use Rattle.trace_run.specs.Answers.{AnswersAll}
-use Rattle.trace_run.specs.dbufs.CellEnds.{AreCellsOf, AreEndedSo, EndedCrew, done_by, end_entry, noted_ends}
+use Rattle.trace_run.specs.dbufs.CellEnds.{AreCellsOf, AreEndedSo, EndedCrew, SeesEnds, done_by, end_entry, noted_ends}
 use Rattle.trace_run.specs.Deeds.{HasToldAll, HasToldOthers, KeepsCells, Noted, acts_of_events, events_of_cell, events_there}
 use Rattle.trace_run.specs.Explaining.{BeginsWithEvents, EndsWith, Explain, drops_at_end}
 use Rattle.trace_run.specs.FeedEvents.{events_of_line, events_of_lines, feeds_behind}
