@@ -1,6 +1,6 @@
 -- What two answered lines on an object gave up of blocks that their cell keeps no longer: where the cell stood alike in both, and the shards tell the same of what it holds, they made the same acts; or the cell holds fewer entries
 -- under a key than it has blocks cached (dbuf_evict_one and dbuf_dirty of dbuf.c, which destroy the ARC buffer).
-use Rattle.std.proofs.Common.{◌≡◌, ◌≢◌, ◌⊎◌, ℕ, ◌<◌, Bool, true, false, if◌then◌else◌, List, [], ◌∷◌, ◌++◌, map, Option, Some, refl, sym, ap, subst, ◌∙◌, inl, inr, append_assoc}
+use Rattle.std.proofs.Common.{◌≡◌, ◌⊎◌, ℕ, ◌<◌, Bool, true, false, if◌then◌else◌, List, [], ◌∷◌, ◌++◌, map, Option, Some, refl, sym, ap, subst, ◌∙◌, inl, inr, append_assoc}
 use Rattle.std.proofs.lemmas.Bool.{false≢true}
 use Rattle.blk_ptr.specs.declared.key.Key.{Key}
 use Rattle.blk_ptr.specs.declared.ptr.Ptr.{Ptr}
@@ -8,7 +8,6 @@ use Rattle.arc_core.specs.PlainShard.{PlainShard}
 use Rattle.arc_core.specs.declared.config.Config.{Config}
 use Rattle.arc_core.specs.declared.event.Event.{Event}
 use Rattle.arc_core.specs.declared.event.Event.TheVariants.{Release}
-use Rattle.arc_core.specs.Operations.{Act}
 use Rattle.arc_table.specs.Geometry.{cell_number}
 use Rattle.dbuf_cells.specs.Ending.{DropsEach}
 use Rattle.dbuf_cells.specs.Places.{cell_of}

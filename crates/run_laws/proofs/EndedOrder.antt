@@ -1,5 +1,5 @@
 -- Two ends of cells to which the same was done, over shards that stand alike, dropped the same holds; or a cell holds fewer entries under a key than it has blocks cached.
-use Rattle.std.proofs.Common.{◌≡◌, ◌⊎◌, ℕ, zero, suc, ◌+◌, ◌<◌, ◌≤◌, Bool, List, [], ◌∷◌, ◌++◌, map, refl, sym, ap, subst, ◌∙◌, inl, inr, arith, append-nil, append_assoc}
+use Rattle.std.proofs.Common.{◌≡◌, ◌⊎◌, ℕ, zero, suc, ◌+◌, ◌<◌, ◌≤◌, List, [], ◌++◌, map, refl, sym, ap, subst, ◌∙◌, inl, inr, arith, append-nil, append_assoc}
 use Rattle.blk_ptr.specs.Hash.{shard_of}
 use Rattle.blk_ptr.specs.declared.key.Key.{Key}
 use Rattle.arc_core.specs.PlainShard.{PlainShard}
@@ -7,11 +7,10 @@ use Rattle.arc_core.specs.Replay.{replay}
 use Rattle.arc_core.specs.declared.event.Event.{Event}
 use Rattle.arc_table.specs.Geometry.{IsCell, cell_number}
 use Rattle.arc_table.specs.Telling.{opening_of}
-use Rattle.dbuf_cells.specs.Ending.{AreAllCached, DropsEach}
+use Rattle.dbuf_cells.specs.Ending.{DropsEach}
 use Rattle.dbuf_state.specs.Objects.{opening_cell}
 use Rattle.dbuf_state.specs.Outline.{Outline, OutlineDbuf, outline_after, outline_of}
 use Rattle.dbuf_state.specs.declared.event.CellEvent.{CellEvent}
-use Rattle.dbuf_state.specs.declared.oid.Oid.{Oid}
 use Rattle.dbuf_state.specs.declared.state.Mapping.{Mapping}
 use Rattle.trace_text.specs.declared.trace.Trace.{Trace}
 use Rattle.trace_text.specs.Grammar.{AreApart}

@@ -1,6 +1,6 @@
 -- A line on an object of two runs that stand alike: it brings the same block, is answered the same, does the same to its cell and makes the same events, and they stand alike again; or a get shows two contents of one digest,
 -- or the cell has come to two states by one history (dbuf_hold, dbuf_read and dbuf_dirty of dbuf.c, for a single thread).
-use Rattle.std.proofs.Common.{◌≡◌, ◌⊎◌, ℕ, ◌+◌, ◌<◌, Bool, IsTrue, List, [], ◌++◌, length, Option, Some, None, inl, inr, refl, sym, ap, subst, ◌∙◌, append_assoc, arith}
+use Rattle.std.proofs.Common.{◌≡◌, ◌⊎◌, ℕ, ◌+◌, ◌<◌, Bool, IsTrue, List, ◌++◌, length, Option, Some, None, inl, inr, refl, sym, ap, subst, ◌∙◌, append_assoc, arith}
 use Rattle.blk_ptr.specs.Key.{IsValid}
 use Rattle.blk_ptr.specs.declared.key.Key.{Key}
 use Rattle.arc_core.specs.Config.{IsConfig}

@@ -8,7 +8,6 @@ use Rattle.arc_core.specs.PlainShard.{PlainShard, count_of, place_of}
 use Rattle.arc_core.specs.declared.config.Config.{Config}
 use Rattle.arc_core.specs.declared.event.Event.{Event}
 use Rattle.arc_core.specs.declared.served.Served.{Served}
-use Rattle.arc_core.specs.declared.served.Served.TheVariants as served
 use Rattle.arc_table.specs.Ended.{Ended}
 use Rattle.arc_table.specs.Fetching.{bytes_from}
 use Rattle.arc_table.specs.Geometry.{IsCell, cell_number}
