@@ -53,6 +53,7 @@ use Rattle.dbuf_cells.proofs.Holders.{operates-as, stays-all, stays-noted, stays
 use Rattle.dbuf_cells.proofs.Operations.{hand-more, hand-room, operates, plain-test, rest-of, room-settled}
 use Rattle.dbuf_state.specs.Numbers.{claims_in, mapping_numbers}
 use Rattle.dbuf_cells.proofs.Claims.{claims-through}
+use Rattle.dbuf_state.proofs.HeldLemmas.{held-same}
 
 -- ---- a block whose bytes are there
 
@@ -77,7 +78,7 @@ module _ (cache : Cache) (i : ℕ) (e : CellEvent) (now c : CellLog Kept) (q : P
       subst (λ (x : CellLog Kept). InHand cache i p before Must (news ++ e ∷ []) es x q) (sym u.noted_is)
       (subst (λ (ev : Evicting). InHand cache i p before ev (news ++ e ∷ []) es (noted e (record u.roomy { dbufs = u.dbufs })) q) (u.must evicting)
       (hand-more cache i p before evicting news es u.roomy q roomy e [] u.dbufs (u.legal evicting s) (u.base evicting) u.follows (u.who ∙ who) (u.rest roomy.cell.rest) (λ k other. u.claims k)
-      (subst (λ (l : List Ptr). AreHolds l (list_at i q.own.listed)) (sym u.holds) roomy.holds)))
+      (subst (λ (l : List Ptr). AreHolds l (list_at i q.own.listed)) (sym u.holds) roomy.holds) u.tells))
 
   pub noted-evicts : MayGive cache i now q → MayEvict cache i c q
   noted-evicts m = record { from = m.from; before = m.before; evicting = Must; news = m.news ++ e ∷ []; es = m.es; hand = noted-hand m.from m.before m.evicting m.news m.es m.settled m.hand; may = refl }
@@ -275,6 +276,7 @@ module _ (n : ℕ) (at : Oid) (old roomy : CellLog Kept) (log : IsRoomier old ro
     claims = λ k. refl;
     holds = refl;
     stay = stays-all roomy.dbufs;
+    tells = λ b. refl;
   }
 
   pub pin-notes : (pinned now : CellLog Kept) → 1 + length old.dbufs ≤ roomy.event_room → pinned ≡ record roomy { dbufs = with_dbuf at (pinned_by n) roomy.dbufs } → now ≡ noted (Pin n at) pinned → Notes n (Pin n at) old now
@@ -294,6 +296,7 @@ module _ (n : ℕ) (at : Oid) (old roomy : CellLog Kept) (log : IsRoomier old ro
     claims = λ k. claims-stay at (pinned_by n) k roomy.dbufs (λ d found. refl);
     holds = holds-stay key_of bytes_of is_held at (pinned_by n) roomy.dbufs (λ d. refl);
     stay = stays-same at (pinned_by n) (λ d. refl) (λ d. refl) (λ d. refl) roomy.dbufs;
+    tells = held-same is_held at (pinned_by n) (λ d. refl) (λ d. refl) roomy.dbufs;
   }
 
   -- what is shown is an answer, with the size of what is mapped

@@ -35,11 +35,12 @@ use Rattle.dbuf_cells.specs.Emptying.{AreLower, IsEnding, cached_in}
 use Rattle.dbuf_cells.specs.Ending.{DropsEach, EndsCell, EndsFrom, lower_oid}
 use Rattle.dbuf_cells.specs.InHand.{AsTaken, GivesBack, HasGiven, InHand, IsRoomier, MayGive}
 use Rattle.dbuf_cells.specs.Kept.{bytes_of, is_held, key_of}
-use Rattle.dbuf_cells.specs.Turns.{CellTurn, OnHeap, PartyPlace, drops_if, held_in}
+use Rattle.dbuf_cells.specs.Turns.{CellTurn, OnHeap, PartyPlace, drops_if, held_in, held_at}
 use Rattle.dbuf_cells.specs.declared.kept.Kept.{Kept}
 use Rattle.dbuf_cells.proofs.CellSteps.{all-more, done-more, done-none, done-roomier, found-oid, none-there, test-of}
 use Rattle.dbuf_cells.proofs.Evictions.{given-back, has-of, is-dbuf}
 use Rattle.dbuf_cells.proofs.Holders.{held-as, stays-all, stays-out, stays-then}
+use Rattle.dbuf_state.proofs.HeldLemmas.{held-map}
 
 -- ---- which dbufs have the bytes of a clean block
 
@@ -180,6 +181,7 @@ module _ (cache : Cache) (i : ℕ) (p : PartyPlace) (before : OnHeap) (old now :
         es = h.es ++ gave.0;
         party = gave.2;
         sound = h.sound;
+        told = h.told;
         same = ap (λ (c : CellLog Kept). record c { dbufs = left }) h.same;
         hides = end-hides-unkept at old.dbufs ∙ h.hides;
         rest = rest-lasts-by-unkeep at state.Evicting old.dbufs cached h.rest;
@@ -207,6 +209,7 @@ begins-ending cache i p before now q t is = subst (λ (c : CellLog Kept). IsEndi
   es = [];
   party = t.hand.party;
   sound = t.hand.cell.sound;
+  told = t.hand.cell.told;
   same = refl;
   hides = refl;
   rest = rest-lasts before.value.dbufs t.hand.cell.rest;
@@ -226,7 +229,7 @@ begins-ending cache i p before now q t is = subst (λ (c : CellLog Kept). IsEndi
 -- ---- the end
 
 module _ (cache : Cache) (i : ℕ) (p : PartyPlace) (before : OnHeap) (old now : CellLog Kept) (q : PartyPlace) (e : IsEnding cache i p before old q) (n : ℕ) (who : n ≡ q.number)
-    (is : now ≡ noted (End n) (record old { dbufs = map cleared old.dbufs })) where
+    (is : now ≡ noted (End n) (record old { dbufs = map cleared old.dbufs })) (loose : (at : Oid) → held_at old.dbufs at ≡ false) where
   abbrev base : CellLog Kept
   base = record before.value { dbuf_room = old.dbuf_room; event_room = old.event_room }
 
@@ -237,9 +240,10 @@ module _ (cache : Cache) (i : ℕ) (p : PartyPlace) (before : OnHeap) (old now :
   ended-hand = subst (λ (c : CellLog Kept). InHand cache i p before Never (End q.number ∷ []) e.es c q) (sym ended-is) record {
     party = e.party;
     cell = done-more q.number before.value base e.sound.evicting []
-        (done-roomier q.number before.value before.value e.sound.evicting [] (done-none q.number before.value e.sound) old.dbuf_room old.event_room)
+        (done-roomier q.number before.value before.value e.sound.evicting [] (done-none q.number before.value e.sound e.told) old.dbuf_room old.event_room)
         (End q.number) [] (map cleared old.dbufs) e.sound.history.settled tt (end-follows base q.number old.dbufs e.hides) refl (end-rests old.dbufs e.rest)
-        (λ k other. claims-stay-by-end k old.dbufs ∙ e.claims k);
+        (λ k other. claims-stay-by-end k old.dbufs ∙ e.claims k)
+        (λ b. held-map is_held cleared (λ d. refl) (λ d. refl) old.dbufs b ∙ loose b);
     holds = subst (λ (l : List Ptr). AreHolds l (list_at i q.own.listed)) (sym (holds-stay-by-end key_of bytes_of is_held old.dbufs)) e.holds;
   }
 

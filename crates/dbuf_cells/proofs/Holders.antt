@@ -15,7 +15,7 @@ use Rattle.arc_core.specs.Keeps.{holds_on}
 use Rattle.arc_core.specs.declared.config.Config.{Config}
 use Rattle.arc_core.specs.declared.event.Event.{Event}
 use Rattle.dbuf_state.specs.CellLog.{CellLog, noted, touched}
-use Rattle.dbuf_state.specs.Dbufs.{plain_block, plain_dbuf, DbufHas, Fits, IsFit, cached_with, dbuf_at, dbuf_is, dbuf_oid, is_cached, is_clean, is_clean_in, mapped_of, used_at, with_dbuf}
+use Rattle.dbuf_state.specs.Dbufs.{plain_block, plain_dbuf, DbufHas, Fits, IsFit, cached_with, dbuf_at, dbuf_is, dbuf_oid, is_cached, is_clean, is_clean_in, mapped_of, used_at, with_dbuf, standing_of}
 use Rattle.dbuf_state.specs.Objects.{use_of}
 use Rattle.dbuf_state.specs.Objects as plain
 use Rattle.dbuf_state.specs.Oids.{has_item, is_distinct, item_at, oid_eq, with_change, with_item}
@@ -31,7 +31,7 @@ use Rattle.dbuf_state.specs.declared.oid.Oid.{Oid}
 use Rattle.dbuf_state.specs.declared.state.DbState.{DbState}
 use Rattle.dbuf_state.proofs.CellLemmas.{oid_eq-sym}
 use Rattle.dbuf_state.proofs.IndexLemmas.{and-both, and-parts, bool_cases}
-use Rattle.dbuf_state.proofs.OutlineLemmas.{cell-is-in-outline}
+use Rattle.dbuf_state.proofs.OutlineLemmas.{cell-is-in-outline, block-cached}
 use Rattle.dbuf_cells.specs.InHand.{HoldsStay, IsRoomier}
 use Rattle.dbuf_cells.specs.Kept.{bytes_of, is_held, key_of}
 use Rattle.dbuf_cells.specs.Loading.{AreHeldBut}
@@ -39,6 +39,7 @@ use Rattle.dbuf_cells.specs.Turns.{AreEvictions, HoldsStand, IsCachedAs, OnHeap,
 use Rattle.dbuf_cells.specs.declared.kept.Kept.{Kept}
 use Rattle.dbuf_cells.proofs.CellSteps.{oid-is}
 use Rattle.dbuf_cells.proofs.HoldLists.{hold-counts, kept-one}
+use Rattle.dbuf_state.specs.Standings.{none_kept}
 
 -- the dbuf keeps a hold
 abbrev pub keeps_hold : Dbuf Kept → Bool
@@ -236,6 +237,26 @@ not-true false h = refl
 and-true : (a : Bool) → (a && true) ≡ a
 and-true true = refl
 and-true false = refl
+
+-- where no block is kept, none is held
+none-holds : (d : Dbuf Kept) → IsFit key_of bytes_of d → (standing_of d).kept ≡ false → keeps_hold d ≡ false
+none-holds d fit none = go d.kept refl
+  where
+    go : (o : Option Kept) → d.kept ≡ o → option_map_or is_held o false ≡ false
+    go None is = refl
+    go (Some k) is =
+        let of = of-clean d.content d.state d.kept k fit is in
+        absurd (false≢true (sym none ∙ (sym (block-cached d.content d.state) ∙ and-both (is_clean d.content) (is_cached d.state) (ap is_clean of.clean) of.cached)))
+
+pub none-held : (ds : List (Dbuf Kept)) → AllByRecursion (IsFit key_of bytes_of) ds → none_kept (map standing_of ds) ≡ true → (at : Oid) → held_at ds at ≡ false
+none-held [] fit none at = refl
+none-held (d ∷ ds) fit none at =
+    let parts = and-parts (not (standing_of d).kept) (none_kept (map standing_of ds)) none in
+    go (none-holds d fit.0 (not-true (standing_of d).kept parts.0)) (none-held ds fit.1 parts.1 at) (bool_cases (oid_eq at d.at))
+  where
+    go : keeps_hold d ≡ false → held_at ds at ≡ false → (oid_eq at d.at ≡ true) ⊎ (oid_eq at d.at ≡ false) → held_at (d ∷ ds) at ≡ false
+    go one rest (inl here) = rw here one
+    go one rest (inr far) = rw far rest
 
 -- ---- as many holds as there are such blocks
 

@@ -35,6 +35,8 @@ use Rattle.dbuf_cells.specs.Turns.{AreEvictions, OnHeap, Operates, PartyPlace, h
 use Rattle.dbuf_cells.specs.declared.kept.Kept.{Kept}
 use Rattle.dbuf_cells.proofs.CellSteps.{done-more, done-roomier}
 use Rattle.dbuf_cells.proofs.Holders.{evictions-held}
+use Rattle.dbuf_state.proofs.HeldLemmas.{held-same}
+use Rattle.dbuf_state.specs.Held.{held_after}
 
 -- ---- outlines that differ in what may be evicted alone
 
@@ -67,10 +69,10 @@ room-settled evicting now c is settled = subst (λ (x : CellLog Kept). IsTrue (n
 module _ (cache : Cache) (i : ℕ) (p : PartyPlace) (before : OnHeap) (evicting : Evicting) (news : List CellEvent) (es : List Event) (now : CellLog Kept) (q : PartyPlace) (h : InHand cache i p before evicting news es now q) where
   pub hand-more : (e : CellEvent) (base : List ℕ) (ds : List (Dbuf Kept)) → IsLegal (plain_cell evicting now) e → IsBase base (plain_cell evicting now) e → Follows base now e ds → number_of e ≡ q.number
       → IsTrue (are_at_rest ds) → ((k : ℕ) → k ≢ q.number → claims_in k ds ≡ claims_in k now.dbufs) → AreHolds (holds_in key_of bytes_of is_held ds) (list_at i q.own.listed)
-      → InHand cache i p before (evicting_after evicting e) (news ++ e ∷ []) es (noted e (record now { dbufs = ds })) q
-  hand-more e base ds legal of follows who rest claims holds = record {
+      → ((b : Oid) → held_at ds b ≡ held_after b (held_at now.dbufs b) e) → InHand cache i p before (evicting_after evicting e) (news ++ e ∷ []) es (noted e (record now { dbufs = ds })) q
+  hand-more e base ds legal of follows who rest claims holds held = record {
     party = h.party;
-    cell = done-more q.number before.value now evicting news h.cell e base ds legal of follows who rest claims;
+    cell = done-more q.number before.value now evicting news h.cell e base ds legal of follows who rest claims held;
     holds = subst (λ (l : List Ptr). AreHolds l (list_at i q.own.listed)) (sym (holds-stay-by-note key_of bytes_of is_held (length now.history + 1) (use_of e) ds)) holds;
   }
 
@@ -150,7 +152,8 @@ module _ (cache : Cache) (i : ℕ) (p : PartyPlace) (before : OnHeap) (evicting 
       (and-both (not (is_due (plain_cell evicting now))) _ settled (plain-test evicting now at (λ d. has_pin n d.pins) ∙ has)) tt (unpin-follows now n at) who
       (rest-stays at (unpinned_by n) now.dbufs (λ d found. rest-of at now.dbufs d h.cell.rest found) h.cell.rest)
       (λ k other. claims-stay at (unpinned_by n) k now.dbufs (λ d found. refl))
-      (subst (λ (l : List Ptr). AreHolds l (list_at i q.own.listed)) (sym (holds-stay key_of bytes_of is_held at (unpinned_by n) now.dbufs (λ d. refl))) h.holds))
+      (subst (λ (l : List Ptr). AreHolds l (list_at i q.own.listed)) (sym (holds-stay key_of bytes_of is_held at (unpinned_by n) now.dbufs (λ d. refl))) h.holds)
+      (held-same is_held at (unpinned_by n) (λ d. refl) (λ d. refl) now.dbufs))
 
 -- whether a number has a pin stands in the outline
 pub no-pin : (b : OnHeap) (n : ℕ) (at : Oid) → dbuf_is (λ d. has_pin n d.pins) at b.value.dbufs ≡ false → has_pin_at n at (outline_in b) ≡ false

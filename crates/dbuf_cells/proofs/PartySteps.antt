@@ -87,7 +87,7 @@ module _ (cache : Cache) (i : ℕ) (valid : IsConfig cache.config) (in_range : I
         recorded = cell-is.recorded;
         claims = ap (λ (l : Ledger). l.claims) k.ledger;
       };
-      cell = done-none q.number before.value sound-is;
+      cell = done-none q.number before.value sound-is cell-is.sound.tells;
       holds = record {
         count = λ j. ap (holds_on j) (sym cell-is.listed);
         among = λ j h at. (j, subst (λ (l : List Ptr). get_elem? l j ≡ some h) (sym cell-is.listed) at);
@@ -109,7 +109,7 @@ module _ (cache : Cache) (i : ℕ) (valid : IsConfig cache.config) (in_range : I
       cell-is = subst (IsTakenCell dbuf_meanings cache.config i before p) (sym t.took) (taken-cell dbuf_meanings cache.config i before t.owners t.knew p valid party.config in_range t.lost t.free)
 
       sound-is : IsSound before.value
-      sound-is = cell-is.sound
+      sound-is = cell-is.sound.sound
 
       looks : (j : ℕ) → IsAmong j (i ∷ p.held) → IsCell cache.config j
       looks j (inl e) = subst (IsCell cache.config) e in_range
@@ -209,7 +209,7 @@ module _ (cache : Cache) (i : ℕ) (p : PartyPlace) (before : OnHeap) (evicting 
   may-give = record {
     taken = before;
     recorded = h.party.recorded;
-    sound = done-sound q.number before.value now.value evicting news h.cell settled fit;
+    sound = record { sound = done-sound q.number before.value now.value evicting news h.cell settled fit; tells = h.cell.tells };
     holds = h.holds;
     more = map event_numbers news;
     entries = ap (map event_numbers) h.cell.history ∙ map-append event_numbers before.value.history news;
@@ -228,6 +228,7 @@ module _ (cache : Cache) (i : ℕ) (p : PartyPlace) (before : OnHeap) (evicting 
       makes = h.party.makes;
       sound = h.cell.sound;
       stands = h.party.stands;
+      tells = h.cell.told;
       history = h.cell.history;
       evicting = evicting;
       bases = h.cell.bases;

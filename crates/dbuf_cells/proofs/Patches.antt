@@ -26,7 +26,7 @@ use Rattle.dbuf_state.specs.Objects.{AreBytesOf, Evicting, IsBaseAt, Must, Plain
 use Rattle.dbuf_state.specs.Objects as plain
 use Rattle.dbuf_state.specs.Outline.{Outline, OutlineDbuf, after_all, is_cached_at, mapped_at, outline_of}
 use Rattle.dbuf_state.specs.Outline as outline
-use Rattle.dbuf_state.specs.Oids.{item_at}
+use Rattle.dbuf_state.specs.Oids.{item_at, oid_eq}
 use Rattle.dbuf_state.specs.Soundness.{holds_in, plain_cell}
 use Rattle.dbuf_state.specs.declared.dbuf.Content.{Content}
 use Rattle.dbuf_state.specs.declared.dbuf.Content.TheVariants.{Clean, Dirty}
@@ -42,7 +42,7 @@ use Rattle.dbuf_state.specs.declared.state.Mapped.{Mapped}
 use Rattle.dbuf_state.specs.declared.state.Mapped.TheVariants as mapped
 use Rattle.dbuf_state.specs.declared.window.Window.{Window}
 use Rattle.dbuf_state.proofs.HandLemmas.{claims-stay, holds-stay, holds-stay-by-note, plain-dbuf-is, rest-stays, claims-stay-by-note}
-use Rattle.dbuf_state.proofs.IndexLemmas.{and-both}
+use Rattle.dbuf_state.proofs.IndexLemmas.{and-both, bool_cases}
 use Rattle.dbuf_state.proofs.OutlineLemmas.{cell-is-in-outline, leads-outline}
 use Rattle.dbuf_state.proofs.StepLemmas.{patch-follows, patch-of-clean-follows}
 use Rattle.dbuf_cells.specs.Accessing.{EndsInside, Gets, Refuses, no_bytes, no_key}
@@ -57,11 +57,12 @@ use Rattle.dbuf_cells.proofs.Acts.{IsReadFault, has-its-bytes, no-room, no-room-
 use Rattle.dbuf_cells.proofs.Bringings.{in-outline}
 use Rattle.dbuf_cells.proofs.Holders.{held-as, operates-as, stays-noted, stays-out, stays-roomy, stays-same, stays-then}
 use Rattle.dbuf_cells.specs.Bringing.{held_behind}
-use Rattle.dbuf_cells.proofs.CellSteps.{done-more, length-change, length-touched, test-of}
+use Rattle.dbuf_cells.proofs.CellSteps.{done-more, length-change, length-touched, test-of, oid-is}
 use Rattle.dbuf_cells.proofs.Copies.{dirtied-dirty, dirtied-inside}
 use Rattle.dbuf_cells.proofs.Evictions.{has-of, kept-out}
 use Rattle.dbuf_cells.proofs.Operations.{after-alike, hand-room, operates, plain-test, rest-of, room-settled}
 use Rattle.dbuf_cells.proofs.PutSteps.{GivenUp, IsReleaseOf, given-up, same-party}
+use Rattle.dbuf_state.proofs.HeldLemmas.{held-cleared, held-same}
 
 -- ---- the outline of a cell in hand
 
@@ -138,6 +139,13 @@ cached-none m at (Clean ptr) state.Fill h = absurd (false≢true h)
 cached-none m at (Clean ptr) state.Cached h = refl
 cached-none m at (Clean ptr) state.Evicting h = absurd (false≢true h)
 
+-- where no hold is kept none is let go
+none-already : (at b : Oid) (ds : List (Dbuf Kept)) → held_at ds at ≡ false → (if oid_eq b at then false else held_at ds b) ≡ held_at ds b
+none-already at b ds loose = elim (bool_cases (oid_eq b at)) [
+  | inl same ↦ let none : held_at ds b ≡ false = ap (held_at ds) (oid-is b at same) ∙ loose in rw same (sym none)
+  | inr other ↦ rw other refl
+]
+
 -- ---- the cell
 
 module _ (cache : Cache) (i : ℕ) (p : PartyPlace) (before : OnHeap) (evicting : Evicting) (news : List CellEvent) (es : List Event) (now : CellLog Kept) (q r : PartyPlace) (h : InHand cache i p before evicting news es now q)
@@ -175,14 +183,16 @@ module _ (cache : Cache) (i : ℕ) (p : PartyPlace) (before : OnHeap) (evicting 
       (patch-of-clean-follows now n at from bytes (bytes_of k)) who
       (written-rest X (rest-stays at (dirty_with (bytes_of k)) now.dbufs (λ d found. refl) h.cell.rest))
       (λ k' other. written-claims k' X ∙ claims-stay at (dirty_with (bytes_of k)) k' now.dbufs (λ d found. sym (cached-none k' d.at d.content d.state (test-of (is_clean_in is_cached) at now.dbufs d clean found))))
+      (λ b. held-same is_held at (written_at from bytes) (λ d. refl) (λ d. refl) X b ∙ held-cleared is_held at (dirty_with (bytes_of k)) (λ d. refl) (λ d. refl) now.dbufs b)
 
   -- of a dirty one
-  done-dirty : dbuf_is is_dirty at now.dbufs ≡ true → HasDone q.number before.value Must (news ++ Patch n at from bytes ∷ []) (noted (Patch n at from bytes) (record now { dbufs = with_dbuf at (written_at from bytes) now.dbufs }))
-  done-dirty dirty =
+  done-dirty : dbuf_is is_dirty at now.dbufs ≡ true → held_at now.dbufs at ≡ false → HasDone q.number before.value Must (news ++ Patch n at from bytes ∷ []) (noted (Patch n at from bytes) (record now { dbufs = with_dbuf at (written_at from bytes) now.dbufs }))
+  done-dirty dirty loose =
       let b = dirty-list at now.dbufs dirty in
       done-more q.number before.value now evicting news h.cell (Patch n at from bytes) b.0 (with_dbuf at (written_at from bytes) now.dbufs) patch-legal
       (base-at b.0 evicting now at (λ d found. let is = has-of (λ x. x.content ≡ Dirty b.0) (dbuf_at at now.dbufs) d b.1 found in subst (λ (c : Content). AreBytesOf b.0 (plain_block c d.state)) (sym is) refl))
       (patch-follows now n at from bytes b.0 b.1) who (written-rest now.dbufs h.cell.rest) (λ k' other. written-claims k' now.dbufs)
+      (λ b'. held-same is_held at (written_at from bytes) (λ d. refl) (λ d. refl) now.dbufs b' ∙ sym (none-already at b' now.dbufs loose))
 
 still-clean : (from : ℕ) (bytes : List ℕ) (c : Content) (s : DbState) → (is_clean (written from bytes c) && is_cached s) ≡ (is_clean c && is_cached s)
 still-clean from bytes (Clean ptr) s = refl
@@ -253,7 +263,7 @@ module _ (cache : Cache) (i : ℕ) (n : ℕ) (at : Oid) (from : ℕ) (bytes : Li
       go : (o : Option Kept) → TakesOver at o u.roomy u.owned → GivesUp cache.config i o q r → c ≡ noted (Patch n at from bytes) (record u.owned { dbufs = with_dbuf at (written_at from bytes) u.owned.dbufs }) → Patched p before news es r
       go None t g is =
           let up = same-party cache i p before evicting news es u.roomy q r h None (holds_of u.roomy) refl h.holds g in
-          let hand = patch-with cache i p before evicting news es u.roomy q r h n at from bytes who s cached-roomy inside-roomy u.roomy.dbufs None (done-dirty cache i p before evicting news es u.roomy q r h n at from bytes who s cached-roomy inside-roomy t.dirty) up in
+          let hand = patch-with cache i p before evicting news es u.roomy q r h n at from bytes who s cached-roomy inside-roomy u.roomy.dbufs None (done-dirty cache i p before evicting news es u.roomy q r h n at from bytes who s cached-roomy inside-roomy t.dirty t.loose) up in
           record {
             released = up.released;
             releases = none up.released up.told;

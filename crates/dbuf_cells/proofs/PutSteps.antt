@@ -47,6 +47,7 @@ use Rattle.dbuf_cells.proofs.Evictions.{has-of, is-dbuf, left-held, left-loose}
 use Rattle.dbuf_cells.proofs.HoldLists.{kept-one, one-less, taken-out}
 use Rattle.dbuf_cells.proofs.Operations.{rest-of}
 use Rattle.dbuf_cells.proofs.PartySteps.{alike-listed, among-held, taken-more}
+use Rattle.dbuf_state.proofs.HeldLemmas.{held-item}
 
 -- ---- what may be written
 
@@ -251,7 +252,8 @@ module _ (cache : Cache) (i : ℕ) (p : PartyPlace) (before : OnHeap) (evicting 
           party = up.party;
           cell = subst (λ (m : ℕ). HasDone m before.value Must (news ++ Put n at size fill ∷ []) put-to) (sym number)
               (done-more q.number before.value now evicting news h.cell (Put n at size fill) [] (written-to at bytes now.dbufs) settled tt (put-follows now n at size fill) who (written-rest at bytes now.dbufs h.cell.rest)
-              (λ k other. written-claims at bytes now.dbufs quiet k));
+              (λ k other. written-claims at bytes now.dbufs quiet k)
+              (held-item is_held at (dirty_with bytes) (λ d. refl) (λ d. refl) (new-dbuf at bytes now.dbufs) refl refl now.dbufs));
           holds = subst (λ (l : List Ptr). AreHolds l (list_at i r.own.listed)) (sym (holds-stay-by-note key_of bytes_of is_held (length now.history + 1) (Some at) (written-to at bytes now.dbufs))) up.holds;
         },
         up.told,

@@ -41,6 +41,11 @@ abbrev pub handed : (n c : ℕ) → Read → List Event
 handed n c (gave.Held hold from) = Hand n hold.key c ∷ []
 handed n c (gave.Past block kept) = []
 
+-- it gave a hold, and not a block past the cache
+abbrev pub gives_hold : Read → Bool
+gives_hold (gave.Held hold from) = true
+gives_hold (gave.Past block kept) = false
+
 -- an event was made
 abbrev pub is_some_made : List Event → Bool
 is_some_made [] = false
@@ -68,10 +73,11 @@ module _ {P D : Type 0} (pools : PoolGhosts P) (devices : DeviceGhosts D) (g : C
     pub answered : AnswersRead dbuf_meanings pools devices g ptr t before now marked q answer
 
   -- How the party p, which took the cell, came to have it with the block's bytes. They were there: it goes on in the same turn. Or it read them,
-  -- is `back` then, and has taken the cell, which is `mid`, again: its turn begins with a Load, and what was read goes to the cell.
+  -- is `back` then, and has taken the cell, which is `mid`, again: its turn begins with a Load, and what was read goes to the cell. The Load says
+  -- whether the dbuf keeps a hold: it does but where the block was read past the cache.
   pub data Brings (cell : OnHeap) (p back : PartyPlace) (mid : OnHeap) (loads : List CellEvent) (hands : List Event) : Type 0 where
     here : back ≡ p → mid ≡ cell → loads ≡ [] → hands ≡ [] → now ≡ before → Brings cell p back mid loads hands
-    loaded : (ptr : Ptr) (read : Read) → Reads ptr cell p back (Ok read) → mapped_at at (outline_in mid) ≡ Some (Clean ptr) → loads ≡ Load p.number at ∷ [] → hands ≡ handed p.number (cell_number g i) read
+    loaded : (ptr : Ptr) (read : Read) → Reads ptr cell p back (Ok read) → mapped_at at (outline_in mid) ≡ Some (Clean ptr) → loads ≡ Load p.number at (gives_hold read) ∷ [] → hands ≡ handed p.number (cell_number g i) read
         → Brings cell p back mid loads hands
 
   -- Nothing was brought: the read was refused, and the mark taken back in a second turn. Or memory was refused behind the read: the mark was

@@ -16,6 +16,7 @@ use Rattle.arc_table.specs.Looking.{HasNoLook}
 use Rattle.arc_table.specs.declared.item.Item.TheVariants as item
 use Rattle.dbuf_state.specs.CellLog.{CellLog, fresh, noted}
 use Rattle.dbuf_state.specs.Dbufs.{DbufHas, IsFit, IsOfContent, dbuf_at, dbuf_is, dbuf_oid, dirty_with, is_cached, is_clean_in, standing_of, unpinned_by, with_dbuf, without_kept}
+use Rattle.dbuf_state.specs.Held.{TellsHolds}
 use Rattle.dbuf_state.specs.History.{Leads}
 use Rattle.dbuf_state.specs.InHand.{are_at_rest}
 use Rattle.dbuf_state.specs.Numbers.{claims_in, mapping_numbers, number_of}
@@ -35,7 +36,7 @@ use Rattle.dbuf_state.specs.declared.state.DbState.{DbState}
 use Rattle.dbuf_state.specs.declared.state.DbState.TheVariants as state
 use Rattle.dbuf_state.specs.declared.state.Mapped.{Mapped}
 use Rattle.dbuf_state.specs.declared.state.Mapped.TheVariants as mapped
-use Rattle.dbuf_cells.specs.Kept.{bytes_of, key_of}
+use Rattle.dbuf_cells.specs.Kept.{bytes_of, key_of, is_held}
 pub use Rattle.dbuf_cells.specs.Turns.{IsAtRest}
 use Rattle.dbuf_cells.specs.Turns.{AreEvictions, CellTurn, HoldsStand, KeepsClaims, MakesAll, OnHeap, PartyPlace, WaitsForDbuf, dbuf_meanings, held_at, holds_of}
 use Rattle.dbuf_cells.specs.declared.kept.Kept.{Kept}
@@ -60,6 +61,8 @@ pub record HasTaken (cache : Cache) (i : ℕ) (p : PartyPlace) (before : OnHeap)
 -- The number n did these things to a cell, which was so before: it is `now`, and evictions stand so.
 pub record HasDone (n : ℕ) (before : CellLog Kept) (evicting : Evicting) (news : List CellEvent) (now : CellLog Kept) : Type 0 where
   pub sound : IsSound before
+  pub told : TellsHolds is_held before
+  pub tells : TellsHolds is_held now
   pub limit : now.limit ≡ before.limit
   pub opening : now.opening ≡ before.opening
   pub history : now.history ≡ before.history ++ news

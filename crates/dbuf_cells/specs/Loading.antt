@@ -41,11 +41,12 @@ use Rattle.dbuf_state.specs.declared.state.Mapped.{Mapped}
 use Rattle.dbuf_state.specs.declared.state.Mapped.TheVariants as mapped
 use Rattle.dbuf_state.specs.declared.state.Mapping.{Mapping}
 use Rattle.dbuf_state.specs.declared.window.Window.{Window}
-use Rattle.dbuf_cells.specs.Bringing.{Brings, DropsRead, FailsToLoad, IsUnmarked, handed, held_behind, is_some_made}
+use Rattle.dbuf_cells.specs.Bringing.{Brings, DropsRead, FailsToLoad, IsUnmarked, handed, held_behind, is_some_made, gives_hold}
 use Rattle.dbuf_cells.specs.InHand.{AsTaken, ClaimsAre, HasGiven, HoldsStay, InHand, IsRoomier}
 use Rattle.dbuf_cells.specs.Turns.{KeepsClaims, OnHeap, Operates, PartyPlace, dbuf_meanings, held_at, held_in, holds_of, outline_in}
 use Rattle.dbuf_cells.specs.declared.kept.Kept.{Kept}
 use Rattle.dbuf_cells.specs.declared.kept.Kept.TheVariants.{Held, Loose}
+use Rattle.dbuf_state.specs.Held.{held_after}
 
 -- ---- what a block is
 
@@ -129,7 +130,7 @@ SomeTaken cache i now q = (p : PartyPlace) × (before : OnHeap) × AsTaken cache
 
 -- what was read is the cell's, and the Load is noted
 pub record HasKept (cache : Cache) (i : ℕ) (at : Oid) (ptr : Ptr) (p : PartyPlace) (before : OnHeap) (read : Read) (now : CellLog Kept) (q : PartyPlace) : Type 0 where
-  pub hand : InHand cache i p before May (Load p.number at ∷ []) (handed p.number (cell_number cache.config i) read) now q
+  pub hand : InHand cache i p before May (Load p.number at (gives_hold read) ∷ []) (handed p.number (cell_number cache.config i) read) now q
   pub there : IsLoaded at ptr now.dbufs
 
 abbrev pub Keeps : Cache → (i : ℕ) → Oid → Ptr → Read → (old now : CellLog Kept) → (q r : PartyPlace) → Type 0
@@ -234,6 +235,7 @@ pub record Notes (n : ℕ) (e : CellEvent) (old new : CellLog Kept) : Type 0 whe
   pub claims : (k : ℕ) → claims_in k dbufs ≡ claims_in k roomy.dbufs
   pub holds : holds_of (record roomy { dbufs = dbufs }) ≡ holds_of roomy
   pub stay : HoldsStay roomy.dbufs dbufs
+  pub tells : (b : Oid) → held_at dbufs b ≡ held_after b (held_at roomy.dbufs b) e
 
 -- in the turn in which these things were done, the event was made too, and evictions, and the cell was given back
 pub record HasOperated (cache : Cache) (i : ℕ) (p : PartyPlace) (before : OnHeap) (holding : Oid → Bool) (news : List CellEvent) (es : List Event) (r : PartyPlace) : Type 0 where

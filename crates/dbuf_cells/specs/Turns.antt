@@ -25,6 +25,7 @@ use Rattle.arc_table.specs.declared.item.Item.TheVariants as item
 use Rattle.arc_table.specs.declared.view.Known.{Known}
 use Rattle.dbuf_state.specs.CellLog.{CellLog}
 use Rattle.dbuf_state.specs.Dbufs.{DbufHas, dbuf_at, dbuf_is}
+use Rattle.dbuf_state.specs.Held.{IsSoundCell, held_by, keeps_hold}
 use Rattle.dbuf_state.specs.History.{Leads}
 use Rattle.dbuf_state.specs.Numbers.{claims_in, event_numbers, mapping_numbers, opening_numbers}
 use Rattle.dbuf_state.specs.Objects.{Evicting, Never}
@@ -62,7 +63,7 @@ outline_in b = outline_of (plain_cell Never b.value)
 
 -- whether the dbuf of the Oid does
 abbrev pub held_at : List (Dbuf Kept) → Oid → Bool
-held_at ds at = dbuf_is (λ d. option_map_or is_held d.kept false) at ds
+held_at ds at = dbuf_is (keeps_hold is_held) at ds
 
 abbrev pub held_in : OnHeap → Oid → Bool
 held_in b = held_at b.value.dbufs
@@ -99,7 +100,7 @@ dbuf_meanings = record {
   entries = λ b. map event_numbers b.value.history;
   opening = λ b. opening_numbers b.value.limit b.value.opening;
   claims = λ b n. mapping_numbers (claims_in n b.value.dbufs);
-  sound = λ b. IsSound b.value;
+  sound = λ b. IsSoundCell is_held b.value;
 }
 
 -- the party took the bucket and the shard of a key, and gave both back without an event; so many times, with one key or another
@@ -116,7 +117,7 @@ MakesAll g [] p q = Looks g p q
 MakesAll g (e ∷ es) p q = (k : Key) × (r : PartyPlace) × (s : PartyPlace) × Looks g p r × (event_key e ≡ Some k) × Does dbuf_meanings g k (e ∷ []) r s × MakesAll g es s q
 
 -- The party p took the cell i, which was so, and sound. With the cell in hand it did these things to it and made these events of shards, and it gave
--- the cell back: it is q. The things done lead from what the cell was to what it is.
+-- the cell back: it is q. The things done lead from what the cell was to what it is. Its history had told which of its dbufs kept a hold.
 pub record CellTurn (g : Config) (i : ℕ) (before : OnHeap) (news : List CellEvent) (es : List Event) (p q : PartyPlace) : Type 0 where
   pub after : OnHeap
   pub taken : PartyPlace
@@ -125,6 +126,7 @@ pub record CellTurn (g : Config) (i : ℕ) (before : OnHeap) (news : List CellEv
   pub makes : MakesAll g es taken worked
   pub sound : IsSound before.value
   pub stands : HoldsStand before
+  pub tells : (at : Oid) → held_in before at ≡ held_by at before.value.history
   pub history : after.value.history ≡ before.value.history ++ news
   pub evicting : Evicting
   pub bases : List (List ℕ)

@@ -20,7 +20,7 @@ use crate::evict::make_room;
 use crate::kept::{Cells, HeapCell, Kept};
 use crate::turn::{give, take, told};
 use arc_table::{Party, Read};
-use blk_ptr::Ptr;
+use blk_ptr::{Ptr, Shows};
 use dbuf_state::{Cell, CellEvent, DbState, DbufFault, Mapped, Oid};
 use std::sync::Wait;
 use vdev_io::{CacheDev, Pool};
@@ -155,10 +155,12 @@ fn keep_read(
     told(cell);
     match hand_on(arcs, rt, party, i, cell, ptr, read) {
         Ok(kept) => {
+            let held = kept.held();
             cell.loaded(at, kept);
             cell.note(CellEvent::Load {
                 n: party.number(),
                 at,
+                held,
             });
             Ok(())
         }
