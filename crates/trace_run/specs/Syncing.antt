@@ -56,14 +56,14 @@ inserts_in g tick (x ∷ xs) shard history =
 
 -- the same by what was noted: of each block that n wrote
 abbrev pub insert_noted : Config → (tick cell shard : ℕ) → (history : List Event) → CellEvent → List Event
-insert_noted g tick i shard history (WasSynced n at ptr) =
+insert_noted g tick i shard history (WasSynced n at ptr held) =
     if shard_of g.shards ptr.key == shard && is_new_here ptr.key (replay (opening_of g) history) then (Insert (cell_number g i) ptr.key ptr.digest tick ∷ []) else []
 insert_noted g tick i shard history (Get n at) = []
 insert_noted g tick i shard history (Put n at size fill) = []
 insert_noted g tick i shard history (Patch n at from bytes) = []
 insert_noted g tick i shard history (Pin n at) = []
 insert_noted g tick i shard history (Unpin n at) = []
-insert_noted g tick i shard history (Load n at) = []
+insert_noted g tick i shard history (Load n at held) = []
 insert_noted g tick i shard history (Evict n at) = []
 insert_noted g tick i shard history (End n) = []
 

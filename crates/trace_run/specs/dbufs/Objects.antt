@@ -137,7 +137,7 @@ own_event (ops.Cap c) = None
 -- a Load stands for a block that was brought
 abbrev pub loads_of : (n : ℕ) → Oid → Brought → List CellEvent
 loads_of n at Nothing = []
-loads_of n at (Loaded ptr from) = events.Load n at ∷ []
+loads_of n at (Loaded ptr from) = events.Load n at (gives_hold from) ∷ []
 loads_of n at (Refused ptr) = []
 
 -- a block that was served from here comes with a hold; one that was read past the cache has none
