@@ -36,7 +36,7 @@ use Rattle.trace_run.specs.KeptReads.{KeptRead}
 use Rattle.trace_run.specs.DeviceReads.{AsksFor, LineAsks, size_asked}
 use Rattle.trace_run.specs.Lines.{shard_of_line}
 use Rattle.trace_run.specs.dbufs.Holders.{AreHolders}
-use Rattle.trace_run.specs.dbufs.ObjectLines.{CameFrom, DidObjectLine, OnObject, TellsBrought, brought_there, cell_lines, events_of_bringing, on_object, shard_met}
+use Rattle.trace_run.specs.dbufs.ObjectLines.{CameFrom, DidObjectLine, OnObject, TellsBrought, brought_there, cell_lines, events_of_bringing, on_object}
 use Rattle.trace_run.specs.dbufs.ObjectReplies.{ActsFor, AnswersFrom, AnswersObject, BringsAt, LooksFrom}
 use Rattle.trace_run.specs.dbufs.Objects.{Brought, GoesTogether, Line, Loaded, NotesNothing, NotesOwn, Nothing, OwnEvent, Refused, Work, acts_of_bringing, no_work, own_event}
 use Rattle.trace_run.specs.one_caller.Asking.{Asks, AsksLine}
@@ -136,7 +136,7 @@ pub record DidAlone {P D : Type 0} (pools : PoolGhosts P) (devices : DeviceGhost
   pub seen : cell_lines cell ≡ front_of (cell_of g.cells on.at) p.own.seen
   pub brought : BringsAt (pools.size before.pool) on.at (outline_after cell.value.limit cell.value.opening cell.value.history) l.work.brought
   pub found : CameFrom g p l.work.brought
-  pub acts : ActsFor g p.number (AreHolders (cell_number g (cell_of g.cells on.at)) (outline_after cell.value.limit cell.value.opening cell.value.history) (shard_met g on.tick l.work.brought p))
+  pub acts : ActsFor g p.number (AreHolders cell.value.history)
       (own_event l.op) (outline_after cell.value.limit cell.value.opening cell.value.history) l.work l.reply
   pub answer : AnswersObject (pools.size before.pool) (pools.told before.pool) cell.value.limit cell.value.opening cell.value.history l.work.brought l.op l.reply
   pub made : List Event

@@ -1,12 +1,10 @@
 -- How the cells of a run end: the feeder ends them, while all other parties have joined it. And what they come to.
 use Rattle.std.specs.Prelude.{◌≡◌, ℕ, Bool, zero, suc, ◌<◌, ◌≤◌, ◌==◌, List, [], ◌∷◌, ◌++◌, Some, filter, length, map, slice_get, slice_index_or}
 use Rattle.std.specs.List.{AllByRecursion}
-use Rattle.blk_ptr.specs.Hash.{shard_of}
 use Rattle.blk_ptr.specs.declared.key.Key.{Key}
 use Rattle.arc_core.specs.declared.config.Config.{Config}
 use Rattle.arc_core.specs.declared.event.Event.{Event}
 use Rattle.arc_core.specs.declared.event.Event.TheVariants.{Drop}
-use Rattle.arc_core.specs.Replay.{replay}
 use Rattle.arc_core.specs.Operations.{Act, moments, number_of as number_of_event, own_moments}
 use Rattle.turn_table.specs.Places.{Place, kept as as_kept}
 use Rattle.arc_table.specs.declared.view.Known.{Known}
@@ -27,7 +25,6 @@ use Rattle.dbuf_state.specs.Outline.{Outline, OutlineDbuf, outline_after}
 use Rattle.dbuf_state.specs.declared.event.CellEvent.{CellEvent}
 use Rattle.dbuf_state.specs.declared.event.CellEvent.TheVariants.{End}
 use Rattle.dbuf_state.specs.declared.oid.Oid.{Oid}
-use Rattle.dbuf_state.specs.declared.state.Mapping.{Mapping}
 use Rattle.trace_text.specs.declared.trace.Trace.{Trace}
 use Rattle.trace_run.specs.Deeds.{HasToldOthers, Noted, acts_of_events, events_of_cell, events_there, KeepsCells}
 use Rattle.trace_run.specs.KeptBlocks.{Stands}
@@ -62,25 +59,17 @@ pub record DropsKept (g : Config) (i : ℕ) (o : Outline) (AreHeld : (Oid → Bo
   pub all : AreAllCached o kept
   pub dropped : DropsEach (cell_number g i) held kept drops
 
--- which dbufs of the cell i have a hold, as the shards tell it with these histories
-abbrev pub holders_by : Config → (shards : ℕ → List Event) → (i : ℕ) → Outline → (Oid → Bool) → Type 0
-holders_by g shards i o = AreHolders (cell_number g i) o (λ k. replay (opening_of g) (shards (shard_of g.shards k)))
-
--- these events of shards more
-abbrev pub with_more : Config → (shards : ℕ → List Event) → List Event → (shard : ℕ) → List Event
-with_more g shards es shard = shards shard ++ events_there g shard es
-
--- The cell i was ended so by n, which has seen that as the last that was done to it. The shards had these histories then.
-pub record SeesEnd (g : Config) (openings : List (List ℕ)) (seen : List (List Line)) (shards : ℕ → List Event) (n i : ℕ) (drops : List Event) : Type 0 where
+-- The cell i was ended so by n, which has seen that as the last that was done to it.
+pub record SeesEnd (g : Config) (openings : List (List ℕ)) (seen : List (List Line)) (n i : ℕ) (drops : List Event) : Type 0 where
   pub before : OnHeap
   pub opening : opening_numbers before.value.limit before.value.opening ≡ slice_index_or openings i []
   pub last : front_of i seen ≡ map line.Entry (map event_numbers before.value.history) ++ end_entry n i
-  pub kept : DropsKept g i (outline_after before.value.limit before.value.opening before.value.history) (holders_by g shards i (outline_after before.value.limit before.value.opening before.value.history)) drops
+  pub kept : DropsKept g i (outline_after before.value.limit before.value.opening before.value.history) (AreHolders before.value.history) drops
 
 -- so many cells were, from this one on, one after the other
-abbrev pub SeesEnds : Config → (openings : List (List ℕ)) → (seen : List (List Line)) → (shards : ℕ → List Event) → (n i count : ℕ) → List Event → Type 0
-SeesEnds g openings seen shards n i zero es = es ≡ []
-SeesEnds g openings seen shards n i (suc count) es = (drops : List Event) × (rest : List Event) × (es ≡ drops ++ rest) × SeesEnd g openings seen shards n i drops × SeesEnds g openings seen (with_more g shards drops) n (suc i) count rest
+abbrev pub SeesEnds : Config → (openings : List (List ℕ)) → (seen : List (List Line)) → (n i count : ℕ) → List Event → Type 0
+SeesEnds g openings seen n i zero es = es ≡ []
+SeesEnds g openings seen n i (suc count) es = (drops : List Event) × (rest : List Event) × (es ≡ drops ++ rest) × SeesEnd g openings seen n i drops × SeesEnds g openings seen n (suc i) count rest
 
 module _ {C : Type 0} where
   -- What it comes to where nobody had done anything to a cell: no event of a shard was made, and the party has seen just its ends.
@@ -116,11 +105,8 @@ pub record EndedCells (cache : Cache) (p : PartyPlace) (olds : List PartyPlace) 
   pub one : (o : PartyPlace) → olds ≡ o ∷ [] → AreEventsSeen cache.config p.number p.own.mine o.own.seen
       → (shard : ℕ) → seen_of cache.config shard q ≡ seen_of cache.config shard o ++ events_there cache.config shard drops
   pub idle : AreNoEntries cache.config p.own.mine → AllByRecursion (λ o. AreNoEntries cache.config o.own.mine) olds → EndedIdle cache drops p q
-  -- what had been done to the shards before, by all of them: where they had seen the same, just that
-  pub front : ℕ → List Event
-  pub fronts : (before : ℕ → List Line) → IsLevel cache.config before p → AllByRecursion (IsLevel cache.config before) olds → (shard : ℕ) → front shard ≡ events_in (before shard)
   -- for each cell, all that it kept
-  pub kept : SeesEnds cache.config p.own.about.openings q.own.seen front p.number 0 cache.config.cells drops
+  pub kept : SeesEnds cache.config p.own.about.openings q.own.seen p.number 0 cache.config.cells drops
   -- each is a drop with a cell's number
   pub are : AllByRecursion (IsCellDrop cache.config) drops
   -- the feeder has settled all that it picked, where it had before
@@ -151,8 +137,7 @@ pub record HasSeenEnds (cache : Cache) (openings : List (List ℕ)) (p q : Party
   pub knows : Knows openings feeder
   pub feeder_stands : Stands cache feeder []
   -- for each cell, all that it kept
-  pub front : ℕ → List Event
-  pub kept : SeesEnds cache.config openings feeder.own.seen front cache.config.callers 0 cache.config.cells drops
+  pub kept : SeesEnds cache.config openings feeder.own.seen cache.config.callers 0 cache.config.cells drops
   -- where the caller had done nothing to a cell
   pub idle : AreNoEntries cache.config p.own.mine → (drops ≡ []) × AreNoEntries cache.config q.own.mine
       × ((i : ℕ) → IsCell cache.config i → front_of i feeder.own.seen ≡ end_entry cache.config.callers i)

@@ -13,14 +13,12 @@ use Rattle.arc_core.specs.declared.event.Event.{Event}
 use Rattle.arc_core.specs.declared.event.Event.TheVariants.{Hand}
 use Rattle.arc_core.specs.Operations.{Act}
 use Rattle.arc_core.specs.PlainShard.{PlainShard}
-use Rattle.arc_core.specs.Replay.{replay}
 use Rattle.arc_table.specs.declared.view.Line.{Line}
 use Rattle.arc_table.specs.declared.view.Line.TheVariants as line
 use Rattle.arc_table.specs.Fronts.{StartsWith, front_of}
 use Rattle.arc_table.specs.Geometry.{IsCell, cell_number}
 use Rattle.arc_table.specs.Reading.{Outside}
 use Rattle.arc_table.specs.Seen.{HasAll, seen_of}
-use Rattle.arc_table.specs.Telling.{opening_of}
 use Rattle.dbuf_cells.specs.Places.{cell_of}
 use Rattle.dbuf_cells.specs.Putting.{Releases}
 use Rattle.dbuf_cells.specs.Turns.{AreEvictions, OnHeap, PartyPlace, held_in, outline_in}
@@ -109,13 +107,7 @@ abbrev pub events_of_hand : (n c : ℕ) → Option Key → List Event
 events_of_hand n c None = []
 events_of_hand n c (Some key) = Hand n key c ∷ []
 
--- what a party that is alone makes for its access to what was brought, in the shard of its key, which it finds so
-abbrev pub events_of_access : PlainShard → (n t : ℕ) → Brought → List Event
-events_of_access s n t Nothing = []
-events_of_access s n t (Loaded ptr from) = events_of_answered n t ptr from (access_of s ptr)
-events_of_access s n t (Refused ptr) = events_of_refused n t ptr (access_of s ptr)
-
--- what it makes for what was brought, with the hand, which it finds so
+-- what a party that is alone makes for what was brought, in the shard of its key, which it finds so
 abbrev pub events_of_bringing : PlainShard → (n t c : ℕ) → Brought → List Event
 events_of_bringing s n t c Nothing = []
 events_of_bringing s n t c (Loaded ptr from) = events_of_answered n t ptr from (access_of s ptr) ++ events_of_hand n c (held_by_access ptr (access_of s ptr))
@@ -134,9 +126,9 @@ ReleasesFor c held (events.Patch n at from bytes) o es = Releases c at (held at)
 ReleasesFor c held (events.Get n at) o es = es ≡ []
 ReleasesFor c held (events.Pin n at) o es = es ≡ []
 ReleasesFor c held (events.Unpin n at) o es = es ≡ []
-ReleasesFor c held (events.Load n at) o es = es ≡ []
+ReleasesFor c held (events.Load n at keeps) o es = es ≡ []
 ReleasesFor c held (events.Evict n at) o es = es ≡ []
-ReleasesFor c held (events.Synced n at ptr) o es = es ≡ []
+ReleasesFor c held (events.Synced n at ptr keeps) o es = es ≡ []
 ReleasesFor c held (events.End n) o es = es ≡ []
 
 -- ---- what a line did
@@ -153,10 +145,6 @@ pub record DidWork (g : Config) (t c : ℕ) (brought : Brought) (es : List Event
   pub joined : q.joined ≡ p.joined
   pub keeps : KeepsCells g p q
   pub cells_alone : HasAll p → (i : ℕ) → IsCell g i → front_of i q.own.seen ≡ front_of i p.own.seen ++ lines_of_cell i noted
-
--- the shard of a key as a party that is alone found it when it took the block's cell: behind the access to what was brought, and before the hand
-abbrev pub shard_met : Config → (t : ℕ) → Brought → PartyPlace → Key → PlainShard
-shard_met g t brought p k = replay (opening_of g) (seen_of g (shard_of g.shards k) p ++ brought_there g.shards (shard_of g.shards k) brought (events_of_access (now_of g (shard_of g.shards k) p) p.number t brought))
 
 -- the block was clean with this pointer, and its bytes were not there
 pub record WasToBring (at : Oid) (ptr : Ptr) (o : Outline) : Type 0 where
@@ -183,7 +171,7 @@ module _ (g : Config) (at : Oid) (t : ℕ) (p q : PartyPlace) where
   its_number = cell_number g its_cell
 
   -- The party did this to the block's cell, which it found so, right behind the Load if a block was brought. It gave up the hold of what the operation writes over,
-  -- and then what was over the limit was evicted, each block with the drop of its hold; where the dbuf had none, without. One that is alone knows by the shards which keys the cell holds. All that stands in the cell's history right behind what it found there.
+  -- and then what was over the limit was evicted, each block with the drop of its hold; where the dbuf had none, without. Which dbufs had a hold, the cell's history tells. All that stands in the cell's history right behind what it found there.
   pub record Did (own : CellEvent) (brought : Brought) (Fits : OnHeap → Type 0) : Type 0 where
     pub cell : OnHeap
     pub found : FindsCell g its_cell cell p q
@@ -195,7 +183,7 @@ module _ (g : Config) (at : Oid) (t : ℕ) (p q : PartyPlace) where
     pub drops : List Event
     pub evictions : AreEvictions p.number its_number (held_once at brought (held_in cell)) (after_all (outline_in cell) (loads_of p.number at brought ++ own ∷ [])) (map (events.Evict p.number) evicted) drops
     pub placed : StartsWith (front_of its_cell q.own.seen) (cell_lines cell ++ lines_of_cell its_cell (noted_in its_cell (loads_of p.number at brought ++ own ∷ map (events.Evict p.number) evicted)))
-    pub holders : HasAll p → AreHolders its_number (outline_in cell) (shard_met g t brought p) (held_in cell)
+    pub holders : AreHolders cell.value.history (held_in cell)
     pub work : DidWork g t its_number brought (released ++ drops) (noted_in its_cell (loads_of p.number at brought ++ own ∷ map (events.Evict p.number) evicted)) p q
 
   -- The line was refused for this cause, as the party found the block's cell. Nothing was done to cells, and what was tried to be brought, if anything was, was refused.
