@@ -136,7 +136,8 @@ pub record DidAlone {P D : Type 0} (pools : PoolGhosts P) (devices : DeviceGhost
   pub seen : cell_lines cell ≡ front_of (cell_of g.cells on.at) p.own.seen
   pub brought : BringsAt (pools.size before.pool) on.at (outline_after cell.value.limit cell.value.opening cell.value.history) l.work.brought
   pub found : CameFrom g p l.work.brought
-  pub acts : ActsFor g p.number (AreHolders cell.value.history) (own_event l.op) (outline_after cell.value.limit cell.value.opening cell.value.history) l.work l.reply
+  pub acts : ActsFor g p.number (AreHolders cell.value.history)
+      (own_event l.op) (outline_after cell.value.limit cell.value.opening cell.value.history) l.work l.reply
   pub answer : AnswersObject (pools.size before.pool) (pools.told before.pool) cell.value.limit cell.value.opening cell.value.history l.work.brought l.op l.reply
   pub made : List Event
   pub kinds : AllByRecursion HasAct made

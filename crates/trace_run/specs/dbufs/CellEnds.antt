@@ -25,7 +25,6 @@ use Rattle.dbuf_state.specs.Outline.{Outline, OutlineDbuf, outline_after}
 use Rattle.dbuf_state.specs.declared.event.CellEvent.{CellEvent}
 use Rattle.dbuf_state.specs.declared.event.CellEvent.TheVariants.{End}
 use Rattle.dbuf_state.specs.declared.oid.Oid.{Oid}
-use Rattle.dbuf_state.specs.declared.state.Mapping.{Mapping}
 use Rattle.trace_text.specs.declared.trace.Trace.{Trace}
 use Rattle.trace_run.specs.Deeds.{HasToldOthers, Noted, acts_of_events, events_of_cell, events_there, KeepsCells}
 use Rattle.trace_run.specs.KeptBlocks.{Stands}

@@ -13,14 +13,12 @@ use Rattle.arc_core.specs.declared.event.Event.{Event}
 use Rattle.arc_core.specs.declared.event.Event.TheVariants.{Hand}
 use Rattle.arc_core.specs.Operations.{Act}
 use Rattle.arc_core.specs.PlainShard.{PlainShard}
-use Rattle.arc_core.specs.Replay.{replay}
 use Rattle.arc_table.specs.declared.view.Line.{Line}
 use Rattle.arc_table.specs.declared.view.Line.TheVariants as line
 use Rattle.arc_table.specs.Fronts.{StartsWith, front_of}
 use Rattle.arc_table.specs.Geometry.{IsCell, cell_number}
 use Rattle.arc_table.specs.Reading.{Outside}
 use Rattle.arc_table.specs.Seen.{HasAll, seen_of}
-use Rattle.arc_table.specs.Telling.{opening_of}
 use Rattle.dbuf_cells.specs.Places.{cell_of}
 use Rattle.dbuf_cells.specs.Putting.{Releases}
 use Rattle.dbuf_cells.specs.Turns.{AreEvictions, OnHeap, PartyPlace, held_in, outline_in}
@@ -71,7 +69,6 @@ pub record FindsCell (g : Config) (i : ℕ) (cell : OnHeap) (p q : PartyPlace) :
   pub alone : HasAll p → cell_lines cell ≡ front_of i p.own.seen
   pub mine : made_of i p ≡ map line.Entry (map event_numbers (done_by p.number cell.value.history))
   pub seen : StartsWith (front_of i q.own.seen) (cell_lines cell)
-  pub tells : AreHolders cell.value.history (held_in cell)
 
 -- ---- what was brought, and what that asked of the pool and of the cache device
 
@@ -129,9 +126,9 @@ ReleasesFor c held (events.Patch n at from bytes) o es = Releases c at (held at)
 ReleasesFor c held (events.Get n at) o es = es ≡ []
 ReleasesFor c held (events.Pin n at) o es = es ≡ []
 ReleasesFor c held (events.Unpin n at) o es = es ≡ []
-ReleasesFor c held (events.Load n at bit) o es = es ≡ []
+ReleasesFor c held (events.Load n at keeps) o es = es ≡ []
 ReleasesFor c held (events.Evict n at) o es = es ≡ []
-ReleasesFor c held (events.Synced n at ptr bit) o es = es ≡ []
+ReleasesFor c held (events.Synced n at ptr keeps) o es = es ≡ []
 ReleasesFor c held (events.End n) o es = es ≡ []
 
 -- ---- what a line did
@@ -174,7 +171,7 @@ module _ (g : Config) (at : Oid) (t : ℕ) (p q : PartyPlace) where
   its_number = cell_number g its_cell
 
   -- The party did this to the block's cell, which it found so, right behind the Load if a block was brought. It gave up the hold of what the operation writes over,
-  -- and then what was over the limit was evicted, each block with the drop of its hold; where the dbuf had none, without. All that stands in the cell's history right behind what it found there.
+  -- and then what was over the limit was evicted, each block with the drop of its hold; where the dbuf had none, without. Which dbufs had a hold, the cell's history tells. All that stands in the cell's history right behind what it found there.
   pub record Did (own : CellEvent) (brought : Brought) (Fits : OnHeap → Type 0) : Type 0 where
     pub cell : OnHeap
     pub found : FindsCell g its_cell cell p q
@@ -186,6 +183,7 @@ module _ (g : Config) (at : Oid) (t : ℕ) (p q : PartyPlace) where
     pub drops : List Event
     pub evictions : AreEvictions p.number its_number (held_once at brought (held_in cell)) (after_all (outline_in cell) (loads_of p.number at brought ++ own ∷ [])) (map (events.Evict p.number) evicted) drops
     pub placed : StartsWith (front_of its_cell q.own.seen) (cell_lines cell ++ lines_of_cell its_cell (noted_in its_cell (loads_of p.number at brought ++ own ∷ map (events.Evict p.number) evicted)))
+    pub holders : AreHolders cell.value.history (held_in cell)
     pub work : DidWork g t its_number brought (released ++ drops) (noted_in its_cell (loads_of p.number at brought ++ own ∷ map (events.Evict p.number) evicted)) p q
 
   -- The line was refused for this cause, as the party found the block's cell. Nothing was done to cells, and what was tried to be brought, if anything was, was refused.

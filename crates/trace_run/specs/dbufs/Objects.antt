@@ -134,18 +134,18 @@ own_event ops.Feed = None
 own_event (ops.Txg t) = None
 own_event (ops.Cap c) = None
 
--- a Load stands for a block that was brought
-abbrev pub loads_of : (n : ℕ) → Oid → Brought → List CellEvent
-loads_of n at Nothing = []
-loads_of n at (Loaded ptr from) = events.Load n at (gives_hold from) ∷ []
-loads_of n at (Refused ptr) = []
-
 -- a block that was served from here comes with a hold; one that was read past the cache has none
 abbrev pub gives_hold : Served → Bool
 gives_hold served.Hit = true
 gives_hold served.Pool = true
 gives_hold served.L2 = true
 gives_hold served.Past = false
+
+-- a Load stands for a block that was brought
+abbrev pub loads_of : (n : ℕ) → Oid → Brought → List CellEvent
+loads_of n at Nothing = []
+loads_of n at (Loaded ptr from) = events.Load n at (gives_hold from) ∷ []
+loads_of n at (Refused ptr) = []
 
 -- which dbufs of a cell have a hold once the block was brought for the Oid of a line, where these had one before
 abbrev pub held_once : Oid → Brought → (Oid → Bool) → Oid → Bool

@@ -3,7 +3,6 @@
 use Rattle.std.specs.Prelude.{◌≡◌, ◌≢◌, ℕ, zero, suc, List, [], ◌∷◌, ◌++◌, Option, None, Some, IfSome, length, map, slice_get}
 use Rattle.std.specs.List.{AllByRecursion, range_with_len}
 use Rattle.blk_ptr.specs.Hash.{shard_of}
-use Rattle.blk_ptr.specs.declared.key.Key.{Key}
 use Rattle.arc_core.specs.PlainShard.{PlainShard}
 use Rattle.arc_core.specs.Replay.{replay}
 use Rattle.arc_core.specs.declared.config.Config.{Config}
@@ -53,7 +52,7 @@ use Rattle.trace_run.specs.dbufs.Objects.{Brought, Line, Loaded, Nothing, Refuse
 use Rattle.trace_run.specs.Openings.{opening_map}
 use Rattle.trace_run.specs.Reads.{CameFromPool}
 use Rattle.trace_run.specs.Restores.{restores_in}
-use Rattle.trace_run.specs.Syncing.{inserts_noted, noted_of}
+use Rattle.trace_run.specs.Syncing.{AreHeldNew, inserts_noted, noted_of}
 use Rattle.trace_run.specs.Tally.{AnswersNow}
 use Rattle.trace_run.specs.callers.Together.{BetweenGroups, OfCells, StopsSync, SyncsGroup, between_groups}
 use Rattle.trace_run.specs.callers.WorkLines.{AsksBrought, calls_of_lines, effect_with}
@@ -140,6 +139,8 @@ TheseCells trace from before tick work cells xs = TakesCells trace from work cel
 -- what a sync's work makes of shards and cells, whatever it came to
 pub record LeavesSynced {P D : Type 0} (g : Config) (t : ℕ) (work : Work) (from to : BetweenLines P D) : Type 0 where
   pub goes_on : GoesOn g (λ shard. inserts_noted g t work.noted shard (from.shards shard)) work.noted from to
+  -- a block keeps a hold where its key was new
+  pub held : (shard : ℕ) → AreHeldNew g t work.noted shard (from.shards shard)
   pub device : to.device ≡ from.device
   pub kept : to.kept ≡ from.kept
 
@@ -249,10 +250,11 @@ module _ {P D : Type 0} (pools : Ghosts P) (devices : Devices D) (trace : Trace)
 
 -- ---- the close
 
--- Of so many cells, from the cell i on, to which this had been done, each hold was dropped, of one cell after the other.
+-- Of so many cells, to which this was done, from the cell i on, each hold was dropped, of one cell after the other.
 abbrev pub GivesAllKept : Trace → (cells : ℕ → List CellEvent) → (i count : ℕ) → List Event → Type 0
 GivesAllKept trace cells i zero es = es ≡ []
-GivesAllKept trace cells i (suc count) es = (drops : List Event) × (rest : List Event) × (es ≡ drops ++ rest) × DropsKept trace.config i (outline_behind trace cells i) (AreHolders (cells i)) drops × GivesAllKept trace cells (suc i) count rest
+GivesAllKept trace cells i (suc count) es = (drops : List Event) × (rest : List Event) × (es ≡ drops ++ rest) × DropsKept trace.config i (outline_behind trace cells i) (AreHolders (cells i)) drops
+    × GivesAllKept trace cells (suc i) count rest
 
 -- Behind them the caller's kept reads are dropped, the oldest first, and then what cells keep, which are these drops; then each cell is ended. That is all of the histories.
 pub record ClosesThere {P D : Type 0} (trace : Trace) (at : BetweenLines P D) (ended : List Event) (closed : List OnHeap) (histories : List (List Event)) : Type 0 where
