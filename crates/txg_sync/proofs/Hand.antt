@@ -230,7 +230,7 @@ module _ (cache : Cache) (tick : ℕ) (befores nows news : List OnHeap) (p q r :
   old-hand d = subst (λ (c : OnHeap). IsInHand i (slice_index_or befores i d) xs c.value q) (old-is d) (h.cells i d within)
 
   -- one block more was written
-  pub sync-more : (group place : ℕ) (at : Oid) (told now : Option (List ℕ)) (size : ℕ) → WritesBlock cache.config group tick place i at old cell.value told now q r size
+  pub sync-more : (group place : ℕ) (at : Oid) (told now : Option (List ℕ)) (size : ℕ) (w : WritesBlock cache.config group tick place i at old cell.value told now q r size)
       → dbuf_is is_dirty at old.dbufs ≡ true → InSync cache tick befores news p r (xs ++ item_in group place i at old (is_held w.kept) ∷ []) Same
   sync-more group place at told now size w dirty =
       let x = item_in group place i at old (is_held w.kept) in

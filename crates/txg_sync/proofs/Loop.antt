@@ -4,7 +4,6 @@ use Rattle.std.specs.List.{AllByRecursion}
 use Rattle.std.specs.Option.{option_map_or}
 use Rattle.std.proofs.lemmas.List.{append-nil, append_assoc, length-set, get_or_default, get_or-set_same, get_or-set_other}
 use Rattle.std.proofs.lemmas.Bool.Decides.{nat_tests}
-use Rattle.blk_ptr.specs.Ptr.{sha256_of}
 use Rattle.blk_ptr.specs.Size.{IsBlockSize, sector}
 use Rattle.vdev_io.specs.declared.pool.Pool.{Ghosts}
 use Rattle.arc_table.specs.Cache.{Cache}
@@ -213,7 +212,7 @@ module _ {P : Type 0} (pool : Ghosts P) (cache : Cache) (group tick next : ℕ) 
       untouched None = refl
       untouched (Some image) = refl
 
-  module _ (nows news : List OnHeap) (index place size : ℕ) (now then : P) (q r : PartyPlace) (due : Due) (h : HasWritten pool cache group tick next cells nows dues index before now p q place) (here : drop index dues ≡ due ∷ drop (suc index) dues)
+  module _ (nows news : List OnHeap) (index place size : ℕ) (now later : P) (q r : PartyPlace) (due : Due) (h : HasWritten pool cache group tick next cells nows dues index before now p q place) (here : drop index dues ≡ due ∷ drop (suc index) dues)
       (all : length cells ≡ cache.config.cells) where
     first : IsDueIn nows due
     first = (subst (AreDueIn nows) here h.left).0
@@ -229,8 +228,8 @@ module _ {P : Type 0} (pool : Ghosts P) (cache : Cache) (group tick next : ℕ) 
     item-here held b says cell = item-there held b group place cells nows due cell says first.inside bytes-first ∙ ap (λ (n : ℕ). at_place held group n cells due) h.behind
 
     -- one more was written
-    pub writes-on : (a : AltersCell due.cell nows news (λ old new. WritesBlock cache.config group tick place due.cell due.at old new (pool.told now) (pool.told then) q r size)) → IsUnharmed pool now then → pool.other_calls then ≡ sum_of_counts (pool.other_calls now) 1
-        → HasWritten pool cache group tick next cells news dues (suc index) before then p r (place + size)
+    pub writes-on : (a : AltersCell due.cell nows news (λ old new. WritesBlock cache.config group tick place due.cell due.at old new (pool.told now) (pool.told later) q r size)) → IsUnharmed pool now later → pool.other_calls later ≡ sum_of_counts (pool.other_calls now) 1
+        → HasWritten pool cache group tick next cells news dues (suc index) before later p r (place + size)
     writes-on a unharmed counted = record {
       done = h.done ++ due ∷ [];
       whole = h.whole ∙ (ap (λ (l : List Due). h.done ++ l) here ∙ sym (append_assoc h.done (due ∷ []) (drop (suc index) dues)));
@@ -238,11 +237,11 @@ module _ {P : Type 0} (pool : Ghosts P) (cache : Cache) (group tick next : ℕ) 
           ∙ ap (λ (n : ℕ). next + n) (sym (need-more cells h.done due)));
       aligned = let b = first.sized.0 in let c = h.aligned in let d = bytes-first in let e = sized in multiples place size h.aligned (subst (λ (n : ℕ). n % sector ≡ 0) (ap (λ (l : List ℕ). length l) bytes-first ∙ sym sized) b);
       fits = let e = ap (need_of cells) here in let f = h.fits in let s = sized in omega arith;
-      held = now-held;
+      held = but_for due (is_held a.does.kept) h.held;
       sync = subst (λ (zs : List SyncItem). InSync cache tick cells news p r zs Same) items-now
-          (sync-more cache tick cells nows news p q r (items_from h.held group next cells h.done) h.sync all due.cell a.cell within a.news_are group place due.at (pool.told now) (pool.told then) size a.does (first.dirty a.cell));
-      told = a.does.told_is ∙ (ap (λ (t : Option (List ℕ)). tells_written (item ∷ []) t) h.told
-          ∙ (sym (told-more (items_from h.held group next cells h.done) item (pool.told before))
+          (sync-more cache tick cells nows news p q r (items_from h.held group next cells h.done) h.sync all due.cell a.cell within a.news_are group place due.at (pool.told now) (pool.told later) size a.does (first.dirty a.cell));
+      told = a.does.told_is ∙ (ap (λ (t : Option (List ℕ)). tells_written (item_in group place due.cell due.at (slice_index_or nows due.cell a.cell).value (is_held a.does.kept) ∷ []) t) h.told
+          ∙ (sym (told-more (items_from h.held group next cells h.done) (item_in group place due.cell due.at (slice_index_or nows due.cell a.cell).value (is_held a.does.kept)) (pool.told before))
           ∙ ap (λ (zs : List SyncItem). tells_written zs (pool.told before)) items-now));
       outside = record { size = unharmed.size ∙ h.outside.size; reads = unharmed.reads ∙ h.outside.reads; faults = unharmed.faults ∙ h.outside.faults };
       others = counted ∙ (ap (λ (n : ℕ). sum_of_counts n 1) h.others ∙ ap (λ (n : ℕ). counted_more n (pool.other_calls before)) (sym (length-more h.done due)));
@@ -252,21 +251,15 @@ module _ {P : Type 0} (pool : Ghosts P) (cache : Cache) (group tick next : ℕ) 
       same = bytes-still nows news due a.cell first.inside a.news_are f (λ d. refl) dbufs-are cells (drop (suc index) dues) apart-here (subst (AreDueIn nows) here h.left).1 (subst (AllByRecursion (λ d. bytes_of_due nows d ≡ bytes_of_due cells d)) here h.same).1;
     }
       where
-        item : SyncItem
-        item = item_in group place due.cell due.at (slice_index_or nows due.cell a.cell).value (is_held a.does.kept)
-
-        now-held : Due → Bool
-        now-held = but_for due (is_held a.does.kept) h.held
-
         before-it : AllByRecursion (λ other. due_eq due other ≡ false) h.done
         before-it = apart-before due h.done (drop (suc index) dues) (subst AreApart (h.whole ∙ ap (λ (l : List Due). h.done ++ l) here) h.once)
 
-        unfolding item, now-held
-        items-now : items_from h.held group next cells h.done ++ item ∷ [] ≡ items_from now-held group next cells (h.done ++ due ∷ [])
+        items-now : items_from h.held group next cells h.done ++ item_in group place due.cell due.at (slice_index_or nows due.cell a.cell).value (is_held a.does.kept) ∷ []
+            ≡ items_from (but_for due (is_held a.does.kept) h.held) group next cells (h.done ++ due ∷ [])
         items-now =
-            ap (λ (x : SyncItem). items_from h.held group next cells h.done ++ x ∷ []) (item-here now-held (is_held a.does.kept) (sym (but-it due (is_held a.does.kept) h.held)) a.cell)
-            ∙ (ap (λ (l : List SyncItem). l ++ at_place now-held group (next + need_of cells h.done) cells due ∷ []) (items-but due (is_held a.does.kept) h.held group next cells h.done before-it)
-            ∙ sym (items-more now-held group next cells h.done due))
+            ap (λ (x : SyncItem). items_from h.held group next cells h.done ++ x ∷ []) (item-here (but_for due (is_held a.does.kept) h.held) (is_held a.does.kept) (sym (but-it due (is_held a.does.kept) h.held)) a.cell)
+            ∙ (ap (λ (l : List SyncItem). l ++ at_place (but_for due (is_held a.does.kept) h.held) group (next + need_of cells h.done) cells due ∷ []) (items-but due (is_held a.does.kept) h.held group next cells h.done before-it)
+            ∙ sym (items-more (but_for due (is_held a.does.kept) h.held) group next cells h.done due))
 
         s : IsSyncedTo q.number due.at (item_in group place due.cell due.at (slice_index_or nows due.cell a.cell).value (is_held a.does.kept)).ptr a.does.kept (slice_index_or nows due.cell a.cell).value a.cell.value
         s = a.does.synced
@@ -291,7 +284,7 @@ module _ {P : Type 0} (pool : Ghosts P) (cache : Cache) (group tick next : ℕ) 
     cell-here = (subst (λ (n : ℕ). due.cell < n) all within, subst (IsAmong due.cell) (sym h.sync.holding.held) (among-below (length cells) due.cell within))
 
     -- there is room for it
-    pub place-most : AltersCell due.cell nows news (λ old new. WritesBlock cache.config group tick place due.cell due.at old new (pool.told now) (pool.told then) q r size) → place + size ≤ pool.size before
+    pub place-most : AltersCell due.cell nows news (λ old new. WritesBlock cache.config group tick place due.cell due.at old new (pool.told now) (pool.told later) q r size) → place + size ≤ pool.size before
     place-most a =
         let e = ap (need_of cells) here in
         let f = h.fits in
@@ -302,7 +295,7 @@ module _ {P : Type 0} (pool : Ghosts P) (cache : Cache) (group tick next : ℕ) 
     module _ (a-cell : OnHeap) (news_are : news ≡ slice_set nows due.cell a-cell) (made : IsRoomier (slice_index_or nows due.cell a-cell).value a-cell.value) where
       stopped : (Told : SyncItem → Option (List ℕ) → Type 0) (Besides : SyncItem → PartyPlace → PartyPlace → Type 0) → Remains q r → ((j : ℕ) → IsCell cache.config j → IsAmong j q.held → Grows j [] q r)
           → Besides (item_in group place due.cell due.at (slice_index_or nows due.cell a-cell).value false) q r → Told (item_in group place due.cell due.at (slice_index_or nows due.cell a-cell).value false) (pool.told now)
-          → StopsIn pool cache group tick next cells news dues before then p r Told Besides
+          → StopsIn pool cache group tick next cells news dues before later p r Told Besides
       stopped Told Besides stays grows besides told = record {
         done = h.done;
         due = due;
@@ -321,18 +314,18 @@ module _ {P : Type 0} (pool : Ghosts P) (cache : Cache) (group tick next : ℕ) 
       none-grows : r ≡ q → (j : ℕ) → IsCell cache.config j → IsAmong j q.held → Grows j [] q r
       none-grows e j in_range among = subst (Grows j [] q) (sym e) record { recorded = refl; listed = refl }
 
-      pub stops-here : (why : IoFault) → RefusesBlock cache.config (item_in group place due.cell due.at (slice_index_or nows due.cell a-cell).value false) (pool.told now) (pool.told then) q r why
-          → pool.size then ≡ pool.size now → pool.reads then ≡ pool.reads now → CountsIoFault {T = ℕ} (pool.faults now) (pool.faults then) (Err why)
-          → (why ≡ io.Failed → pool.other_calls then ≡ sum_of_counts (pool.other_calls now) 1) → AnswersDues pool cache group tick next cells news dues before then p r (Err why)
+      pub stops-here : (why : IoFault) → RefusesBlock cache.config (item_in group place due.cell due.at (slice_index_or nows due.cell a-cell).value false) (pool.told now) (pool.told later) q r why
+          → pool.size later ≡ pool.size now → pool.reads later ≡ pool.reads now → CountsIoFault {T = ℕ} (pool.faults now) (pool.faults later) (Err why)
+          → (why ≡ io.Failed → pool.other_calls later ≡ sum_of_counts (pool.other_calls now) 1) → AnswersDues pool cache group tick next cells news dues before later p r (Err why)
       unfolding stopped
       stops-here io.Failed f size reads counts asked = (
-        stopped (λ x old. TellsTorn x old (pool.told then)) (λ x. Same) (none-stays f.0) (none-grows f.0) f.0 f.1,
-        record { size = size ∙ h.outside.size; reads = reads ∙ h.outside.reads; faults = subst (λ (n : ℕ). CountsOne n (pool.faults then)) h.outside.faults counts },
+        stopped (λ x old. TellsTorn x old (pool.told later)) (λ x. Same) (none-stays f.0) (none-grows f.0) f.0 f.1,
+        record { size = size ∙ h.outside.size; reads = reads ∙ h.outside.reads; faults = subst (λ (n : ℕ). CountsOne n (pool.faults later)) h.outside.faults counts },
         asked refl ∙ ap (λ (n : ℕ). sum_of_counts n 1) h.others,
       )
       stops-here io.NoMemory f size reads counts asked = (
-        ⊎_elim (λ e. inl (stopped (λ x old. pool.told then ≡ old) (λ x. Same) (none-stays e.0) (none-grows e.0) e.0 e.1))
-            (λ e. inr (stopped (λ x old. pool.told then ≡ tells_written (x ∷ []) old) (Looked cache.config) (looked-stays cache p (length cells) q r h.sync.holding _ e.0) (λ j in_range among. looked-grows cache p (length cells) q r h.sync.holding _ e.0 j in_range among) e.0 e.1)) f,
+        ⊎_elim (λ e. inl (stopped (λ x old. pool.told later ≡ old) (λ x. Same) (none-stays e.0) (none-grows e.0) e.0 e.1))
+            (λ e. inr (stopped (λ x old. pool.told later ≡ tells_written (x ∷ []) old) (Looked cache.config) (looked-stays cache p (length cells) q r h.sync.holding _ e.0) (λ j in_range among. looked-grows cache p (length cells) q r h.sync.holding _ e.0 j in_range among) e.0 e.1)) f,
         record { size = size ∙ h.outside.size; reads = reads ∙ h.outside.reads; faults = counts ∙ h.outside.faults },
       )
 
