@@ -37,9 +37,9 @@ is_write_of at (Put n b size fill) = oid_eq at b
 is_write_of at (Patch n b from bytes) = oid_eq at b
 is_write_of at (Pin n b) = false
 is_write_of at (Unpin n b) = false
-is_write_of at (Load n b) = false
+is_write_of at (Load n b held) = false
 is_write_of at (Evict n b) = false
-is_write_of at (Synced n b ptr) = false
+is_write_of at (Synced n b ptr held) = false
 is_write_of at (End n) = false
 
 -- the object map has a dirty block
@@ -86,9 +86,9 @@ then-clean at m (Put n b size fill) un clean = rw un clean
 then-clean at m (Patch n b from bytes) un clean = rw un clean
 then-clean at m (Pin n b) un clean = clean
 then-clean at m (Unpin n b) un clean = clean
-then-clean at m (Load n b) un clean = clean
+then-clean at m (Load n b held) un clean = clean
 then-clean at m (Evict n b) un clean = clean
-then-clean at m (Synced n b ptr) un clean = elim (cases_true (oid_eq at b)) [
+then-clean at m (Synced n b ptr held) un clean = elim (cases_true (oid_eq at b)) [
   | inl here ↦ rw here (synced-clean m ptr)
   | inr far ↦ rw far clean
 ]

@@ -98,9 +98,9 @@ module _ (n : ℕ) (at : Oid) where
   pin-his (events.Put m b size fill) other = refl
   pin-his (events.Patch m b from bytes) other = refl
   pin-his (events.Unpin m b) other = refl
-  pin-his (events.Load m b) other = refl
+  pin-his (events.Load m b held) other = refl
   pin-his (events.Evict m b) other = refl
-  pin-his (events.Synced m b ptr) other = refl
+  pin-his (events.Synced m b ptr held) other = refl
   pin-his (events.End m) other = refl
 
   unpin-his : (e : CellEvent) → (number_of e == n) ≡ false → is_unpin_of n at e ≡ false
@@ -109,9 +109,9 @@ module _ (n : ℕ) (at : Oid) where
   unpin-his (events.Put m b size fill) other = refl
   unpin-his (events.Patch m b from bytes) other = refl
   unpin-his (events.Pin m b) other = refl
-  unpin-his (events.Load m b) other = refl
+  unpin-his (events.Load m b held) other = refl
   unpin-his (events.Evict m b) other = refl
-  unpin-his (events.Synced m b ptr) other = refl
+  unpin-his (events.Synced m b ptr held) other = refl
   unpin-his (events.End m) other = refl
 
   pub pins-done : (es : List CellEvent) → count_by (is_pin_of n at) (done_by n es) ≡ count_by (is_pin_of n at) es
@@ -173,13 +173,13 @@ module _ (n i : ℕ) (p : CellEvent → Bool) (q : Op → Bool) (le : ℕ → �
 
 -- ---- one line
 
-module _ (g : Config) (n : ℕ) (at : Oid) (p : CellEvent → Bool) (loads : (m : ℕ) (b : Oid) → p (events.Load m b) ≡ false) (evicts : (m : ℕ) (b : Oid) → p (events.Evict m b) ≡ false) where
+module _ (g : Config) (n : ℕ) (at : Oid) (p : CellEvent → Bool) (loads : (m : ℕ) (b : Oid) → p (events.Load m b held) ≡ false) (evicts : (m : ℕ) (b : Oid) → p (events.Evict m b) ≡ false) where
   abbrev here : ℕ
   here = cell_of g.cells at
 
   none-loaded : (b : Oid) (brought : Brought) → count_by p (loads_of n b brought) ≡ 0
   none-loaded b Nothing = refl
-  none-loaded b (Loaded ptr from) = let more = counted p (events.Load n b) [] in let c = one-if (p (events.Load n b)) (loads n b) in omega (arith, more, c)
+  none-loaded b (Loaded ptr from) = let more = counted p (events.Load n b (gives_hold from)) [] in let c = one-if (p (events.Load n b (gives_hold from))) (loads n b (gives_hold from)) in omega (arith, more, c)
   none-loaded b (Refused ptr) = refl
 
   none-evicted : (xs : List Oid) → count_by p (map (events.Evict n) xs) ≡ 0

@@ -34,13 +34,13 @@ use Rattle.trace_run.proofs.in_place.SyncedBlocks.{IsReadableBlock, KeepsUpTo, i
 
 -- the block that the event notes as written ends at or before a place
 abbrev EndsNote : (place : ℕ) → CellEvent → Type 0
-EndsNote place (Synced n b ptr) = key_end ptr.key ≤ place
+EndsNote place (Synced n b ptr held) = key_end ptr.key ≤ place
 EndsNote place (Get n b) = Unit {0}
 EndsNote place (Put n b size fill) = Unit {0}
 EndsNote place (Patch n b from bytes) = Unit {0}
 EndsNote place (Pin n b) = Unit {0}
 EndsNote place (Unpin n b) = Unit {0}
-EndsNote place (Load n b) = Unit {0}
+EndsNote place (Load n b held) = Unit {0}
 EndsNote place (Evict n b) = Unit {0}
 EndsNote place (End n) = Unit {0}
 
@@ -49,13 +49,13 @@ IsKeptNote len image place note = IsReadableNote len image note.event × EndsNot
 
 -- it stays so where a sync writes behind that place
 kept-on : (len place end : ℕ) (image now : List ℕ) → place ≤ end → KeepsUpTo place image now → (e : CellEvent) → IsReadableNote len image e × EndsNote place e → IsReadableNote len now e × EndsNote end e
-kept-on len place end image now later keeps (Synced n b ptr) is = (readable-front len place image now ptr (λ z. Some (keeps.front z)) is.1 is.0, (let a = is.1 in omega (arith, a, later)))
+kept-on len place end image now later keeps (Synced n b ptr held) is = (readable-front len place image now ptr (λ z. Some (keeps.front z)) is.1 is.0, (let a = is.1 in omega (arith, a, later)))
 kept-on len place end image now later keeps (Get n b) is = (tt, tt)
 kept-on len place end image now later keeps (Put n b size fill) is = (tt, tt)
 kept-on len place end image now later keeps (Patch n b from bytes) is = (tt, tt)
 kept-on len place end image now later keeps (Pin n b) is = (tt, tt)
 kept-on len place end image now later keeps (Unpin n b) is = (tt, tt)
-kept-on len place end image now later keeps (Load n b) is = (tt, tt)
+kept-on len place end image now later keeps (Load n b held) is = (tt, tt)
 kept-on len place end image now later keeps (Evict n b) is = (tt, tt)
 kept-on len place end image now later keeps (End n) is = (tt, tt)
 
