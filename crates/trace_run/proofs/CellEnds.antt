@@ -507,7 +507,7 @@ module _ (g : Config) (valid : IsConfig g) (i : ℕ) (in_range : IsCell g i) (p 
         last = cell-end.1;
         kept = record {
           held = held_in e.before;
-          are_held = found.tells;
+          are_held = t.tells;
           kept = e.kept;
           all = record { rising = e.all.rising; all = subst (λ (ds : List OutlineDbuf). IsPermutation (filter (λ (d : OutlineDbuf). d.cached) ds) e.kept) (dbufs-so e.before found.sound) e.all.all };
           dropped = e.dropped;

@@ -93,7 +93,6 @@ module _ (g : Config) where
       alone = λ all. f.alone (l.all all) ∙ l.alone all i in_range;
       mine = sym (l.entries i in_range) ∙ (f.mine ∙ ap (λ (n : ℕ). map line.Entry (map event_numbers (done_by n cell.value.history))) l.number);
       seen = f.seen;
-      tells = f.tells;
     }
 
     -- from behind it
@@ -105,7 +104,6 @@ module _ (g : Config) where
       alone = f.alone;
       mine = f.mine;
       seen = starts-on g (front_of i q.own.seen) (front_of i r.own.seen) (cell_lines cell) grows f.seen;
-      tells = f.tells;
     }
 
 -- in the turn itself
@@ -143,5 +141,4 @@ module _ (g : Config) (valid : IsConfig g) (i : ℕ) (in_range : IsCell g i) (ce
     alone = λ all. finds.whole ∙ (ap (λ (r : List (List ℕ)). front_of i p.own.seen ++ map line.Entry r) (finds.alone all) ∙ append-nil (front_of i p.own.seen));
     mine = own-there;
     seen = (map line.Entry (map event_numbers news), subst (λ (x : PartyPlace). front_of i x.own.seen ≡ cell_lines cell ++ map line.Entry (map event_numbers news)) (sym t.gave) (turn-front g valid i in_range cell news es p q config sees kinds t));
-    tells = t.tells;
   }

@@ -280,6 +280,7 @@ module _ (g : Config) (valid : IsConfig g) (at : Oid) (t : ℕ) (p q : PartyPlac
             drops = o.drops;
             evictions = own-evicted Nothing ready [] b tt cell (held_in cell) own es of o;
             placed = own-placed Nothing ready [] b tt cell (held_in cell) own es of o;
+            holders = o.turn.tells;
             work = own-work Nothing ready [] b tt cell (held_in cell) own es of o;
           },
           own-keeps Nothing ready [] b tt cell (held_in cell) own es of o,
@@ -587,6 +588,7 @@ module _ (g : Config) (valid : IsConfig g) (at : Oid) (t : ℕ) (p q : PartyPlac
                 drops = o.drops;
                 evictions = own-evicted br.0 acts.back acts.hands br.1.done br.1.handing acts.mid held (own p.number) [] tt o;
                 placed = own-placed br.0 acts.back acts.hands br.1.done br.1.handing acts.mid held (own p.number) [] tt o;
+                holders = o.turn.tells;
                 work = own-work br.0 acts.back acts.hands br.1.done br.1.handing acts.mid held (own p.number) [] tt o;
               },
               br.1.spent reply,
@@ -616,6 +618,7 @@ module _ (g : Config) (valid : IsConfig g) (at : Oid) (t : ℕ) (p q : PartyPlac
                 drops = o.drops;
                 evictions = own-evicted br.0 a.back a.hands br.1.done br.1.handing a.mid held own a.es of o;
                 placed = own-placed br.0 a.back a.hands br.1.done br.1.handing a.mid held own a.es of o;
+                holders = o.turn.tells;
                 work = own-work br.0 a.back a.hands br.1.done br.1.handing a.mid held own a.es of o;
               },
               br.1.spent replies.Done,

@@ -217,7 +217,7 @@ module _ {P D : Type 0} (pools : PoolGhosts P) (devices : DeviceGhosts D) (g : C
       seen = d.found.alone all;
       brought = brings;
       found = d.work.source all;
-      acts = so (AreHolders d.cell.value.history) (acts-at g at t p q own brought Fits d (AreHolders d.cell.value.history) d.found.tells);
+      acts = so (AreHolders d.cell.value.history) (acts-at g at t p q own brought Fits d (AreHolders d.cell.value.history) d.holders);
       answer = answer;
       made = d.released ++ d.drops;
       kinds = of-have (cell_number g (cell_of g.cells at)) (d.released ++ d.drops) (made-of g at t p q own brought Fits d);
