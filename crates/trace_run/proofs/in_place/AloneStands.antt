@@ -212,16 +212,16 @@ module _ {P D : Type 0} (pools : Ghosts P) (devices : Devices D) (told_len : (p 
       let w = s.answer in
       let next : ℕ = from.outside.next in
       let need : ℕ = need_of w.cells w.dues in
-      let xs : List SyncItem = items_from from.outside.group next w.cells w.dues in
+      let xs : List SyncItem = items_from w.held from.outside.group next w.cells w.dues in
       let now : List ℕ = written_over xs f.now in
       let long : length f.now ≡ len = told_len from.outside.pool f.now f.told ∙ f.size in
       let fits = w.fits in
       let same_size = f.size in
       let inside = f.inside in
       let room : next + need ≤ len = omega (arith, fits, same_size, inside) in
-      let kept = written-front from.outside.group next w.cells w.dues f.now (omega (arith, room, long)) in
+      let kept = written-front w.held from.outside.group next w.cells w.dues f.now (omega (arith, room, long)) in
       let last : to.outside.next ≡ next + need = s.next ∙ w.next_is in
-      let readable = subst (λ (end : ℕ). AllByRecursion (IsReadableBlock len end now) xs) (sym last) (items-readable len from.outside.group next w.cells w.dues f.now long f.aligned f.born w.sized room) in
+      let readable = subst (λ (end : ℕ). AllByRecursion (IsReadableBlock len end now) xs) (sym last) (items-readable w.held len from.outside.group next w.cells w.dues f.now long f.aligned f.born w.sized room) in
       record {
         now = now;
         told = w.told ∙ ap (tells_written xs) f.told;

@@ -215,7 +215,7 @@ module _ (len : ℕ) (told : (k : ℕ) → Option (List ℕ)) where
         → HaveSynced (ls ++ record { op = ops.Txg t; reply = reply; work = work } ∷ []) to
     synced-on ls t reply work from to s has =
         let w = s.answer in
-        let items : List SyncItem = items_from from.group from.next w.cells w.dues in
+        let items : List SyncItem = items_from w.held from.group from.next w.cells w.dues in
         let end : ℕ = from.next + need_of w.cells w.dues in
         let now : List ℕ = written_over items has.image in
         let long : length has.image ≡ len = told_len from.pool has.image has.tells ∙ has.size in
@@ -223,9 +223,9 @@ module _ (len : ℕ) (told : (k : ℕ) → Option (List ℕ)) where
         let size = has.size in
         let inside = has.inside in
         let room : from.next + need_of w.cells w.dues ≤ len = omega (arith, fits, size, inside) in
-        let keeps = written-front from.group from.next w.cells w.dues has.image (omega (arith, room, long)) in
+        let keeps = written-front w.held from.group from.next w.cells w.dues has.image (omega (arith, room, long)) in
         let next : to.next ≡ end = s.next ∙ w.next_is in
-        let written = items-readable len from.group from.next w.cells w.dues has.image long has.aligned has.born w.sized room in
+        let written = items-readable w.held len from.group from.next w.cells w.dues has.image long has.aligned has.born w.sized room in
         let olds = all-map (IsKeptNote len has.image from.next) (IsKeptNote len now end) (fed_notes ls) (λ note is. kept-on len from.next end has.image now (omega arith) keeps note.event is) has.notes in
         let news : AllByRecursion (IsKeptNote len now end) work.noted = subst (AllByRecursion (IsKeptNote len now end)) (sym w.turns.noted) (noted-items len end trace.config.callers now items written) in
         let group = s.group in
