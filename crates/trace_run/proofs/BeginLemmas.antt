@@ -32,6 +32,7 @@ use Rattle.trace_text.specs.Grammar.{AreApart, IsMapped}
 use Rattle.trace_text.specs.declared.trace.Trace.{Trace}
 use Rattle.trace_run.specs.Opened.{HasBegun}
 use Rattle.trace_run.specs.Openings.{mapping_of, mappings_in, opening_map, openings_of}
+use Rattle.dbuf_state.proofs.HeldLemmas.{mapped-tells}
 
 pub mod_below : (n m : ℕ) → 0 < m → n % m < m
 mod_below n m above = mod-lt n above
@@ -139,7 +140,9 @@ no-claims n (m ∷ ms) = no-claims n ms
 
 pub begun-fresh : (limit : ℕ) (ms : List Mapping) (b : OnHeap) → HasBegun limit ms b.value → IsFreshCell dbuf_meanings b
 begun-fresh limit ms b begun = record {
-  sound = mapped-is-sound b.value begun.history (begun.dbufs ∙ ap (map dbuf) (sym begun.opening_is));
+  sound =
+      let mapped = begun.dbufs ∙ ap (map dbuf) (sym begun.opening_is) in
+      record { sound = mapped-is-sound b.value begun.history mapped; tells = mapped-tells is_held b.value begun.history mapped };
   holds = ap (holds_in key_of bytes_of is_held) begun.dbufs ∙ no-holds ms;
   entries = ap (map event_numbers) begun.history;
   claims = λ n. ap (λ (ds : List (Dbuf Kept)). mapping_numbers (claims_in n ds)) begun.dbufs ∙ ap mapping_numbers (no-claims n ms);

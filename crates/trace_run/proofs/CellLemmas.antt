@@ -309,9 +309,9 @@ module _ (cache : Cache) (ps : List PartyPlace) (e : Ended OnHeap) (ends : Ends 
       cell-of noted before entries parties did = record {
         limit = began.0;
         opening = began.1;
-        bases = sound.0.bases;
-        end = plain_cell sound.0.evicting c.value;
-        legal = sound.0.history;
+        bases = sound.0.sound.bases;
+        end = plain_cell sound.0.sound.evicting c.value;
+        legal = sound.0.sound.history;
         front = (ends-last c.value.history before (End trace.config.callers) entries).0;
         history = (ends-last c.value.history before (End trace.config.callers) entries).1;
         parties = parties;
