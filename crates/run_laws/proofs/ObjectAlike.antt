@@ -103,7 +103,7 @@ bytes-there at o d is there ptr was = not-to-bring d.block ptr there (sym (mappe
 -- a Load changes nothing of the object map
 mapped-loads : (at : Oid) (o : Outline) (brought : Brought) → mapped_at at (after_all o (loads_of 0 at brought)) ≡ mapped_at at o
 mapped-loads at o Nothing = refl
-mapped-loads at o (Loaded ptr from) = mapped-all at o (events.Load 0 at ∷ [])
+mapped-loads at o (Loaded ptr from) = mapped-all at o (events.Load 0 at (gives_hold from) ∷ [])
 mapped-loads at o (Refused ptr) = refl
 
 -- ---- events that need a block's bytes
