@@ -128,7 +128,7 @@ module _ (cache : Cache) (q r : PartyPlace) (left : List OnHeap) (c : OnHeap) (h
   last-given = let k = last-hand in record {
     taken = before;
     recorded = k.recorded;
-    sound = done-sound q.number before.value c.value k.evicting (synced_in q.number (length left) h.xs) k.done k.settled (fit-keeps key_of bytes_of (λ x. true) c.value.dbufs known.fit);
+    sound = record { sound = done-sound q.number before.value c.value k.evicting (synced_in q.number (length left) h.xs) k.done k.settled (fit-keeps key_of bytes_of (λ x. true) c.value.dbufs known.fit); tells = k.done.tells };
     holds = k.holds;
     more = map event_numbers (synced_in q.number (length left) h.xs);
     entries = ap (map event_numbers) k.done.history ∙ map-append event_numbers before.value.history (synced_in q.number (length left) h.xs);
