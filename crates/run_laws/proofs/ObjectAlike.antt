@@ -41,7 +41,7 @@ use Rattle.trace_text.specs.declared.reply.Reply.TheVariants as replies
 use Rattle.trace_run.specs.Deeds.{HasAct, act_of_event, acts_of_events, events_of_cell, events_there}
 use Rattle.trace_run.specs.dbufs.ObjectLines.{EndsInside, TellsBrought, WasToBring}
 use Rattle.trace_run.specs.dbufs.ObjectReplies.{ActsAt, ActsBy, AnswersObject, BringsAt, RefusesAt, RefusesPin, RefusesWhole}
-use Rattle.trace_run.specs.dbufs.Objects.{Brought, GoesTogether, IsAnswered, Loaded, Nothing, OwnEvent, Refused, Work, loads_of}
+use Rattle.trace_run.specs.dbufs.Objects.{Brought, GoesTogether, IsAnswered, Loaded, Nothing, OwnEvent, Refused, Work, gives_hold, loads_of}
 use Rattle.trace_run.proofs.deeds.NotedCells.{noted-here}
 use Rattle.trace_run.proofs.in_place.Mapped.{mapped-all}
 use Rattle.run_laws.proofs.BringAlike.{AsksSo, IsNothing, TellsRefusal, refusal_of}

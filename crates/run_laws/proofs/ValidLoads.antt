@@ -36,7 +36,7 @@ use Rattle.trace_run.specs.Openings.{opening_map}
 use Rattle.trace_run.specs.RunWork.{AllFit, FitsBy, FitsFeeder, IsSyncedNote}
 use Rattle.trace_run.specs.dbufs.ObjectLines.{OnObject, on_object}
 use Rattle.trace_run.specs.dbufs.ObjectReplies.{ActsAt, ActsBy, ActsFor, BringsAt}
-use Rattle.trace_run.specs.dbufs.Objects.{Brought, Line, Loaded, Nothing, OwnEvent, Refused, Work, loads_of, no_work, own_event}
+use Rattle.trace_run.specs.dbufs.Objects.{Brought, Line, Loaded, Nothing, OwnEvent, Refused, Work, gives_hold, loads_of, no_work, own_event}
 use Rattle.trace_run.specs.one_caller.Sequence.{AreInSequence, BetweenLines, DoesAnyLine, DoesOther, DoesOwn, outline_behind}
 use Rattle.trace_run.proofs.deeds.NotedCells.{noted-else, noted-here}
 use Rattle.trace_run.proofs.in_place.AloneStands.{IsToldUpTo, StandsFine, line-fine}
