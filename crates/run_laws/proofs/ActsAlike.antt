@@ -1,10 +1,8 @@
 -- What two answered lines on an object gave up of blocks that their cell keeps no longer: behind one history of the cell, which tells what it keeps holds of, they made the same acts (dbuf_evict_one and dbuf_dirty of dbuf.c,
 -- which destroy the ARC buffer).
-use Rattle.std.proofs.Common.{◌≡◌, ◌⊎◌, ℕ, ◌<◌, Bool, true, false, if◌then◌else◌, List, [], ◌∷◌, ◌++◌, map, Option, Some, refl, sym, ap, subst, ◌∙◌, inl, inr, append_assoc}
+use Rattle.std.proofs.Common.{◌≡◌, ℕ, Bool, if◌then◌else◌, List, [], ◌∷◌, ◌++◌, map, Option, Some, sym, ap, subst, ◌∙◌, append_assoc}
 use Rattle.std.proofs.lemmas.Bool.{false≢true}
-use Rattle.blk_ptr.specs.declared.key.Key.{Key}
 use Rattle.blk_ptr.specs.declared.ptr.Ptr.{Ptr}
-use Rattle.arc_core.specs.PlainShard.{PlainShard}
 use Rattle.arc_core.specs.declared.config.Config.{Config}
 use Rattle.arc_core.specs.declared.event.Event.{Event}
 use Rattle.arc_core.specs.declared.event.Event.TheVariants.{Release}
@@ -12,7 +10,7 @@ use Rattle.arc_table.specs.Geometry.{cell_number}
 use Rattle.dbuf_cells.specs.Ending.{DropsEach}
 use Rattle.dbuf_cells.specs.Places.{cell_of}
 use Rattle.dbuf_cells.specs.Putting.{Releases, no_hold, one_hold}
-use Rattle.dbuf_cells.specs.Turns.{AreEvictions, cached_under, drops_if}
+use Rattle.dbuf_cells.specs.Turns.{AreEvictions, drops_if}
 use Rattle.dbuf_state.specs.History.{Leads}
 use Rattle.dbuf_state.specs.Objects.{Evicting, Must, evicting_after, opening_cell}
 use Rattle.dbuf_state.specs.Oids.{oid_eq}
@@ -30,9 +28,7 @@ use Rattle.trace_run.specs.dbufs.ObjectReplies.{ActsAt}
 use Rattle.trace_run.specs.dbufs.Objects.{Brought, Loaded, Nothing, OwnEvent, Refused, Work, gives_hold, held_once, loads_of}
 use Rattle.trace_run.proofs.deeds.CellsDone.{noted-here}
 use Rattle.trace_run.proofs.deeds.DeedLemmas.{events-acts}
-use Rattle.run_laws.specs.Alike.{HoldsFewer}
 use Rattle.run_laws.proofs.Due.{evictions-behind}
-use Rattle.run_laws.proofs.Fewer.{fewer-held}
 use Rattle.run_laws.proofs.Facts.{IsSettled}
 
 -- ---- two that one history tells

@@ -1,12 +1,7 @@
 -- Two ends of cells to which the same was done dropped the same holds, since a cell's history tells which of its dbufs keep one.
-use Rattle.std.proofs.Common.{◌≡◌, ◌⊎◌, ℕ, zero, suc, ◌+◌, ◌<◌, ◌≤◌, List, [], ◌++◌, map, refl, sym, ap, subst, ◌∙◌, inl, inr, arith, append-nil, append_assoc}
-use Rattle.blk_ptr.specs.Hash.{shard_of}
-use Rattle.blk_ptr.specs.declared.key.Key.{Key}
-use Rattle.arc_core.specs.PlainShard.{PlainShard}
-use Rattle.arc_core.specs.Replay.{replay}
+use Rattle.std.proofs.Common.{◌≡◌, ℕ, zero, suc, ◌+◌, ◌<◌, ◌≤◌, List, ◌++◌, map, sym, subst, ◌∙◌, arith}
 use Rattle.arc_core.specs.declared.event.Event.{Event}
 use Rattle.arc_table.specs.Geometry.{IsCell, cell_number}
-use Rattle.arc_table.specs.Telling.{opening_of}
 use Rattle.dbuf_cells.specs.Ending.{DropsEach}
 use Rattle.dbuf_state.specs.Objects.{opening_cell}
 use Rattle.dbuf_state.specs.Outline.{Outline, OutlineDbuf, outline_after, outline_of}
@@ -16,18 +11,14 @@ use Rattle.trace_text.specs.declared.trace.Trace.{Trace}
 use Rattle.trace_text.specs.Grammar.{AreApart}
 use Rattle.vdev_io.specs.declared.device.CacheDev.{Ghosts as Devices}
 use Rattle.vdev_io.specs.declared.pool.Pool.{Ghosts}
-use Rattle.trace_run.specs.KeptBlocks.{held_in_shard}
-use Rattle.trace_run.specs.Deeds.{events_there}
 use Rattle.trace_run.specs.Openings.{opening_map}
 use Rattle.trace_run.specs.dbufs.CellEnds.{DropsKept}
 use Rattle.trace_run.specs.dbufs.Holders.{AreHolders}
-use Rattle.trace_run.specs.one_caller.OneCaller.{events_of_drops}
-use Rattle.trace_run.specs.one_caller.Sequence.{BetweenLines, GivesAllKept, outline_behind}
-use Rattle.trace_run.proofs.deeds.TurnMakes.{there-append}
+use Rattle.trace_run.specs.one_caller.Sequence.{GivesAllKept, outline_behind}
 use Rattle.trace_run.proofs.in_place.DirtySizes.{distinct-all, mapping_oid, names, names-opened}
 use Rattle.trace_run.proofs.in_place.RoomLists.{opening-once}
 use Rattle.trace_run.proofs.in_place.Sums.{AreDistinct}
-use Rattle.run_laws.specs.Alike.{HoldsFewer, OneRun}
+use Rattle.run_laws.specs.Alike.{OneRun}
 use Rattle.run_laws.proofs.ActsAlike.{each-same, holders-alike}
 use Rattle.run_laws.proofs.Sorted.{cached-one}
 

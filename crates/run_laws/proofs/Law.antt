@@ -1,12 +1,8 @@
 -- Two runs of one trace by one caller come to the same, or they may part: all lines, the sync that stopped, and the close.
-use Rattle.std.proofs.Common.{◌≡◌, ℕ, zero, suc, List, [], ◌∷◌, ◌++◌, length, take, Option, None, Some, refl, sym, ap, ◌∙◌, subst, inl, inr, append-nil, arith}
+use Rattle.std.proofs.Common.{◌≡◌, ℕ, zero, suc, List, [], ◌∷◌, ◌++◌, length, Option, None, Some, refl, sym, ap, ◌∙◌, subst, inl, inr, arith}
 use Rattle.std.specs.Prelude.{◌⊎◌, slice_get}
 use Rattle.std.proofs.lemmas.Option.{slice_get_within}
 use Rattle.arc_core.specs.Config.{IsConfig}
-use Rattle.arc_core.specs.declared.event.Event.{Event}
-use Rattle.arc_table.specs.Geometry.{IsCell, cell_number}
-use Rattle.dbuf_state.specs.Outline.{outline_after}
-use Rattle.dbuf_state.specs.declared.event.CellEvent.{CellEvent}
 use Rattle.vdev_io.specs.Calls.{Call}
 use Rattle.vdev_io.specs.declared.device.CacheDev.{Ghosts as Devices}
 use Rattle.vdev_io.specs.declared.pool.Pool.{Ghosts}
@@ -17,18 +13,14 @@ use Rattle.trace_text.specs.declared.reply.Reply.{Reply}
 use Rattle.trace_text.specs.declared.trace.Trace.{Trace}
 use Rattle.trace_run.specs.declared.ran.Ending.{Ending}
 use Rattle.trace_run.specs.declared.ran.Ending.TheVariants.{Fork, Full, Sync, Whole}
-use Rattle.trace_run.specs.Deeds.{events_of_cell}
 use Rattle.trace_run.specs.Lines.{caller_of}
-use Rattle.trace_run.specs.Openings.{opening_map}
 use Rattle.trace_run.specs.RunWork.{FitsBy, IsSyncWork}
 use Rattle.trace_run.specs.callers.Together.{StopsAtSync}
 use Rattle.trace_run.specs.callers.WorkLines.{IsWorkOf}
-use Rattle.trace_run.specs.dbufs.Objects.{Line, Work, ops_of}
-use Rattle.trace_run.specs.KeptBlocks.{held_in_shard}
-use Rattle.trace_run.specs.one_caller.OneCaller.{events_of_drops}
-use Rattle.trace_run.specs.one_caller.Sequence.{BetweenLines, DoesAnyLine, DoesSync, EndsThere, outline_behind}
+use Rattle.trace_run.specs.dbufs.Objects.{Line, ops_of}
+use Rattle.trace_run.specs.one_caller.Sequence.{BetweenLines, DoesAnyLine, DoesSync, EndsThere}
 use Rattle.trace_run.proofs.callers.GroupLists.{some-same}
-use Rattle.run_laws.specs.Alike.{AreAlikeSoFar, BeginAlike, ComeToTheSame, FailAlike, MayPart, OneRun, SameUpTo, HoldsFewer, answers_at_stop, at_stop, before_close as fewer_before_close, begun, done_to, front_at, front_last, pool_answers_to, shard_closing, fewer as may_fewer}
+use Rattle.run_laws.specs.Alike.{AreAlikeSoFar, BeginAlike, ComeToTheSame, FailAlike, MayPart, OneRun, answers_at_stop, at_stop, begun, pool_answers_to}
 use Rattle.run_laws.proofs.Begins.{start-same}
 use Rattle.run_laws.proofs.Closing.{EndAlike, close-alike}
 use Rattle.run_laws.proofs.EndedOrder.{ended-same}

@@ -1,6 +1,6 @@
 -- The cells that two syncs took, to which the same had been done: they have the same outlines, so the same dirty blocks; and a block of which they have other bytes is of a cell that has come by one history to two
 -- states (spa_sync, dbuf_sync_list).
-use Rattle.std.proofs.Common.{◌≡◌, ◌<◌, ◌+◌, ℕ, zero, suc, IsPermutation, List, [], ◌∷◌, length, Option, Some, None, slice_get, refl, sym, ap, ◌∙◌, subst, inl, inr}
+use Rattle.std.proofs.Common.{◌≡◌, ◌<◌, ◌+◌, ℕ, zero, suc, IsPermutation, List, [], ◌∷◌, length, Option, Some, None, slice_get, refl, sym, ap, ◌∙◌, subst, inl, inr, Bool}
 use Rattle.std.specs.Option.{option_map}
 use Rattle.std.proofs.lemmas.Option.{slice_get_within}
 use Rattle.arc_table.specs.Geometry.{IsCell}
