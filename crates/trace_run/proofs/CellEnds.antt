@@ -71,11 +71,10 @@ use Rattle.trace_run.specs.dbufs.CellEnds.{IsCellDrop, SeesEnd, SeesEnds, end_en
 use Rattle.trace_run.specs.dbufs.DbufTurns.{CellsDone}
 use Rattle.trace_run.specs.Deeds.{HasToldOthers, Noted, acts_of_events, events_there, noted_in, MakesLater, CellsGrow}
 use Rattle.trace_run.specs.Making.{HasSeenItsEvents}
-use Rattle.trace_run.specs.Reads.{now_of}
-use Rattle.trace_run.proofs.deeds.CellFound.{turn-finds, turn-holders}
+use Rattle.trace_run.proofs.deeds.CellFound.{turn-finds}
 use Rattle.trace_run.proofs.deeds.CellsDone.{turn-done}
 use Rattle.trace_run.proofs.deeds.DeedLemmas.{events-acts}
-use Rattle.trace_run.proofs.deeds.ObjectReplies.{dbufs-so, found_outline, holders-so}
+use Rattle.trace_run.proofs.deeds.ObjectReplies.{dbufs-so}
 use Rattle.trace_run.proofs.deeds.TurnMakes.{AreTurnEvents}
 use Rattle.trace_run.proofs.theorem.ToldLemmas.{others-turn}
 use Rattle.trace_run.proofs.CellsLeft.{LeavesCells, does-leaves, leaves-same, leaves-seen, leaves-then}
@@ -498,18 +497,17 @@ module _ (g : Config) (valid : IsConfig g) (i : ℕ) (in_range : IsCell g i) (p 
   cell-else j range differs = ap (λ (x : PartyPlace). front_of j x.own.seen) t.gave ∙ back-else j range differs
 
   -- it knows how the cell began, and gave back all that the cell kept
-  pub sees-end : SeesEnd g p.own.about.openings q.own.seen (λ shard. seen_of g shard p) p.number i e.drops
+  pub sees-end : SeesEnd g p.own.about.openings q.own.seen p.number i e.drops
   unfolding cell-end
   sees-end =
       let found = turn-finds g valid i in_range e.before (End p.number ∷ []) e.drops p q config (sees, entries) cell-kinds e.turn in
-      let holders = turn-holders g valid i in_range e.before (End p.number ∷ []) e.drops p q config (sees, entries) cell-kinds e.turn all in
       record {
         before = e.before;
         opening = found.opening;
         last = cell-end.1;
         kept = record {
           held = held_in e.before;
-          are_held = holders-so (cell_number g i) (outline_in e.before) (found_outline e.before) (dbufs-so e.before found.sound) (λ k. now_of g (shard_of g.shards k) p) (held_in e.before) holders;
+          are_held = t.tells;
           kept = e.kept;
           all = record { rising = e.all.rising; all = subst (λ (ds : List OutlineDbuf). IsPermutation (filter (λ (d : OutlineDbuf). d.cached) ds) e.kept) (dbufs-so e.before found.sound) e.all.all };
           dropped = e.dropped;
@@ -574,7 +572,7 @@ module _ (g : Config) (valid : IsConfig g) where
     pub told : (did : List Act) (had : List Noted) → HasToldOthers g did had p → HasToldOthers g (did ++ acts_of_events drops) (had ++ noted_ends p.number i count) q
     pub last : (j : ℕ) → IsCell g j → i ≤ j → j < i + count → front_of j q.own.seen ≡ front_of j p.own.seen ++ end_entry p.number j
     pub lower : (j : ℕ) → IsCell g j → j < i → front_of j q.own.seen ≡ front_of j p.own.seen
-    pub kept : SeesEnds g p.own.about.openings q.own.seen (λ shard. seen_of g shard p) p.number i count drops
+    pub kept : SeesEnds g p.own.about.openings q.own.seen p.number i count drops
     pub idle : IsUntouched g i p → HasEndedIdle g i (i + count) drops p q
 
   pub all-ended : (i count : ℕ) (p q : PartyPlace) → i + count ≤ g.cells → p.own.about.config ≡ g → HasSeenItsEvents g p → HasSeenItsEntries g p → HasAll p → EndsFrom g i count p q → HasEndedFrom i count p q
@@ -661,7 +659,7 @@ module _ (g : Config) (valid : IsConfig g) where
               rest.drops,
               refl,
               record { before = e.before; opening = e.opening; last = rest.lower i here (omega arith) ∙ e.last; kept = e.kept },
-              subst (λ (x : ℕ × List (List ℕ) × (ℕ → List Event)). SeesEnds g x.1 q.own.seen x.2 x.0 (suc i) count rest.drops) (λ z. (a.number z, (ap (λ (x : About). x.openings) a.about) z, λ shard. a.shards shard z)) rest.kept,
+              subst (λ (x : ℕ × List (List ℕ)). SeesEnds g x.1 q.own.seen x.0 (suc i) count rest.drops) (λ z. (a.number z, (ap (λ (x : About). x.openings) a.about) z)) rest.kept,
             );
         idle = λ none.
             let x = one-idle g valid i here p r config sees entries all ends.1 none in

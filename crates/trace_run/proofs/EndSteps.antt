@@ -195,9 +195,7 @@ module _ (cache : Cache) (p : PartyPlace) (others : List PartyPlace) (stands : S
         same_cells = λ sees own rest i range. ended.last i range (omega arith) (omega (arith, range)) ∙ (λ z. have.level_cells sees own rest i range z ++ end_entry (have.number z) i);
         one = λ o is seen shard. then.shards shard ∙ ap (λ (l : List Event). l ++ events_there g shard ended.drops) (one-front o is seen shard);
         idle = was-idle;
-        front = λ shard. seen_of g shard q;
-        fronts = λ before own rest shard. ap events_in (have.level before own rest shard);
-        kept = subst (λ (x : ℕ × List (List ℕ)). SeesEnds g x.1 r.own.seen (λ shard. seen_of g shard q) x.0 0 g.cells ended.drops) (λ i. (have.number i, (ap (λ (a : About). a.openings) have.about) i)) ended.kept;
+        kept = subst (λ (x : ℕ × List (List ℕ)). SeesEnds g x.1 r.own.seen x.0 0 g.cells ended.drops) (λ i. (have.number i, (ap (λ (a : About). a.openings) have.about) i)) ended.kept;
         are = ended.are;
         settled = λ feeder settled i. then.picks (have.number ∙ feeder) i ∙ (ap (λ (l : Ledger). list_at i l.picked) have.ledger ∙ settled i);
       }

@@ -2,7 +2,6 @@ pub mod BringDone
 pub mod CellFound
 pub mod CellsDone
 pub mod ClosedDeeds
-pub mod CountsFound
 pub mod DeedLemmas
 pub mod MadeCells
 pub mod MadeLemmas

@@ -35,7 +35,7 @@ use Rattle.dbuf_cells.specs.Turns.{PartyPlace, dbuf_meanings}
 use Rattle.trace_run.specs.dbufs.DbufTurns.{CellsDone, held_through}
 use Rattle.trace_run.specs.Deeds.{SameMade, events_there, with_number}
 use Rattle.trace_run.specs.MadeLines.{made_in, made_of}
-use Rattle.trace_run.specs.dbufs.ObjectLines.{CameFrom, brought_there, events_of_access, events_of_bringing, events_of_hand}
+use Rattle.trace_run.specs.dbufs.ObjectLines.{CameFrom, brought_there, events_of_bringing, events_of_hand}
 use Rattle.trace_run.specs.dbufs.Objects.{Brought, Nothing, Loaded, Refused, acts_of_bringing}
 use Rattle.trace_run.specs.one_caller.Access as access
 use Rattle.trace_run.specs.one_caller.Access.{Access, AsksPool, MayComeFrom, access_of, events_of_answered, events_of_refused, held_by_access}
@@ -65,7 +65,6 @@ pub record BringDone (g : Config) (t c : ℕ) (brought : Brought) (hands : List 
   pub source : HasAll p → CameFrom g p brought
   pub alone : HasAll p → (shard : ℕ) → seen_of g shard q ++ events_there g shard hands
       ≡ seen_of g shard p ++ brought_there g.shards shard brought (events_of_bringing (now_of g shard p) p.number t c brought)
-  pub met : HasAll p → (shard : ℕ) → seen_of g shard q ≡ seen_of g shard p ++ brought_there g.shards shard brought (events_of_access (now_of g shard p) p.number t brought)
   pub told : (did : List Act) (r : PartyPlace) → r.number ≡ p.number → ((shard : ℕ) → MakesOwn g hands q r p.number shard) → IsTold g did p → IsTold g (did ++ acts_of_bringing p.number t c brought) r
 
 -- ---- nothing
@@ -113,8 +112,6 @@ module _ (g : Config) (t c : ℕ) where
     source = λ all. came-same g m p (seen-same g [] p m refl d all) brought (b.source (d.all all));
     alone = λ all shard. b.alone (d.all all) shard
         ∙ (λ i. seen-same g [] p m refl d all shard i ++ brought_there g.shards shard brought (events_of_bringing (replay (opening_of g) (seen-same g [] p m refl d all shard i)) (d.number i) t c brought));
-    met = λ all shard. b.met (d.all all) shard
-        ∙ (λ i. seen-same g [] p m refl d all shard i ++ brought_there g.shards shard brought (events_of_access (replay (opening_of g) (seen-same g [] p m refl d all shard i)) (d.number i) t brought));
     told = λ did r number more told.
         subst (λ (n : ℕ). IsTold g (did ++ acts_of_bringing n t c brought) r) d.number
         (b.told did r (number ∙ sym d.number) (λ shard. subst (λ (n : ℕ). MakesOwn g hands q r n shard) (sym d.number) (more shard))
@@ -132,7 +129,6 @@ module _ (g : Config) (t c : ℕ) where
     readings = d.readings;
     source = λ all. tt;
     alone = λ all shard. ap (λ (l : List Event). l ++ []) (seen-same g [] p q refl d all shard);
-    met = λ all shard. seen-same g [] p q refl d all shard ∙ sym (append-nil (seen_of g shard p));
     told = λ did r number more told shard.
         let w = more shard in
         let empty : w.ms ≡ [] = no-moments w.ms w.events in
@@ -274,7 +270,6 @@ module _ {P D : Type 0} (g : Config) (valid : IsConfig g) (pools : PoolGhosts P)
       readings = readings;
       source = λ all. (a.alone all).1;
       alone = λ all j. there-alone all j;
-      met = λ all j. there-met all j;
       told = act-told g (Loads p.number t ptr from c) shard hands a.ms a.es p q refl refl a.moves stands-for none-are;
     }
       where
@@ -290,12 +285,6 @@ module _ {P D : Type 0} (g : Config) (valid : IsConfig g) (pools : PoolGhosts P)
             (λ differs. rw (ne_eqb shard j differs)
             ((λ i. (a.moves.alone all).others j (λ e. differs (sym e)) i ++ none-are j (λ e. differs (sym e)) i)))
 
-        there-met : HasAll p → (j : ℕ) → seen_of g j q ≡ seen_of g j p ++ (if shard == j then events_of_answered p.number t ptr from (access_of (now_of g j p) ptr) else [])
-        there-met all j = dite (ℕ_discrete shard j)
-            (λ same. subst (λ (x : ℕ). seen_of g x q ≡ seen_of g x p ++ (if shard == x then events_of_answered p.number t ptr from (access_of (now_of g x p) ptr) else [])) same
-            (rw (eq-eqb shard shard refl) ((a.moves.alone all).here ∙ ap (λ (l : List Event). seen_of g shard p ++ l) (a.alone all).0)))
-            (λ differs. rw (ne_eqb shard j differs) ((a.moves.alone all).others j (λ e. differs (sym e)) ∙ sym (append-nil (seen_of g j p))))
-
   -- the pool failed, or gave other bytes
   pub failed-done : AddsFailed dbuf_meanings g valid pools devices ptr t p q → q.own.ledger.holds ≡ p.own.ledger.holds → q.own.ledger.readings ≡ p.own.ledger.readings → BringDone g t c (Refused ptr) [] p q
   failed-done a holds readings = record {
@@ -306,7 +295,6 @@ module _ {P D : Type 0} (g : Config) (valid : IsConfig g) (pools : PoolGhosts P)
     readings = readings;
     source = λ all. (a.alone all).1;
     alone = there-alone;
-    met = λ all j. sym (append-nil (seen_of g j q)) ∙ there-alone all j;
     told = act-told g (Fails p.number t ptr) shard [] a.ms a.es p q refl refl a.moves stands-for (λ j differs. refl);
   }
     where

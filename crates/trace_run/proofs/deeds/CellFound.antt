@@ -1,12 +1,7 @@
 -- How a party found a cell in a turn of it, as seen from before that turn and from behind it.
-use Rattle.std.proofs.Common.{◌≡◌, ◌⊎◌, ℕ, zero, ◌<◌, List, [], ◌++◌, map, sym, ap, ◌∙◌, subst, append-nil}
+use Rattle.std.proofs.Common.{◌≡◌, ◌⊎◌, ℕ, ◌<◌, List, [], ◌++◌, map, sym, ap, ◌∙◌, subst, append-nil}
 use Rattle.std.specs.Prelude.{slice_index_or}
-use Rattle.blk_ptr.specs.Hash.{shard_of}
-use Rattle.blk_ptr.specs.declared.key.Key.{Key}
 use Rattle.arc_core.specs.Config.{IsConfig}
-use Rattle.arc_core.specs.Keeps.{holds_on}
-use Rattle.arc_core.specs.PlainShard.{count_of}
-use Rattle.arc_core.specs.Replay.{replay}
 use Rattle.arc_core.specs.declared.config.Config.{Config}
 use Rattle.arc_core.specs.declared.event.Event.{Event}
 use Rattle.turn_table.specs.declared.standing.Kept.{Kept}
@@ -20,24 +15,20 @@ use Rattle.arc_table.specs.declared.view.Mine.{Mine}
 use Rattle.arc_table.specs.Cells.{IsTakenCell, SeesAll}
 use Rattle.arc_table.specs.Fronts.{StartsWith, front_of}
 use Rattle.arc_table.specs.Geometry.{IsCell, cell_number}
-use Rattle.arc_table.specs.Seen.{AllSeenBy, AreEntriesSeen, AreSeenBy, FindsEntries, HasAll, HasSeenBy, IsNumberOrCell, events_in, turn_of}
-use Rattle.arc_table.specs.Telling.{opening_of}
+use Rattle.arc_table.specs.Seen.{AreEntriesSeen, FindsEntries, HasAll}
 use Rattle.arc_table.specs.TableLaws.{starts_whole}
 use Rattle.arc_table.proofs.Afterwards.{Stays}
 use Rattle.arc_table.proofs.cell_lemmas.CellsInHand.{taken-cell}
 use Rattle.arc_table.proofs.Reached.{SameButNotes, Took, loses_same, took_is}
-use Rattle.dbuf_cells.specs.Turns.{CellTurn, OnHeap, PartyPlace, dbuf_meanings, held_in, holds_of, outline_in}
+use Rattle.dbuf_cells.specs.Turns.{CellTurn, OnHeap, PartyPlace, dbuf_meanings}
 use Rattle.dbuf_state.specs.Numbers.{event_numbers}
 use Rattle.dbuf_state.specs.declared.event.CellEvent.{CellEvent}
 use Rattle.trace_run.specs.dbufs.CellEnds.{done_by}
 use Rattle.trace_run.specs.dbufs.DbufTurns.{CellsDone}
 use Rattle.trace_run.specs.Deeds.{lines_of_cell, noted_in}
 use Rattle.trace_run.specs.MadeLines.{made_from, made_of}
-use Rattle.trace_run.specs.Reads.{now_of}
-use Rattle.trace_run.specs.dbufs.Holders.{AreHolders}
 use Rattle.trace_run.specs.dbufs.ObjectLines.{FindsCell, cell_lines}
 use Rattle.trace_run.proofs.CellsLeft.{LeavesCells}
-use Rattle.trace_run.proofs.deeds.CountsFound.{counts-found}
 use Rattle.trace_run.proofs.deeds.CellsDone.{noted-here, turn-found, turn-front}
 use Rattle.trace_run.proofs.deeds.OwnFound.{found-own}
 use Rattle.trace_run.proofs.deeds.TurnMakes.{AreTurnEvents, starts-on}
@@ -151,19 +142,3 @@ module _ (g : Config) (valid : IsConfig g) (i : ℕ) (in_range : IsCell g i) (ce
     mine = own-there;
     seen = (map line.Entry (map event_numbers news), subst (λ (x : PartyPlace). front_of i x.own.seen ≡ cell_lines cell ++ map line.Entry (map event_numbers news)) (sym t.gave) (turn-front g valid i in_range cell news es p q config sees kinds t));
   }
-
-  -- where it has every number, the shards tell which keys the cell holds
-  pub turn-holders : HasAll p → AreHolders (cell_number g i) (outline_in cell) (λ k. now_of g (shard_of g.shards k) p) (held_in cell)
-  turn-holders all =
-      let then : PartyPlace = saw p t.takes.knew in
-      let seen_then : HasSeenBy (IsNumberOrCell g) g then = record {
-        own = subst (λ (x : List Mine × List (List Line)). AreSeenBy (IsNumberOrCell g) g p.number x.0 x.1) (λ z. (sym knew.mine z, sym knew.seen z)) sees.0.own;
-        joined = subst (λ (s : List (List Line)). AllSeenBy (IsNumberOrCell g) g p.joined s) (sym knew.seen) sees.0.joined;
-      } in
-      let counted : (k : Key) → holds_on k (holds_of cell.value) ≡ count_of (cell_number g i) k (now_of g (shard_of g.shards k) p) = λ k.
-      sym (counts-found g then (ap (λ (a : About). a.config) knew.about ∙ config) i in_range cell t.takes.free seen_then all k)
-      ∙ ap (λ (s : List (List Line)). count_of (cell_number g i) k (replay (opening_of g) (events_in (front_of (turn_of g (shard_of g.shards k)) s)))) knew.seen in
-      record {
-        of_held = λ at is. let h = t.stands.of_held at is in (h.0, h.1, subst (λ (n : ℕ). 0 < n) (counted h.0) h.2);
-        count = λ k. sym (counted k) ∙ t.stands.count k;
-      }

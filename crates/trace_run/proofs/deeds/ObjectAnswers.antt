@@ -65,16 +65,15 @@ use Rattle.trace_run.specs.Answers.{IsReadRefusal}
 use Rattle.trace_run.specs.Deeds.{lines_of_cell, noted_in}
 use Rattle.trace_run.specs.Effects.{Answered, PoolRefused}
 use Rattle.trace_run.specs.KeptBlocks.{AllQuiet, IsOwnedBy, Stands, times}
-use Rattle.trace_run.specs.dbufs.Holders.{AreHolders}
-use Rattle.trace_run.specs.dbufs.ObjectLines.{Brings as BringsLine, Did, DidGet, DidNot, DidPatch, DidPin, DidPut, DidUnpin, DidWork, EndsInside, FailsToBring, FindsCell, IsBrought, RefusesBlock, RefusesBytes, ReleasesFor, SpentOn, SpentOnRead, TellsFault, WasToBring, cell_lines, shard_met}
-use Rattle.trace_run.specs.dbufs.Objects.{Brought, Nothing, Loaded, Refused, held_once, loads_of}
+use Rattle.trace_run.specs.dbufs.ObjectLines.{Brings as BringsLine, Did, DidGet, DidNot, DidPatch, DidPin, DidPut, DidUnpin, DidWork, EndsInside, FailsToBring, FindsCell, IsBrought, RefusesBlock, RefusesBytes, ReleasesFor, SpentOn, SpentOnRead, TellsFault, WasToBring, cell_lines}
+use Rattle.trace_run.specs.dbufs.Objects.{Brought, Nothing, Loaded, Refused, gives_hold, held_once, loads_of}
 use Rattle.trace_run.specs.Reads.{IsRefused, now_of}
 use Rattle.trace_run.proofs.DeviceReadLemmas.{DeviceDid}
 use Rattle.trace_run.proofs.DeviceReadLemmas as device
 use Rattle.trace_run.proofs.GetLemmas.{PoolDid, block-told, fault-calls, fault-cause, held-calls, held-told, ok-valid, pool-did}
 use Rattle.trace_run.proofs.one_caller.AskingLemmas as asking
 use Rattle.trace_run.proofs.deeds.BringDone.{BringDone, bring-then, bytes-refuse, held-source, nothing-brought, pool-refuses, read-brings, source_of_read}
-use Rattle.trace_run.proofs.deeds.CellFound.{LeavesSeen, found-before, found-behind, seen-done, turn-finds, turn-holders, turn-placed}
+use Rattle.trace_run.proofs.deeds.CellFound.{LeavesSeen, found-before, found-behind, seen-done, turn-finds, turn-placed}
 use Rattle.trace_run.proofs.deeds.CellsDone.{done-then, turn-done, turn-low, waits-done}
 use Rattle.trace_run.proofs.deeds.OperatesDone.{AreOfCell, all-both, both-of, cell-there, evictions-of, operates-done, release-of}
 use Rattle.trace_run.proofs.deeds.OutlineFound.{uncached-there}
@@ -232,11 +231,6 @@ module _ (g : Config) (valid : IsConfig g) (at : Oid) (t : ℕ) (p q : PartyPlac
     pub own-evicted : AreEvictions p.number c held (after_all (outline_in mid) (own_loads ++ own ∷ [])) (map (events.Evict p.number) oids) o.drops
     own-evicted = subst (λ (x : ℕ × List CellEvent). AreEvictions x.0 c held (after_all (outline_in mid) (own_loads ++ own ∷ [])) x.1 o.drops) (λ k. (b.seen.number k, are-oids k)) o.evicted
 
-    -- behind the access the shards tell which keys the cell holds
-    pub own-holders : HasAll p → AreHolders c (outline_in mid) (shard_met g t brought p) (held_in mid)
-    own-holders all = subst (λ (s : Key → PlainShard). AreHolders c (outline_in mid) s (held_in mid)) (λ z k. replay (opening_of g) (b.met all (shard_of g.shards k) z))
-        (turn-holders g valid i in_range mid ((own_loads ++ own ∷ []) ++ o.evictions) ((hands ++ released) ++ o.drops) back q back-config b.sees turn-kinds-all o.turn (b.seen.all all))
-
   -- ---- what was not done
 
   -- nothing, in a turn of the cell behind which the party is q
@@ -286,7 +280,7 @@ module _ (g : Config) (valid : IsConfig g) (at : Oid) (t : ℕ) (p q : PartyPlac
             drops = o.drops;
             evictions = own-evicted Nothing ready [] b tt cell (held_in cell) own es of o;
             placed = own-placed Nothing ready [] b tt cell (held_in cell) own es of o;
-            holders = own-holders Nothing ready [] b tt cell (held_in cell) own es of o;
+            holders = o.turn.tells;
             work = own-work Nothing ready [] b tt cell (held_in cell) own es of o;
           },
           own-keeps Nothing ready [] b tt cell (held_in cell) own es of o,
@@ -404,17 +398,19 @@ module _ (g : Config) (valid : IsConfig g) (at : Oid) (t : ℕ) (p q : PartyPlac
           let number : ready.number ≡ p.number = w.number in
           let same : handed reads.marked.number c got ≡ hands = ap (λ (n : ℕ). handed n c got) (d.number ∙ sym number) ∙ sym handed_are in
           let b : BringDone g t c (Loaded ptr (source_of_read got)) hands reads.marked back = subst (λ (l : List Event). BringDone g t c (Loaded ptr (source_of_read got)) l reads.marked back) same
-          (read-brings g valid pools devices ptr t c before now reads.marked back (marked-low ptr back (Ok got) reads) (marked-config ptr back (Ok got) reads) d.sees got reads.answered) in (
+          (read-brings g valid pools devices ptr t c before now reads.marked back (marked-low ptr back (Ok got) reads) (marked-config ptr back (Ok got) reads) d.sees got reads.answered) in
+          let source : (hold : Hold) (from : Served) → got ≡ gave.Held hold from → from ≢ served.Past = λ hold from is.
+          held-source g valid pools devices ptr t c before now reads.marked back (marked-low ptr back (Ok got) reads) (marked-config ptr back (Ok got) reads) d.sees hold from
+          (subst (λ (x : Read). AnswersRead dbuf_meanings pools devices g ptr t before now reads.marked back (Ok x)) is reads.answered) in (
             Loaded ptr (source_of_read got),
             record {
               done = bring-then g t c (Loaded ptr (source_of_read got)) hands p reads.marked back d b;
-              loads_are = are ∙ ap (λ (n : ℕ). events.Load n at ∷ []) number;
+              loads_are = are ∙ (ap (λ (n : ℕ). events.Load n at (bringing.gives_hold got) ∷ []) number ∙ ap (λ (b : Bool). events.Load p.number at b ∷ []) (gives-so got source));
               handing = subst (AreHands p.number c) (sym (handed_are ∙ ap (λ (n : ℕ). handed n c got) number)) (are-hands p.number got);
-              held_is = (λ z. held_behind at (are z) (handed_are z) (held_in mid)) ∙ held-by ready.number got (λ hold from is. held-source g valid pools devices ptr t c before now reads.marked back (marked-low ptr back (Ok got) reads) (marked-config ptr back (Ok got) reads) d.sees hold from
-                  (subst (λ (x : Read). AnswersRead dbuf_meanings pools devices g ptr t before now reads.marked back (Ok x)) is reads.answered));
+              held_is = (λ z. held_behind at (are z) (handed_are z) (held_in mid)) ∙ held-by ready.number got source;
               brings = λ held own es o.
-                  let with_load : Operates g i mid held (events.Load ready.number at ∷ own ∷ []) es back q = subst (λ (l : List CellEvent). Operates g i mid held (l ++ own ∷ []) es back q) are o in
-                  record { pointer = pointer; uncached = uncached-there at mid with_load.turn.sound.evicting ready.number with_load.turn.leads.0 };
+                  let with_load : Operates g i mid held (events.Load ready.number at (bringing.gives_hold got) ∷ own ∷ []) es back q = subst (λ (l : List CellEvent). Operates g i mid held (l ++ own ∷ []) es back q) are o in
+                  record { pointer = pointer; uncached = uncached-there at mid with_load.turn.sound.evicting ready.number (bringing.gives_hold got) with_load.turn.leads.0 };
               spent = λ reply. spent-loaded ptr reads.marked back d got reads.answered;
             },
           )
@@ -423,8 +419,16 @@ module _ (g : Config) (valid : IsConfig g) (at : Oid) (t : ℕ) (p q : PartyPlac
           are-hands n (gave.Held hold from) = ((hold.key, refl), tt)
           are-hands n (gave.Past block kept) = tt
 
-          -- a hold that was handed on is not of a read past the cache
-          held-by : (n : ℕ) (x : Read) → ((hold : Hold) (from : Served) → x ≡ gave.Held hold from → from ≢ served.Past) → held_behind at (events.Load n at ∷ []) (handed n c x) (held_in mid) ≡ held_once at (Loaded ptr (source_of_read x)) (held_in mid)
+          -- a hold is not of a read past the cache
+          gives-so : (x : Read) → ((hold : Hold) (from : Served) → x ≡ gave.Held hold from → from ≢ served.Past) → bringing.gives_hold x ≡ gives_hold (source_of_read x)
+          gives-so (gave.Held hold served.Hit) un = refl
+          gives-so (gave.Held hold served.Pool) un = refl
+          gives-so (gave.Held hold served.L2) un = refl
+          gives-so (gave.Held hold served.Past) un = absurd (un hold served.Past refl refl)
+          gives-so (gave.Past block kept) un = refl
+
+          -- nor is one that was handed on
+          held-by : (n : ℕ) (x : Read) → ((hold : Hold) (from : Served) → x ≡ gave.Held hold from → from ≢ served.Past) → held_behind at (events.Load n at (bringing.gives_hold x) ∷ []) (handed n c x) (held_in mid) ≡ held_once at (Loaded ptr (source_of_read x)) (held_in mid)
           held-by n (gave.Held hold served.Hit) un = refl
           held-by n (gave.Held hold served.Pool) un = refl
           held-by n (gave.Held hold served.L2) un = refl
@@ -584,7 +588,7 @@ module _ (g : Config) (valid : IsConfig g) (at : Oid) (t : ℕ) (p q : PartyPlac
                 drops = o.drops;
                 evictions = own-evicted br.0 acts.back acts.hands br.1.done br.1.handing acts.mid held (own p.number) [] tt o;
                 placed = own-placed br.0 acts.back acts.hands br.1.done br.1.handing acts.mid held (own p.number) [] tt o;
-                holders = own-holders br.0 acts.back acts.hands br.1.done br.1.handing acts.mid held (own p.number) [] tt o;
+                holders = o.turn.tells;
                 work = own-work br.0 acts.back acts.hands br.1.done br.1.handing acts.mid held (own p.number) [] tt o;
               },
               br.1.spent reply,
@@ -614,7 +618,7 @@ module _ (g : Config) (valid : IsConfig g) (at : Oid) (t : ℕ) (p q : PartyPlac
                 drops = o.drops;
                 evictions = own-evicted br.0 a.back a.hands br.1.done br.1.handing a.mid held own a.es of o;
                 placed = own-placed br.0 a.back a.hands br.1.done br.1.handing a.mid held own a.es of o;
-                holders = own-holders br.0 a.back a.hands br.1.done br.1.handing a.mid held own a.es of o;
+                holders = o.turn.tells;
                 work = own-work br.0 a.back a.hands br.1.done br.1.handing a.mid held own a.es of o;
               },
               br.1.spent replies.Done,

@@ -1,6 +1,5 @@
 -- What a line on an object was answered, and what it did beside its reply, by the cell that its party found: as the contract of its call says it.
 use Rattle.std.proofs.Common.{◌≡◌, ◌⊎◌, ℕ, Bool, List, [], ◌∷◌, ◌++◌, map, Option, inl, inr, refl, sym, ap, ◌∙◌, subst, append-nil}
-use Rattle.std.specs.Prelude.{◌&&◌, count_by}
 use Rattle.std.specs.List.{AllByRecursion}
 use Rattle.blk_ptr.specs.declared.key.Key.{Key}
 use Rattle.blk_ptr.specs.declared.key.KeyFault.{KeyFault}
@@ -8,7 +7,6 @@ use Rattle.blk_ptr.specs.declared.ptr.Ptr.{Ptr}
 use Rattle.vdev_io.specs.declared.device.CacheDev.{Ghosts as DeviceGhosts}
 use Rattle.vdev_io.specs.declared.pool.Pool.{Ghosts as PoolGhosts}
 use Rattle.arc_core.specs.Config.{IsConfig}
-use Rattle.arc_core.specs.PlainShard.{PlainShard}
 use Rattle.arc_core.specs.declared.config.Config.{Config}
 use Rattle.arc_core.specs.declared.event.Event.{Event}
 use Rattle.arc_core.specs.declared.event.Event.TheVariants.{Drop, Release}
@@ -18,7 +16,7 @@ use Rattle.arc_table.specs.Geometry.{cell_number}
 use Rattle.arc_table.specs.Reading.{Outside}
 use Rattle.arc_table.specs.Seen.{HasAll}
 use Rattle.dbuf_cells.specs.Places.{cell_of}
-use Rattle.dbuf_cells.specs.Turns.{AreEvictions, IsCachedAs, OnHeap, PartyPlace, held_in, is_under, outline_in}
+use Rattle.dbuf_cells.specs.Turns.{AreEvictions, OnHeap, PartyPlace, held_in, outline_in}
 use Rattle.dbuf_state.proofs.OutlineLemmas.{leads-outline}
 use Rattle.dbuf_state.specs.Objects.{Evicting, Never, opening_cell}
 use Rattle.dbuf_state.specs.Outline.{Outline, OutlineDbuf, after_all, has_pin_at, is_cached_at, mapped_at, outline_after}
@@ -33,7 +31,7 @@ use Rattle.trace_run.specs.callers.WorkLines.{AsksBrought, DidAlone}
 use Rattle.trace_run.specs.dbufs.CellEnds.{done_by}
 use Rattle.trace_run.specs.Deeds.{HasAct, HasToldAll, Noted, acts_of_events, events_of_cell, noted_in}
 use Rattle.trace_run.specs.dbufs.Holders.{AreHolders, any_held}
-use Rattle.trace_run.specs.dbufs.ObjectLines.{Did, DidNot, EndsInside, FindsCell, IsBrought, ReleasesFor, SpentOn, TellsBrought, WasToBring, cell_lines, shard_met}
+use Rattle.trace_run.specs.dbufs.ObjectLines.{Did, DidNot, EndsInside, FindsCell, IsBrought, ReleasesFor, SpentOn, TellsBrought, WasToBring, cell_lines}
 use Rattle.trace_run.specs.dbufs.ObjectReplies.{ActsAt, ActsFor, AnswersObject, BringsAt, LooksFrom}
 use Rattle.trace_run.specs.dbufs.Objects.{AnswersKey, AnswersNoBlock, AnswersRange, Brought, Line, Loaded, NotesNothing, Nothing, Refused, Work, held_once, loads_of, own_event}
 use Rattle.trace_run.specs.Reads.{now_of}
@@ -74,16 +72,6 @@ module _ (at : Oid) (o x : Outline) (same : o.dbufs ≡ x.dbufs) where
   pub bad-key : (len : ℕ) (why : KeyFault) → AnswersKey len at o (refusals.Key why) → AnswersKey len at x (refusals.Key why)
   bad-key len why w = (w.0, same-mapped ∙ w.1, w.2)
 
-  as-cached : (k : Key) → IsCachedAs at k o → IsCachedAs at k x
-  as-cached k w = record { ptr = w.ptr; mapped = same-mapped ∙ w.mapped; cached = same-cached ∙ w.cached; key = w.key }
-
--- and so of the dbufs that have a hold
-pub holders-so : (c : ℕ) (o x : Outline) → o.dbufs ≡ x.dbufs → (s : Key → PlainShard) (held : Oid → Bool) → AreHolders c o s held → AreHolders c x s held
-holders-so c o x same s held h = record {
-  of_held = λ at is. let w = h.of_held at is in (w.0, as-cached at o x same w.0 w.1, w.2);
-  count = λ k. h.count k ∙ ap (λ (ds : List OutlineDbuf). count_by (λ d. (d.cached && is_under k d.mapped) && held d.at) ds) same;
-}
-
 -- the outline that was found, by what had been done
 abbrev pub found_outline : OnHeap → Outline
 found_outline cell = outline_after cell.value.limit cell.value.opening cell.value.history
@@ -106,9 +94,9 @@ released-of c held (events.Patch n at from bytes) o es r = release-of c at (held
 released-of c held (events.Get n at) o es r = subst (AreOfCell c) (sym r) tt
 released-of c held (events.Pin n at) o es r = subst (AreOfCell c) (sym r) tt
 released-of c held (events.Unpin n at) o es r = subst (AreOfCell c) (sym r) tt
-released-of c held (events.Load n at) o es r = subst (AreOfCell c) (sym r) tt
+released-of c held (events.Load n at bit) o es r = subst (AreOfCell c) (sym r) tt
 released-of c held (events.Evict n at) o es r = subst (AreOfCell c) (sym r) tt
-released-of c held (events.Synced n at ptr) o es r = subst (AreOfCell c) (sym r) tt
+released-of c held (events.Synced n at ptr bit) o es r = subst (AreOfCell c) (sym r) tt
 released-of c held (events.End n) o es r = subst (AreOfCell c) (sym r) tt
 
 -- what a refused line did: at most the access that was refused
@@ -201,10 +189,6 @@ module _ {P D : Type 0} (pools : PoolGhosts P) (devices : DeviceGhosts D) (g : C
   range-so (Loaded ptr from) reply spent = spent.range
   range-so (Refused ptr) reply spent = tt
 
-  -- which dbufs had a hold, as the shards tell it behind the access
-  abbrev pub holders_of : Oid → OnHeap → (t : ℕ) → Brought → (Oid → Bool) → Type 0
-  holders_of at cell t brought = AreHolders (cell_number g (cell_of g.cells at)) (found_outline cell) (shard_met g t brought p)
-
   -- a line that was done, and one that was refused
   pub from-done : (at : Oid) (t : ℕ) (own : CellEvent) (brought : Brought) (Fits : OnHeap → Type 0) (op : Op) (reply : Reply) (d : Did g at t p q own brought Fits)
       → ((AreHeld : (Oid → Bool) → Type 0) → ActsAt g p.number AreHeld (record { at = at; event = own }) (found_outline d.cell) (did-work g at t p q own brought Fits d)
@@ -233,8 +217,7 @@ module _ {P D : Type 0} (pools : PoolGhosts P) (devices : DeviceGhosts D) (g : C
       seen = d.found.alone all;
       brought = brings;
       found = d.work.source all;
-      acts = so (holders_of at d.cell t brought) (acts-at g at t p q own brought Fits d (holders_of at d.cell t brought)
-          (holders-so (cell_number g (cell_of g.cells at)) (outline_in d.cell) (found_outline d.cell) (dbufs-so d.cell d.found.sound) (shard_met g t brought p) (held_in d.cell) (d.holders all)));
+      acts = so (AreHolders d.cell.value.history) (acts-at g at t p q own brought Fits d (AreHolders d.cell.value.history) d.holders);
       answer = answer;
       made = d.released ++ d.drops;
       kinds = of-have (cell_number g (cell_of g.cells at)) (d.released ++ d.drops) (made-of g at t p q own brought Fits d);
@@ -271,7 +254,7 @@ module _ {P D : Type 0} (pools : PoolGhosts P) (devices : DeviceGhosts D) (g : C
       seen = d.found.alone all;
       brought = brings;
       found = d.work.source all;
-      acts = so (holders_of at d.cell t brought) (refl, refl);
+      acts = so (AreHolders d.cell.value.history) (refl, refl);
       answer = answer;
       made = [];
       kinds = tt;

@@ -40,9 +40,9 @@ releases-so c held (events.Patch n at from bytes) o e es r = release-so c at (he
 releases-so c held (events.Get n at) o e es r = r
 releases-so c held (events.Pin n at) o e es r = r
 releases-so c held (events.Unpin n at) o e es r = r
-releases-so c held (events.Load n at) o e es r = r
+releases-so c held (events.Load n at bit) o e es r = r
 releases-so c held (events.Evict n at) o e es r = r
-releases-so c held (events.Synced n at ptr) o e es r = r
+releases-so c held (events.Synced n at ptr bit) o e es r = r
 releases-so c held (events.End n) o e es r = r
 
 -- ---- a Load
@@ -52,8 +52,8 @@ block-uncached (Uncached ptr) is = refl
 block-uncached (Cached ptr) is = absurd (false≢true is)
 block-uncached (Dirty bytes) is = refl
 
-pub uncached-there : (at : Oid) (cell : OnHeap) (e : Evicting) (n : ℕ) → IsLegal (plain_cell e cell.value) (events.Load n at) → is_cached_at at (outline_in cell) ≡ false
-uncached-there at cell e n legal =
+pub uncached-there : (at : Oid) (cell : OnHeap) (e : Evicting) (n : ℕ) (bit : Bool) → IsLegal (plain_cell e cell.value) (events.Load n at bit) → is_cached_at at (outline_in cell) ≡ false
+uncached-there at cell e n bit legal =
     ap (λ (o : Option OutlineDbuf). option_map_or (λ d. d.cached) o false) (view-found plain.dbuf_oid dbuf_oid outline_dbuf (λ d. refl) at (plain_cell e cell.value).dbufs)
     ∙ go (plain.dbuf_at at (plain_cell e cell.value)) (and-parts (not (is_due (plain_cell e cell.value))) _ legal).1
   where

@@ -102,24 +102,24 @@ op-no-syncs g n AreHeld (ops.Cap c) o work reply acts = none-no-syncs work acts
 
 -- where the event is a sync's, its pointer can be read, and ends at or before this place
 abbrev pub IsToldUpTo : (len end : ℕ) (now : List ℕ) → CellEvent → Type 0
-IsToldUpTo len end now (events.Synced n at ptr) = IsReadable len now ptr × (key_end ptr.key ≤ end)
+IsToldUpTo len end now (events.Synced n at ptr held) = IsReadable len now ptr × (key_end ptr.key ≤ end)
 IsToldUpTo len end now (events.Get n at) = Unit {0}
 IsToldUpTo len end now (events.Put n at size fill) = Unit {0}
 IsToldUpTo len end now (events.Patch n at from bytes) = Unit {0}
 IsToldUpTo len end now (events.Pin n at) = Unit {0}
 IsToldUpTo len end now (events.Unpin n at) = Unit {0}
-IsToldUpTo len end now (events.Load n at) = Unit {0}
+IsToldUpTo len end now (events.Load n at held) = Unit {0}
 IsToldUpTo len end now (events.Evict n at) = Unit {0}
 IsToldUpTo len end now (events.End n) = Unit {0}
 
 no-sync-told : (len end : ℕ) (now : List ℕ) (e : CellEvent) → is_synced e ≡ false → IsToldUpTo len end now e
-no-sync-told len end now (events.Synced n at ptr) un = absurd (let clash : true ≡ false = un in cc)
+no-sync-told len end now (events.Synced n at ptr held) un = absurd (let clash : true ≡ false = un in cc)
 no-sync-told len end now (events.Get n at) un = tt
 no-sync-told len end now (events.Put n at size fill) un = tt
 no-sync-told len end now (events.Patch n at from bytes) un = tt
 no-sync-told len end now (events.Pin n at) un = tt
 no-sync-told len end now (events.Unpin n at) un = tt
-no-sync-told len end now (events.Load n at) un = tt
+no-sync-told len end now (events.Load n at held) un = tt
 no-sync-told len end now (events.Evict n at) un = tt
 no-sync-told len end now (events.End n) un = tt
 
@@ -128,13 +128,13 @@ pub readable-on : (len end : ℕ) (old now : List ℕ) (ptr : Ptr) → take end 
 readable-on len end old now ptr same ends readable = record { valid = readable.valid; of = subst (λ (l : List ℕ). IsOf l ptr) (range-front end ptr.key old now ends (sym same)) readable.of }
 
 told-on : (len end last : ℕ) (old now : List ℕ) → take end now ≡ take end old → end ≤ last → (e : CellEvent) → IsToldUpTo len end old e → IsToldUpTo len last now e
-told-on len end last old now same more (events.Synced n at ptr) told = (readable-on len end old now ptr same told.1 told.0, let t = told.1 in omega (arith, t, more))
+told-on len end last old now same more (events.Synced n at ptr held) told = (readable-on len end old now ptr same told.1 told.0, let t = told.1 in omega (arith, t, more))
 told-on len end last old now same more (events.Get n at) told = tt
 told-on len end last old now same more (events.Put n at size fill) told = tt
 told-on len end last old now same more (events.Patch n at from bytes) told = tt
 told-on len end last old now same more (events.Pin n at) told = tt
 told-on len end last old now same more (events.Unpin n at) told = tt
-told-on len end last old now same more (events.Load n at) told = tt
+told-on len end last old now same more (events.Load n at held) told = tt
 told-on len end last old now same more (events.Evict n at) told = tt
 told-on len end last old now same more (events.End n) told = tt
 
@@ -212,16 +212,16 @@ module _ {P D : Type 0} (pools : Ghosts P) (devices : Devices D) (told_len : (p 
       let w = s.answer in
       let next : ℕ = from.outside.next in
       let need : ℕ = need_of w.cells w.dues in
-      let xs : List SyncItem = items_from from.outside.group next w.cells w.dues in
+      let xs : List SyncItem = items_from w.held from.outside.group next w.cells w.dues in
       let now : List ℕ = written_over xs f.now in
       let long : length f.now ≡ len = told_len from.outside.pool f.now f.told ∙ f.size in
       let fits = w.fits in
       let same_size = f.size in
       let inside = f.inside in
       let room : next + need ≤ len = omega (arith, fits, same_size, inside) in
-      let kept = written-front from.outside.group next w.cells w.dues f.now (omega (arith, room, long)) in
+      let kept = written-front w.held from.outside.group next w.cells w.dues f.now (omega (arith, room, long)) in
       let last : to.outside.next ≡ next + need = s.next ∙ w.next_is in
-      let readable = subst (λ (end : ℕ). AllByRecursion (IsReadableBlock len end now) xs) (sym last) (items-readable len from.outside.group next w.cells w.dues f.now long f.aligned f.born w.sized room) in
+      let readable = subst (λ (end : ℕ). AllByRecursion (IsReadableBlock len end now) xs) (sym last) (items-readable len w.held from.outside.group next w.cells w.dues f.now long f.aligned f.born w.sized room) in
       record {
         now = now;
         told = w.told ∙ ap (tells_written xs) f.told;

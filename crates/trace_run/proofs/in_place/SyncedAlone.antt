@@ -7,7 +7,7 @@ use Rattle.blk_ptr.specs.Size.{sector}
 use Rattle.vdev_io.specs.declared.device.CacheDev.{Ghosts as Devices}
 use Rattle.vdev_io.specs.declared.pool.Pool.{Ghosts}
 use Rattle.arc_table.specs.Ended.{Ended}
-use Rattle.arc_table.specs.Geometry.{IsCell, cell_number}
+use Rattle.arc_table.specs.Geometry.{IsCell}
 use Rattle.dbuf_cells.specs.Laws.{is_put_of}
 use Rattle.dbuf_cells.specs.Places.{cell_of}
 use Rattle.dbuf_cells.specs.Turns.{OnHeap}
@@ -40,7 +40,7 @@ use Rattle.trace_run.specs.dbufs.ObjectLines.{OnObject, on_object}
 use Rattle.trace_run.specs.dbufs.ObjectReplies.{ActsAt, ActsFor, RefusesAt, RefusesWhole}
 use Rattle.trace_run.specs.dbufs.Objects.{Brought, Line, Work, loads_of}
 use Rattle.trace_run.specs.one_caller.InTurn.{RunsInTurn}
-use Rattle.trace_run.specs.one_caller.Sequence.{AreInSequence, BetweenLines, DoesAnyLine, DoesObject, DoesOther, DoesOwn, begins_so, outline_behind, shard_found}
+use Rattle.trace_run.specs.one_caller.Sequence.{AreInSequence, BetweenLines, DoesAnyLine, DoesObject, DoesOther, DoesOwn, begins_so, outline_behind}
 use Rattle.trace_run.proofs.deeds.NotedCells.{noted-here}
 use Rattle.trace_run.proofs.one_caller.TellLemmas.{all-map}
 use Rattle.trace_run.proofs.in_place.AloneStands.{IsToldUpTo, StandsFine, lines-fine, readable-on}
@@ -137,7 +137,7 @@ module _ {P D : Type 0} (pools : Ghosts P) (devices : Devices D) (trace : Trace)
     put-line reply work from to does =
         let done : reply ≡ replies.Done =
         is-done (pools.size from.outside.pool) (pools.told from.outside.pool) trace.config.dbuf_bytes (opening_map trace i) (from.cells i) work.brought reply does.answer in
-        let AreHeld : (Oid → Bool) → Type 0 = AreHolders (cell_number trace.config i) (outline_behind trace from.cells i) (shard_found trace.config from.shards 0 work.brought) in
+        let AreHeld : (Oid → Bool) → Type 0 = AreHolders (from.cells i) in
         let acts : ActsAt trace.config 0 AreHeld (record { at = at; event = events.Put m at size fill }) (outline_behind trace from.cells i) work =
         subst (λ (x : Reply). ActsFor trace.config 0 AreHeld (Some (record { at = at; event = events.Put m at size fill })) (outline_behind trace from.cells i) work x) done does.acts in
         let all : List CellEvent = loads_of 0 at work.brought ++ events.Put m at size fill ∷ map (events.Evict 0) acts.evictions in
@@ -154,13 +154,13 @@ module _ {P D : Type 0} (pools : Ghosts P) (devices : Devices D) (trace : Trace)
 -- ---- what can be read is not refused so
 
 note-of : (len end : ℕ) (now : List ℕ) (e : CellEvent) → IsToldUpTo len end now e → IsReadableNote len now e
-note-of len end now (events.Synced n at ptr) told = told.0
+note-of len end now (events.Synced n at ptr held) told = told.0
 note-of len end now (events.Get n at) told = tt
 note-of len end now (events.Put n at size fill) told = tt
 note-of len end now (events.Patch n at from bytes) told = tt
 note-of len end now (events.Pin n at) told = tt
 note-of len end now (events.Unpin n at) told = tt
-note-of len end now (events.Load n at) told = tt
+note-of len end now (events.Load n at held) told = tt
 note-of len end now (events.Evict n at) told = tt
 note-of len end now (events.End n) told = tt
 

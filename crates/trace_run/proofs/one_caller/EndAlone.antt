@@ -113,8 +113,7 @@ module _ (cache : Cache) (p : PartyPlace) (one : cache.config.callers ≡ 1) (nu
         joined = have2.joined;
         knows = ap (λ (x : About). x.openings) r.about ∙ (by cache (λ shard. []) p one number rows openings feeder).knows;
         feeder_stands = r.stands;
-        front = r.front;
-        kept = subst (λ (x : ℕ × List (List ℕ)). SeesEnds g x.1 f2.own.seen r.front x.0 0 g.cells r.drops) (λ i. (entries-are i, (by cache (λ shard. []) p one number rows openings feeder).knows i)) r.kept;
+        kept = subst (λ (x : ℕ × List (List ℕ)). SeesEnds g x.1 f2.own.seen x.0 0 g.cells r.drops) (λ i. (entries-are i, (by cache (λ shard. []) p one number rows openings feeder).knows i)) r.kept;
         idle = λ none.
             let idle = r.idle (by cache (λ shard. []) p one number rows openings feeder).only (none, tt) in (
               idle.none,

@@ -2,20 +2,16 @@
 use Rattle.std.proofs.Common.{◌≡◌, ℕ, ◌+◌, true, List, [], ◌∷◌, ◌++◌, Option, Some, None, refl, sym, ap, ◌∙◌, subst, arith, append-nil}
 use Rattle.std.specs.Prelude.{IfSome, slice_index_or}
 use Rattle.std.specs.List.{AllByRecursion}
-use Rattle.blk_ptr.specs.Hash.{shard_of}
-use Rattle.blk_ptr.specs.declared.key.Key.{Key}
 use Rattle.blk_ptr.specs.declared.ptr.Ptr.{Ptr}
 use Rattle.vdev_io.specs.Calls.{Call, MakesCalls}
 use Rattle.vdev_io.specs.declared.device.CacheDev.{Ghosts as Devices}
 use Rattle.vdev_io.specs.declared.pool.Pool.{Ghosts}
 use Rattle.arc_core.specs.Config.{IsConfig}
 use Rattle.arc_core.specs.PlainShard.{PlainShard}
-use Rattle.arc_core.specs.Replay.{replay}
 use Rattle.arc_core.specs.declared.config.Config.{Config}
 use Rattle.arc_table.specs.Fronts.{front_of}
 use Rattle.arc_table.specs.Geometry.{IsCell, cell_number}
 use Rattle.arc_table.specs.Seen.{HasAll, seen_of}
-use Rattle.arc_table.specs.Telling.{opening_of}
 use Rattle.arc_table.specs.declared.about.About.{About}
 use Rattle.arc_table.specs.declared.view.Line.{Line as Seen}
 use Rattle.dbuf_cells.specs.Places.{cell_of}
@@ -32,7 +28,7 @@ use Rattle.trace_run.specs.DeviceReads.{AsksFor, LineAsks}
 use Rattle.trace_run.specs.Effects.{calls_of, effect_of}
 use Rattle.trace_run.specs.Lines.{is_of_caller}
 use Rattle.trace_run.specs.dbufs.Holders.{AreHolders}
-use Rattle.trace_run.specs.dbufs.ObjectLines.{CameFrom, OnObject, TellsBrought, brought_there, events_of_access, events_of_bringing, on_object}
+use Rattle.trace_run.specs.dbufs.ObjectLines.{CameFrom, OnObject, TellsBrought, brought_there, events_of_bringing, on_object}
 use Rattle.trace_run.specs.dbufs.ObjectReplies.{ActsFor, AnswersObject, BringsAt}
 use Rattle.trace_run.specs.dbufs.Objects.{Brought, Line, Loaded, Nothing, Refused, Work, own_event}
 use Rattle.trace_run.specs.Openings.{opening_map, openings_of}
@@ -125,10 +121,6 @@ module _ {P D E : Type 0} (pools : Ghosts P) (devices : Devices D) (given : Devi
             (x.opening ∙ (ap (λ (os : List (List ℕ)). slice_index_or os i []) openings
             ∙ (opening-at (λ k. opening_numbers g.dbuf_bytes (opening_map trace k)) 0 g.cells i (cell-there g valid on.at) ∙ ap (λ k. opening_numbers g.dbuf_bytes (opening_map trace k)) (let z : 0 + i ≡ i = omega arith in z))))
 
-        -- the shard of a key behind the access of this number
-        abbrev met_by : (n : ℕ) → Key → PlainShard
-        met_by n k = replay (opening_of g) (seen_of g (shard_of g.shards k) a.party ++ brought_there g.shards (shard_of g.shards k) l.work.brought (events_of_access (now_of g (shard_of g.shards k) a.party) n on.tick l.work.brought))
-
         -- what is so by the cell that was found is so by what the lines before did there
         by-cell : (F : ℕ → List Mapping → List CellEvent → Type 0) → F x.cell.value.limit x.cell.value.opening x.cell.value.history → F g.dbuf_bytes (opening_map trace i) (cells i)
         by-cell F f = subst (λ (z : ℕ × List Mapping × List CellEvent). F z.0 z.1 z.2) (λ k. (began.0 k, began.1 k, history k)) f
@@ -139,8 +131,8 @@ module _ {P D E : Type 0} (pools : Ghosts P) (devices : Devices D) (given : Devi
           brought = by-cell (λ limit opening h. BringsAt (pools.size a.outside.pool) on.at (outline_after limit opening h) l.work.brought) x.brought;
           found = found-in a.party l.work.brought x.found;
           range = told;
-          acts = subst (λ (n : ℕ). ActsFor g n (AreHolders (cell_number g i) (outline_after g.dbuf_bytes (opening_map trace i) (cells i)) (met_by n)) (own_event l.op) (outline_after g.dbuf_bytes (opening_map trace i) (cells i)) l.work l.reply) number
-              (by-cell (λ limit opening h. ActsFor g a.party.number (AreHolders (cell_number g i) (outline_after limit opening h) (met_by a.party.number)) (own_event l.op) (outline_after limit opening h) l.work l.reply) x.acts);
+          acts = subst (λ (n : ℕ). ActsFor g n (AreHolders (cells i)) (own_event l.op) (outline_after g.dbuf_bytes (opening_map trace i) (cells i)) l.work l.reply) number
+              (by-cell (λ limit opening h. ActsFor g a.party.number (AreHolders h) (own_event l.op) (outline_after limit opening h) l.work l.reply) x.acts);
           answer = by-cell (λ limit opening h. AnswersObject (pools.size a.outside.pool) (pools.told a.outside.pool) limit opening h l.work.brought l.op l.reply) x.answer;
           made = x.made;
           kinds = x.kinds;

@@ -260,5 +260,5 @@ module _ (cache : Cache) (olds news : List PartyPlace) (c : EndedCrew cache olds
   -- what the cells still kept was given back
   pub crew-kept : AreEndedSo g 0 e.cells c.ended.drops
   crew-kept = ended-so (openings_of trace) z.own.seen g 0 e.cells c.ended.drops
-      (λ k x at. subst (λ (n : ℕ). IsSeenWhole (openings_of trace) z.own.seen n x) (let same : k ≡ 0 + k = omega arith in same) (all-whole k x at)) c.ended.front
-      (subst (λ (x : List (List ℕ) × ℕ × ℕ). SeesEnds g x.0 z.own.seen c.ended.front x.1 0 x.2 c.ended.drops) (λ i. ((ap (λ (a : About). a.openings) (sym c.ended.about) ∙ knows) i, feeder-number i, sym ends.cells i)) c.ended.kept)
+      (λ k x at. subst (λ (n : ℕ). IsSeenWhole (openings_of trace) z.own.seen n x) (let same : k ≡ 0 + k = omega arith in same) (all-whole k x at))
+      (subst (λ (x : List (List ℕ) × ℕ × ℕ). SeesEnds g x.0 z.own.seen x.1 0 x.2 c.ended.drops) (λ i. ((ap (λ (a : About). a.openings) (sym c.ended.about) ∙ knows) i, feeder-number i, sym ends.cells i)) c.ended.kept)

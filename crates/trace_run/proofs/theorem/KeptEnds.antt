@@ -20,7 +20,7 @@ use Rattle.dbuf_state.specs.declared.event.CellEvent.TheVariants.{End}
 use Rattle.dbuf_state.specs.declared.oid.Oid.{Oid}
 use Rattle.dbuf_state.specs.declared.state.Mapping.{Mapping}
 use Rattle.trace_text.specs.declared.trace.Trace.{Trace}
-use Rattle.trace_run.specs.dbufs.CellEnds.{AreCellsOf, AreEndedSo, DropsKept, EndedSo, SeesEnd, SeesEnds, with_more}
+use Rattle.trace_run.specs.dbufs.CellEnds.{AreCellsOf, AreEndedSo, DropsKept, EndedSo, SeesEnd, SeesEnds}
 use Rattle.trace_run.specs.dbufs.Holders.{any_held}
 use Rattle.trace_run.specs.RunWork.{only_ended}
 use Rattle.trace_run.proofs.CellEnds.{opened-uncached}
@@ -68,8 +68,8 @@ module _ (openings : List (List ℕ)) (seen : List (List Line)) where
     pub opening : opening_numbers cell.value.limit cell.value.opening ≡ slice_index_or openings i []
 
   module _ (g : Config) where
-    one-ended : (i : ℕ) (cell : OnHeap) (shards : ℕ → List Event) (drops : List Event) → IsSeenWhole i cell → SeesEnd g openings seen shards g.callers i drops → EndedSo g i cell drops
-    one-ended i cell shards drops whole e = record {
+    one-ended : (i : ℕ) (cell : OnHeap) (drops : List Event) → IsSeenWhole i cell → SeesEnd g openings seen g.callers i drops → EndedSo g i cell drops
+    one-ended i cell drops whole e = record {
       front = h;
       history = entries-read cell.value.history (h ++ End g.callers ∷ []) (whole.entries ∙ (e.last ∙ sym both));
       kept = subst (λ (x : ℕ × List Mapping). DropsKept g i (outline_after x.0 x.1 h) any_held drops) (λ z. (same.0 z, same.1 z)) (some-held g i _ _ drops e.kept);
@@ -85,12 +85,12 @@ module _ (openings : List (List ℕ)) (seen : List (List Line)) where
         same = opening-same e.before.value.limit cell.value.limit e.before.value.opening cell.value.opening (e.opening ∙ sym whole.opening)
 
     -- all of them, from this one on
-    pub ended-so : (i : ℕ) (cells : List OnHeap) (es : List Event) → ((k : ℕ) (c : OnHeap) → get_elem? cells k ≡ some c → IsSeenWhole (i + k) c) → (shards : ℕ → List Event) → SeesEnds g openings seen shards g.callers i (length cells) es → AreEndedSo g i cells es
-    ended-so i [] es each shards is = is
-    ended-so i (c ∷ cells) es each shards ends = (
+    pub ended-so : (i : ℕ) (cells : List OnHeap) (es : List Event) → ((k : ℕ) (c : OnHeap) → get_elem? cells k ≡ some c → IsSeenWhole (i + k) c) → SeesEnds g openings seen g.callers i (length cells) es → AreEndedSo g i cells es
+    ended-so i [] es each is = is
+    ended-so i (c ∷ cells) es each ends = (
       ends.0,
       ends.1,
       ends.2,
-      one-ended i c shards ends.0 (subst (λ (n : ℕ). IsSeenWhole n c) (let z : i + 0 ≡ i = omega arith in z) (each 0 c refl)) ends.3,
-      ended-so (suc i) cells ends.1 (λ k x at. subst (λ (n : ℕ). IsSeenWhole n x) (let z : i + suc k ≡ suc i + k = omega arith in z) (each (suc k) x at)) (with_more g shards ends.0) ends.4,
+      one-ended i c ends.0 (subst (λ (n : ℕ). IsSeenWhole n c) (let z : i + 0 ≡ i = omega arith in z) (each 0 c refl)) ends.3,
+      ended-so (suc i) cells ends.1 (λ k x at. subst (λ (n : ℕ). IsSeenWhole n x) (let z : i + suc k ≡ suc i + k = omega arith in z) (each (suc k) x at)) ends.4,
     )

@@ -319,10 +319,6 @@ module _ (cache : Cache) (valid : IsConfig cache.config) (restored : List Restor
   run-shards before own rest i l at = history-is i l at
       ∙ ap (λ (es : List Event). es ++ events_there g i c.ended.drops) (gave.drops i ∙ ap (λ (es : List Event). es ++ drops_from g i 0 crew.kept.items) (gave.same before own rest i))
 
-  -- so the shards were when the cells were ended
-  pub run-fronts : (before : ℕ → List Seen) → IsLevel g before crew.feeder → AllByRecursion (IsLevel g before) crew.parties.items → (i : ℕ) → h.ended.ended.front i ≡ events_in (before i) ++ drops_from g i 0 crew.kept.items
-  run-fronts before own rest i = c.ended.fronts gave.lines levels.1 levels.0 i ∙ (gave.drops i ∙ ap (λ (es : List Event). es ++ drops_from g i 0 crew.kept.items) (gave.same before own rest i))
-
   -- what the feeder had seen between the groups begins it
   pub since : (i : ℕ) (l : ShardLog) → get_elem? closed.shards i ≡ some l → StartsWith l.history (seen_of g i crew.feeder)
   since i l at =
@@ -382,8 +378,8 @@ module _ (cache : Cache) (valid : IsConfig cache.config) (restored : List Restor
         (acts_of_syncs g blocks work) (noted_of_syncs work) (subst (HasToldOthers g (acts_of_syncs g blocks work) (noted_of_syncs work)) (sym same-parties.1) gave.fed.told) feeder-noted
 
     -- what they kept was given back as they were ended, one after the other
-    pub run-gives : SeesEnds g (openings_of trace) h.ended.last.own.seen h.ended.ended.front g.callers 0 g.cells h.ended.ended.drops
-    run-gives = subst (λ (x : List (List ℕ) × ℕ). SeesEnds g x.0 c.last.own.seen c.ended.front x.1 0 g.cells c.ended.drops)
+    pub run-gives : SeesEnds g (openings_of trace) h.ended.last.own.seen g.callers 0 g.cells h.ended.ended.drops
+    run-gives = subst (λ (x : List (List ℕ) × ℕ). SeesEnds g x.0 c.last.own.seen x.1 0 g.cells c.ended.drops)
         (λ z. ((ap (λ (p : PartyPlace). p.own.about.openings) same-parties.1 ∙ (gave.fed.knows ∙ knows)) z, (ap (λ (p : PartyPlace). p.number) same-parties.1 ∙ same-feeder-number) z)) c.ended.kept
 
     pub run-last : (entries : ℕ → List Seen) → SeesEntries g entries crew.feeder → AllByRecursion (SeesEntries g entries) crew.parties.items → (i : ℕ) → IsCell g i → front_of i h.ended.last.own.seen ≡ entries i ++ end_entry g.callers i

@@ -17,7 +17,7 @@ use Rattle.arc_table.specs.Geometry.{IsCell}
 use Rattle.arc_table.specs.declared.view.Line.{Line as Seen}
 use Rattle.dbuf_cells.specs.Turns.{OnHeap, dbuf_meanings}
 use Rattle.dbuf_state.specs.Numbers.{opening_numbers}
-use Rattle.dbuf_state.specs.Outline.{Outline, outline_after}
+use Rattle.dbuf_state.specs.Outline.{outline_after}
 use Rattle.dbuf_state.specs.declared.event.CellEvent.{CellEvent}
 use Rattle.dbuf_state.specs.declared.event.CellEvent.TheVariants.{End}
 use Rattle.dbuf_state.specs.declared.state.Mapping.{Mapping}
@@ -26,7 +26,8 @@ use Rattle.trace_text.specs.declared.reply.Reply.{Reply}
 use Rattle.trace_text.specs.declared.trace.Trace.{Trace}
 use Rattle.trace_run.specs.declared.groups.Crew.{Crew}
 use Rattle.trace_run.specs.declared.kept_blocks.KeptBlock.{KeptBlock}
-use Rattle.trace_run.specs.dbufs.CellEnds.{DropsKept, SeesEnd, SeesEnds, end_entry, holders_by, with_more}
+use Rattle.trace_run.specs.dbufs.CellEnds.{DropsKept, SeesEnd, SeesEnds, end_entry}
+use Rattle.trace_run.specs.dbufs.Holders.{AreHolders}
 use Rattle.trace_run.specs.Deeds.{events_there}
 use Rattle.trace_run.specs.KeptBlocks.{held_in_shard, read_of}
 use Rattle.trace_run.specs.KeptReads.{KeptRead}
@@ -44,7 +45,7 @@ use Rattle.trace_run.proofs.BeginLemmas.{counted-off}
 use Rattle.trace_run.proofs.CellLemmas.{get-of, opening-at, opening-same}
 use Rattle.trace_run.proofs.deeds.ClosedDeeds.{entries-read}
 use Rattle.trace_run.proofs.theorem.AnsweredCells.{entries-two}
-use Rattle.trace_run.proofs.theorem.RunEnds.{run-entries, run-fronts, run-gives, run-last, run-shards}
+use Rattle.trace_run.proofs.theorem.RunEnds.{run-entries, run-gives, run-last, run-shards}
 
 -- one caller drops what it keeps
 one-drops : (g : Config) (shard : ℕ) (kept : List KeptRead) (all : List (List KeptBlock)) → length all ≡ 1 → AllByRecursion (λ reads. map read_of reads ≡ kept) all → drops_from g shard 0 all ≡ events_of_drops 0 (held_in_shard g shard kept)
@@ -69,28 +70,18 @@ module _ (trace : Trace) (seen : List (List Seen)) (cells : ℕ → List CellEve
   abbrev n : ℕ
   n = trace.config.callers
 
-  -- all that was kept of a cell of this outline was given back
-  abbrev GivesKept : (shards : ℕ → List Event) → (i : ℕ) → List Event → Outline → Type 0
-  GivesKept shards i drops o = DropsKept trace.config i o (holders_by trace.config shards i o) drops
-
-  gives-one : (i : ℕ) → IsCell trace.config i → (shards : ℕ → List Event) (drops : List Event) → SeesEnd trace.config (openings_of trace) seen shards n i drops → GivesKept shards i drops (outline_behind trace cells i)
-  gives-one i range shards drops e =
+  gives-one : (i : ℕ) → IsCell trace.config i → (drops : List Event) → SeesEnd trace.config (openings_of trace) seen n i drops → DropsKept trace.config i (outline_behind trace cells i) (AreHolders (cells i)) drops
+  gives-one i range drops e =
       let h : List CellEvent = e.before.value.history in
       let both : h ++ End n ∷ [] ≡ cells i ++ End n ∷ [] = entries-read (h ++ End n ∷ []) (cells i ++ End n ∷ []) (entries-two h (End n ∷ []) ∙ (sym e.last ∙ (last i range ∙ sym (entries-two (cells i) (End n ∷ []))))) in
       let history : h ≡ cells i = snoc-same (End n) h (cells i) both in
       let began = opening-same e.before.value.limit trace.config.dbuf_bytes e.before.value.opening (opening_map trace i)
       (e.opening ∙ (opening-at (λ k. opening_numbers trace.config.dbuf_bytes (opening_map trace k)) 0 trace.config.cells i range ∙ ap (λ k. opening_numbers trace.config.dbuf_bytes (opening_map trace k)) (let z : 0 + i ≡ i = omega arith in z))) in
-      subst (λ (x : ℕ × List Mapping × List CellEvent). GivesKept shards i drops (outline_after x.0 x.1 x.2)) (λ z. (began.0 z, began.1 z, history z)) e.kept
+      subst (λ (x : ℕ × List Mapping × List CellEvent). DropsKept trace.config i (outline_after x.0 x.1 x.2) (AreHolders x.2) drops) (λ z. (began.0 z, began.1 z, history z)) e.kept
 
-  gives-from : (i count : ℕ) → i + count ≤ trace.config.cells → (shards : ℕ → List Event) (es : List Event) → SeesEnds trace.config (openings_of trace) seen shards n i count es → GivesAllKept trace.config (outline_behind trace cells) shards i count es
-  gives-from i zero inside shards es ends = ends
-  gives-from i (suc count) inside shards es ends = (
-    ends.0,
-    ends.1,
-    ends.2,
-    gives-one i (omega (arith, inside)) shards ends.0 ends.3,
-    gives-from (suc i) count (omega (arith, inside)) (with_more trace.config shards ends.0) ends.1 ends.4,
-  )
+  gives-from : (i count : ℕ) → i + count ≤ trace.config.cells → (es : List Event) → SeesEnds trace.config (openings_of trace) seen n i count es → GivesAllKept trace cells i count es
+  gives-from i zero inside es ends = ends
+  gives-from i (suc count) inside es ends = (ends.0, ends.1, ends.2, gives-one i (omega (arith, inside)) ends.0 ends.3, gives-from (suc i) count (omega (arith, inside)) ends.1 ends.4)
 
 module _ {P D : Type 0} (cache : Cache) (valid : IsConfig cache.config) (restored : List Restored) (len : ℕ) (image : Option (List ℕ)) (place : ℕ) (blocks : List Ptr) (os more : List Op) (rs : List Reply) (work : RunWork) (crew : Crew OnHeap)
     (come : HaveCome cache restored len image place blocks os rs work crew) (closed : Ended OnHeap) (h : HaveClosed dbuf_meanings cache crew closed)
@@ -114,18 +105,13 @@ module _ {P D : Type 0} (cache : Cache) (valid : IsConfig cache.config) (restore
       (run-entries cache valid restored len image place blocks os more rs work crew come closed h trace config knows (λ k. lines_of (at.cells k)) stands.entries.0 stands.entries.1 i cell (get-of closed.cells i cell there)
       ∙ (ap (λ (c : Config). lines_of (at.cells i) ++ end_entry c.callers i) config ∙ sym (entries-two (at.cells i) (End trace.config.callers ∷ []))))
 
-  -- how the shards were when the cells were ended
-  fronts-are : (shard : ℕ) → h.ended.ended.front shard ≡ at.shards shard ++ events_of_drops 0 (held_in_shard trace.config shard at.kept)
-  fronts-are shard = run-fronts cache valid restored len image place blocks os more rs work crew come closed h stands.lines stands.level.0 stands.level.1 shard
-      ∙ ((λ k. stands.events shard k ++ one-drops g shard at.kept crew.kept.items (come.kepts ∙ one) stands.kept k) ∙ ap (λ (c : Config). at.shards shard ++ events_of_drops 0 (held_in_shard c shard at.kept)) config)
-
-  gives-are : GivesAllKept trace.config (outline_behind trace at.cells) (λ shard. at.shards shard ++ events_of_drops 0 (held_in_shard trace.config shard at.kept)) 0 trace.config.cells h.ended.ended.drops
+  gives-are : GivesAllKept trace at.cells 0 trace.config.cells h.ended.ended.drops
   gives-are =
       let last : (i : ℕ) → IsCell trace.config i → front_of i h.ended.last.own.seen ≡ lines_of (at.cells i) ++ end_entry trace.config.callers i = λ i range.
       run-last cache valid restored len image place blocks os more rs work crew come closed h trace config knows (λ k. lines_of (at.cells k)) stands.entries.0 stands.entries.1 i (subst (λ (c : Config). i < c.cells) (sym config) range)
       ∙ ap (λ (c : Config). lines_of (at.cells i) ++ end_entry c.callers i) config in
-      gives-from trace h.ended.last.own.seen at.cells last 0 trace.config.cells (omega arith) _ h.ended.ended.drops
-      (subst (λ (x : Config × (ℕ → List Event)). SeesEnds x.0 (openings_of trace) h.ended.last.own.seen x.1 x.0.callers 0 x.0.cells h.ended.ended.drops) (λ z. (config z, λ shard. fronts-are shard z))
+      gives-from trace h.ended.last.own.seen at.cells last 0 trace.config.cells (omega arith) h.ended.ended.drops
+      (subst (λ (c : Config). SeesEnds c (openings_of trace) h.ended.last.own.seen c.callers 0 c.cells h.ended.ended.drops) config
       (run-gives cache valid restored len image place blocks os more rs work crew come closed h trace config knows))
 
   pub closes-there : ClosesThere trace at h.ended.ended.drops closed.cells (histories_of closed)
