@@ -40,18 +40,20 @@ use Rattle.dbuf_state.proofs.HandLemmas.{claims-stay, holds-stay, rest-stays, cl
 use Rattle.dbuf_state.proofs.IndexLemmas.{and-both, bool_cases}
 use Rattle.dbuf_state.proofs.StepLemmas.{get-follows, pin-follows}
 use Rattle.dbuf_cells.specs.Accessing.{Acts, EndsInside, Gets, Holds, Refuses, no_bytes, no_room}
-use Rattle.dbuf_cells.specs.Bringing.{FailsToLoad, no_memory, refused}
-use Rattle.dbuf_cells.specs.InHand.{Finishes, Gives, HasGiven, InHand, IsRoomier, MayEvict, MayGive, AreClaimedAlike, ClaimsAre}
+use Rattle.dbuf_cells.specs.Bringing.{FailsToLoad, held_behind, no_memory, refused}
+use Rattle.dbuf_cells.specs.InHand.{Finishes, Gives, HasGiven, HoldsStay, InHand, IsRoomier, MayEvict, MayGive, AreClaimedAlike, ClaimsAre}
 use Rattle.dbuf_cells.specs.Kept.{bytes_of, is_held, key_of}
 use Rattle.dbuf_cells.specs.Patching.{IsSizedIn}
 use Rattle.dbuf_cells.specs.Loading.{EndsWith, HasBrought, HasOperated, Notes, Tests, mapped_in}
-use Rattle.dbuf_cells.specs.Turns.{OnHeap, Operates, PartyPlace, KeepsClaims}
+use Rattle.dbuf_cells.specs.Turns.{OnHeap, Operates, PartyPlace, KeepsClaims, held_at, held_in}
 use Rattle.dbuf_cells.specs.declared.kept.Kept.{Kept}
 use Rattle.dbuf_cells.proofs.Bringings.{in-outline}
 use Rattle.dbuf_cells.proofs.CellSteps.{length-change, length-touched}
+use Rattle.dbuf_cells.proofs.Holders.{operates-as, stays-all, stays-noted, stays-roomy, stays-same, stays-then}
 use Rattle.dbuf_cells.proofs.Operations.{hand-more, hand-room, operates, plain-test, rest-of, room-settled}
 use Rattle.dbuf_state.specs.Numbers.{claims_in, mapping_numbers}
 use Rattle.dbuf_cells.proofs.Claims.{claims-through}
+use Rattle.dbuf_state.proofs.HeldLemmas.{held-same}
 
 -- ---- a block whose bytes are there
 
@@ -76,7 +78,7 @@ module _ (cache : Cache) (i : ℕ) (e : CellEvent) (now c : CellLog Kept) (q : P
       subst (λ (x : CellLog Kept). InHand cache i p before Must (news ++ e ∷ []) es x q) (sym u.noted_is)
       (subst (λ (ev : Evicting). InHand cache i p before ev (news ++ e ∷ []) es (noted e (record u.roomy { dbufs = u.dbufs })) q) (u.must evicting)
       (hand-more cache i p before evicting news es u.roomy q roomy e [] u.dbufs (u.legal evicting s) (u.base evicting) u.follows (u.who ∙ who) (u.rest roomy.cell.rest) (λ k other. u.claims k)
-      (subst (λ (l : List Ptr). AreHolds l (list_at i q.own.listed)) (sym u.holds) roomy.holds)))
+      (subst (λ (l : List Ptr). AreHolds l (list_at i q.own.listed)) (sym u.holds) roomy.holds) u.tells))
 
   pub noted-evicts : MayGive cache i now q → MayEvict cache i c q
   noted-evicts m = record { from = m.from; before = m.before; evicting = Must; news = m.news ++ e ∷ []; es = m.es; hand = noted-hand m.from m.before m.evicting m.news m.es m.settled m.hand; may = refl }
@@ -86,12 +88,16 @@ module _ (cache : Cache) (i : ℕ) (e : CellEvent) (now c : CellLog Kept) (q : P
       let hand = noted-hand p before evicting news es settled h in
       let f = finishes p before Must (news ++ e ∷ []) es refl hand in
       record {
-        operates = operates cache i p before Must (news ++ e ∷ []) es c q hand r f;
+        operates = operates cache i p before Must (news ++ e ∷ []) es c q hand (held_at now.dbufs) (λ b on. (stay b on).1) r f;
         party = f.given.party;
         held = f.given.held;
         number = f.given.number;
         others = f.given.others;
       }
+    where
+      stay : HoldsStay now.dbufs c.dbufs
+      stay = subst (λ (x : CellLog Kept). HoldsStay now.dbufs x.dbufs) (sym u.noted_is)
+          (stays-noted e (record u.roomy { dbufs = u.dbufs }) now.dbufs (stays-then now.dbufs u.roomy.dbufs u.dbufs (stays-roomy now u.roomy u.made) u.stay))
 
 -- with room for the evictions behind it
 pub noted-room : (n : ℕ) (e : CellEvent) (old c : CellLog Kept) → Notes n e old c → length c.dbufs ≤ c.event_room
@@ -177,7 +183,7 @@ module _ {P D : Type 0} (pools : PoolGhosts P) (devices : DeviceGhosts D) (cache
     number-now : q.number ≡ p.number
     number-now = b.hand.party.number ∙ b.number
 
-    ended : (own : ℕ → CellEvent) → EndsWith cache i (own q.number) result.value q r → HasOperated cache i b.back b.mid (b.loads ++ own q.number ∷ []) b.hands r
+    ended : (own : ℕ → CellEvent) → EndsWith cache i (own q.number) result.value q r → HasOperated cache i b.back b.mid (held_at result.value.dbufs) (b.loads ++ own q.number ∷ []) b.hands r
     ended own ends = ends b.back b.mid b.evicting b.loads b.hands b.settled b.hand
 
     pub acts : (own : ℕ → CellEvent) (Fits : OnHeap → Type 0) → EndsWith cache i (own q.number) result.value q r → Fits b.mid → Acts pools devices cache.config i at tick before now own Fits cell p r
@@ -188,7 +194,8 @@ module _ {P D : Type 0} (pools : PoolGhosts P) (devices : DeviceGhosts D) (cache
       hands = b.hands;
       brings = b.brings;
       fits = fits;
-      operates = subst (λ (n : ℕ). Operates cache.config i b.mid (b.loads ++ own n ∷ []) b.hands b.back r) number-now (ended own ends).operates;
+      operates = operates-as (held_at result.value.dbufs) (held_behind at b.loads b.hands (held_in b.mid)) b.holds
+          (subst (λ (n : ℕ). Operates cache.config i b.mid (held_at result.value.dbufs) (b.loads ++ own n ∷ []) b.hands b.back r) number-now (ended own ends).operates);
     }
 
     pub acts-party : (own : ℕ → CellEvent) → EndsWith cache i (own q.number) result.value q r → IsPartyOf cache r × (r.held ≡ [])
@@ -268,6 +275,8 @@ module _ (n : ℕ) (at : Oid) (old roomy : CellLog Kept) (log : IsRoomier old ro
     rest = λ r. r;
     claims = λ k. refl;
     holds = refl;
+    stay = stays-all roomy.dbufs;
+    tells = λ b. refl;
   }
 
   pub pin-notes : (pinned now : CellLog Kept) → 1 + length old.dbufs ≤ roomy.event_room → pinned ≡ record roomy { dbufs = with_dbuf at (pinned_by n) roomy.dbufs } → now ≡ noted (Pin n at) pinned → Notes n (Pin n at) old now
@@ -286,6 +295,8 @@ module _ (n : ℕ) (at : Oid) (old roomy : CellLog Kept) (log : IsRoomier old ro
     rest = λ r. rest-stays at (pinned_by n) roomy.dbufs (λ d found. rest-of at roomy.dbufs d r found) r;
     claims = λ k. claims-stay at (pinned_by n) k roomy.dbufs (λ d found. refl);
     holds = holds-stay key_of bytes_of is_held at (pinned_by n) roomy.dbufs (λ d. refl);
+    stay = stays-same at (pinned_by n) (λ d. refl) (λ d. refl) (λ d. refl) roomy.dbufs;
+    tells = held-same is_held at (pinned_by n) (λ d. refl) (λ d. refl) roomy.dbufs;
   }
 
   -- what is shown is an answer, with the size of what is mapped

@@ -42,7 +42,7 @@ use Rattle.dbuf_state.specs.declared.window.Window.{Window}
 use Rattle.dbuf_state.proofs.FitLemmas.{from-has}
 use Rattle.dbuf_state.proofs.HandLemmas.{plain-dbuf-is}
 use Rattle.dbuf_state.proofs.OutlineLemmas.{cell-is-in-outline}
-use Rattle.dbuf_cells.specs.Bringing.{Claims, DropsRead, Reads, handed, here, loaded, no_memory, refused, IsUnmarked}
+use Rattle.dbuf_cells.specs.Bringing.{Claims, DropsRead, Reads, handed, here, loaded, no_memory, refused, IsUnmarked, gives_hold}
 use Rattle.dbuf_cells.specs.InHand.{AsTaken, ClaimsAre, Gives, HasGiven}
 use Rattle.dbuf_cells.specs.Loading.{ClaimsBesides, EndsKept, EndsLoad, EndsUnkept, HasBrought, HasFailed, IsBrought, IsBroughtBy, IsLoaded, IsReadOf, IsToLoad, KeepsOthers, mapped_in, other_claims}
 use Rattle.dbuf_cells.specs.Turns.{KeepsClaims, OnHeap, PartyPlace, dbuf_meanings, outline_in}
@@ -157,6 +157,7 @@ module _ {P D : Type 0} (pools : PoolGhosts P) (devices : DeviceGhosts D) (cache
     number = refl;
     held = free;
     claimed = claimed;
+    holds = λ b. refl;
     others = λ j far. refl;
     cached = cached;
     mapped = refl;
@@ -221,14 +222,15 @@ module _ {P D : Type 0} (pools : PoolGhosts P) (devices : DeviceGhosts D) (cache
             back = back;
             mid = e.mid;
             evicting = May;
-            loads = Load back.number at ∷ [];
+            loads = Load back.number at (gives_hold read) ∷ [];
             hands = handed back.number (cell_number cache.config i) read;
-            brings = loaded ptr read (reads (Ok read) a) e.pointer (ap (λ (n : ℕ). Load n at ∷ []) number) (ap (λ (n : ℕ). handed n (cell_number cache.config i) read) number);
+            brings = loaded ptr read (reads (Ok read) a) e.pointer (ap (λ (n : ℕ). Load n at (gives_hold read) ∷ []) number) (ap (λ (n : ℕ). handed n (cell_number cache.config i) read) number);
             hand = e.kept.hand;
             settled = refl;
             number = number;
             held = back-free (Ok read) a;
             claimed = kept-claimed read a result r e;
+            holds = e.held;
             others = back-else (Ok read) a;
             cached = loaded-cached at ptr result.value.dbufs e.kept.there;
             mapped = mapped-clean at ptr result.value.dbufs (loaded-clean at ptr result.value.dbufs e.kept.there) ∙ sym to.pointer;

@@ -9,6 +9,7 @@ use Rattle.std.proofs.lemmas.List.Sums.{count_by-le-length, sum_by-cons}
 use mathlib.Core.Option.{some-injective, some-ne-none}
 use Rattle.dbuf_state.specs.CellLog.{CellLog, noted, touched}
 use Rattle.dbuf_state.specs.Dbufs.{dbuf_at, dbuf_is, dbuf_oid, is_cached, is_clean, is_clean_in, standing_of, used_at, with_dbuf, without_kept}
+use Rattle.dbuf_state.specs.Held.{TellsHolds, held_after}
 use Rattle.dbuf_state.specs.History.{Leads}
 use Rattle.dbuf_state.specs.InHand.{are_at_rest}
 use Rattle.dbuf_state.specs.Numbers.{claim_in, claims_in, event_numbers, number_of}
@@ -27,12 +28,15 @@ use Rattle.dbuf_state.specs.declared.state.DbState.{DbState}
 use Rattle.dbuf_state.specs.declared.state.DbState.TheVariants as state
 use Rattle.dbuf_state.specs.declared.state.Mapping.{Mapping}
 use Rattle.dbuf_state.proofs.HandLemmas.{claims-stay, claims-stay-by-note, evictable-is-cached, plain-standings-are, rest-stays, rest-stays-by-note}
+use Rattle.dbuf_state.proofs.HeldLemmas.{held-cleared, tells-more}
 use Rattle.dbuf_state.proofs.IndexLemmas.{and-both, bool_cases}
 use Rattle.dbuf_state.proofs.NumberLemmas.{events-numbered}
 use Rattle.dbuf_state.proofs.OutlineLemmas.{block-cached}
 use Rattle.dbuf_state.proofs.StepLemmas.{evict-follows, goes-on}
 use Rattle.arc_table.specs.Giving.{AreEntriesOf}
 use Rattle.dbuf_cells.specs.InHand.{AreClaimedAlike, HasDone, kept_count}
+use Rattle.dbuf_cells.specs.Kept.{is_held}
+use Rattle.dbuf_cells.specs.Turns.{held_at}
 use Rattle.dbuf_cells.specs.declared.kept.Kept.{Kept}
 
 -- ---- histories
@@ -62,9 +66,11 @@ entries-own n (x ∷ xs) own (suc j) e at = entries-own n xs own.1 j e at
 
 -- ---- one thing more
 
-pub done-none : (n : ℕ) (c : CellLog Kept) (s : IsSound c) → HasDone n c s.evicting [] c
-done-none n c s = record {
+pub done-none : (n : ℕ) (c : CellLog Kept) (s : IsSound c) → TellsHolds is_held c → HasDone n c s.evicting [] c
+done-none n c s told = record {
   sound = s;
+  told = told;
+  tells = told;
   limit = refl;
   opening = refl;
   history = sym (append-nil c.history);
@@ -78,9 +84,11 @@ done-none n c s = record {
 module _ (n : ℕ) (before now : CellLog Kept) (evicting : Evicting) (news : List CellEvent) (h : HasDone n before evicting news now) where
   -- a change of its dbufs with the event that tells of it
   pub done-more : (e : CellEvent) (base : List ℕ) (ds : List (Dbuf Kept)) → IsLegal (plain_cell evicting now) e → IsBase base (plain_cell evicting now) e → Follows base now e ds → number_of e ≡ n
-      → IsTrue (are_at_rest ds) → ((k : ℕ) → k ≢ n → claims_in k ds ≡ claims_in k now.dbufs) → HasDone n before (evicting_after evicting e) (news ++ e ∷ []) (noted e (record now { dbufs = ds }))
-  done-more e base ds legal of follows who rest claims = record {
+      → IsTrue (are_at_rest ds) → ((k : ℕ) → k ≢ n → claims_in k ds ≡ claims_in k now.dbufs) → ((b : Oid) → held_at ds b ≡ held_after b (held_at now.dbufs b) e) → HasDone n before (evicting_after evicting e) (news ++ e ∷ []) (noted e (record now { dbufs = ds }))
+  done-more e base ds legal of follows who rest claims held = record {
     sound = h.sound;
+    told = h.told;
+    tells = tells-more is_held now e ds h.tells held;
     limit = h.limit;
     opening = h.opening;
     history = ap (λ (l : List CellEvent). l ++ e ∷ []) h.history ∙ append_assoc before.history news (e ∷ []);
@@ -94,9 +102,11 @@ module _ (n : ℕ) (before now : CellLog Kept) (evicting : Evicting) (news : Lis
 
   -- a change of its dbufs that shows in no plain cell
   pub done-alike : (ds : List (Dbuf Kept)) → plain_cell evicting (record now { dbufs = ds }) ≡ plain_cell evicting now → IsTrue (are_at_rest ds) → ((k : ℕ) → k ≢ n → claims_in k ds ≡ claims_in k now.dbufs)
-      → HasDone n before evicting news (record now { dbufs = ds })
-  done-alike ds alike rest claims = record {
+      → ((b : Oid) → held_at ds b ≡ held_at now.dbufs b) → HasDone n before evicting news (record now { dbufs = ds })
+  done-alike ds alike rest claims held = record {
     sound = h.sound;
+    told = h.told;
+    tells = λ b. held b ∙ h.tells b;
     limit = h.limit;
     opening = h.opening;
     history = h.history;
@@ -111,6 +121,8 @@ module _ (n : ℕ) (before now : CellLog Kept) (evicting : Evicting) (news : Lis
   pub done-roomier : (a b : ℕ) → HasDone n before evicting news (record now { dbuf_room = a; event_room = b })
   done-roomier a b = record {
     sound = h.sound;
+    told = h.told;
+    tells = h.tells;
     limit = h.limit;
     opening = h.opening;
     history = h.history;
@@ -183,6 +195,7 @@ module _ (n : ℕ) (before now : CellLog Kept) (evicting : Evicting) (news : Lis
   done-evict = done-more n before now evicting news h (Evict n at) [] emptied evict-legal tt (evict-follows now n at evicts-cached) refl
       (rest-stays at (without_kept state.Uncached) now.dbufs (λ d found. refl) h.rest)
       (λ k other. claims-stay at (without_kept state.Uncached) k now.dbufs (λ d found. unclaimed k d.at d.content d.state state.Uncached (test-of (is_clean_in is_cached) at now.dbufs d evicts-cached found) refl))
+      (held-cleared is_held at (without_kept state.Uncached) (λ d. refl) (λ d. refl) now.dbufs)
 
 -- it is no claim that goes
 pub evict-claims : (at : Oid) (old now : CellLog Kept) (n : ℕ) → now ≡ noted (Evict n at) (record old { dbufs = with_dbuf at (without_kept state.Uncached) old.dbufs }) → dbuf_is (is_clean_in is_cached) at old.dbufs ≡ true → AreClaimedAlike old.dbufs now.dbufs

@@ -3,6 +3,7 @@ use Rattle.std.proofs.Common.{◌≡◌, ℕ, IsTrue, List, [], refl, sym, ap, �
 use Rattle.blk_ptr.specs.declared.ptr.Ptr.{Ptr}
 use Rattle.turn_table.specs.Board.{IsAmong}
 use Rattle.arc_table.specs.Cache.{Cache}
+use Rattle.arc_table.specs.Geometry.{cell_number}
 use Rattle.arc_table.specs.Fronts.{list_at}
 use Rattle.arc_table.specs.Looking.{HasNoLook}
 use Rattle.arc_table.specs.declared.read.Read.{Read}
@@ -14,9 +15,9 @@ use Rattle.dbuf_state.specs.Oids.{is_distinct}
 use Rattle.dbuf_state.specs.declared.dbuf.Dbuf.{Dbuf}
 use Rattle.dbuf_state.specs.declared.fault.DbufFault.TheVariants as fault
 use Rattle.dbuf_state.specs.declared.oid.Oid.{Oid}
-use Rattle.dbuf_cells.specs.Bringing.{DropsRead}
+use Rattle.dbuf_cells.specs.Bringing.{DropsRead, handed, is_some_made}
 use Rattle.dbuf_cells.specs.InHand.{AsTaken, ClaimsAre, Gives, HasGiven, MayGive}
-use Rattle.dbuf_cells.specs.Loading.{AreUnclaimed, EndsKept, EndsUnkept, HasUnread, IsBroughtBy, IsReadOf, Keeps, SomeTaken, other_claims}
+use Rattle.dbuf_cells.specs.Loading.{AreHeldBut, AreUnclaimed, EndsKept, EndsUnkept, HasUnread, IsBroughtBy, IsReadOf, Keeps, SomeTaken, other_claims}
 use Rattle.dbuf_cells.specs.Turns.{OnHeap, PartyPlace}
 use Rattle.dbuf_cells.specs.declared.kept.Kept.{Kept}
 use Rattle.dbuf_cells.proofs.Bringings.{brought-clean, drops-claims, drops-stays, in-outline, mapped-clean, read-still}
@@ -43,12 +44,14 @@ module _ (cache : Cache) (i : ℕ) (at : Oid) (ptr : Ptr) (read : Read) (p : Par
   unclaimed-mid : (ds : List (Dbuf Kept)) → AreUnclaimed at old.dbufs ds → AreUnclaimed at mid.value.dbufs ds
   unclaimed-mid ds lost n = lost n ∙ ap (λ (x : CellLog Kept). other_claims at (claims_in n x.dbufs)) same
 
-  pub ends-kept : (cell : OnHeap) (r : PartyPlace) → Keeps cache i at ptr read old cell.value q r → AreUnclaimed at old.dbufs cell.value.dbufs → EndsKept cache i at ptr read p cell r
-  ends-kept cell r keeps lost = record {
+  pub ends-kept : (cell : OnHeap) (r : PartyPlace) → Keeps cache i at ptr read old cell.value q r → AreUnclaimed at old.dbufs cell.value.dbufs → AreHeldBut at (is_some_made (handed q.number (cell_number cache.config i) read)) old.dbufs cell.value.dbufs → EndsKept cache i at ptr read p cell r
+  ends-kept cell r keeps lost held = record {
     mid = mid;
     pointer = in-outline mid at ∙ mapped-clean at ptr mid.value.dbufs (brought-clean q.number at ptr mid.value.dbufs brought);
     brought = subst (λ (n : ℕ). IsBroughtBy n at ptr mid.value.dbufs) t.hand.party.number brought;
     kept = keeps p mid taken-old;
+    held = subst (λ (n : ℕ). AreHeldBut at (is_some_made (handed n (cell_number cache.config i) read)) mid.value.dbufs cell.value.dbufs) t.hand.party.number
+        (subst (λ (x : CellLog Kept). AreHeldBut at (is_some_made (handed q.number (cell_number cache.config i) read)) x.dbufs cell.value.dbufs) same held);
     claimed = subst (λ (n : ℕ). ClaimsAre i n mid.value p) (t.hand.party.number ∙ sym (keeps p mid taken-old).hand.party.number) claimed;
     unclaimed = unclaimed-mid cell.value.dbufs lost;
   }

@@ -35,10 +35,12 @@ use Rattle.dbuf_cells.specs.Emptying.{AreLower, IsEnding, cached_in}
 use Rattle.dbuf_cells.specs.Ending.{DropsEach, EndsCell, EndsFrom, lower_oid}
 use Rattle.dbuf_cells.specs.InHand.{AsTaken, GivesBack, HasGiven, InHand, IsRoomier, MayGive}
 use Rattle.dbuf_cells.specs.Kept.{bytes_of, is_held, key_of}
-use Rattle.dbuf_cells.specs.Turns.{CellTurn, DropsAtMost, OnHeap, PartyPlace}
+use Rattle.dbuf_cells.specs.Turns.{CellTurn, OnHeap, PartyPlace, drops_if, held_in, held_at}
 use Rattle.dbuf_cells.specs.declared.kept.Kept.{Kept}
 use Rattle.dbuf_cells.proofs.CellSteps.{all-more, done-more, done-none, done-roomier, found-oid, none-there, test-of}
 use Rattle.dbuf_cells.proofs.Evictions.{given-back, has-of, is-dbuf}
+use Rattle.dbuf_cells.proofs.Holders.{held-as, stays-all, stays-out, stays-then}
+use Rattle.dbuf_state.proofs.HeldLemmas.{held-map}
 
 -- ---- which dbufs have the bytes of a clean block
 
@@ -121,10 +123,10 @@ lower-more : (gone later : List OutlineDbuf) (d : OutlineDbuf) → AreLower gone
 lower-more gone [] d all low = tt
 lower-more gone (y ∷ ys) d all low = (all-more (λ x. lower_oid y x ≡ false) gone d all.0 low.0, lower-more gone ys d all.1 low.1)
 
-drops-behind : (c : ℕ) (ds : List OutlineDbuf) (d : OutlineDbuf) (es drops : List Event) (ptr : Ptr) → DropsEach c ds es → d.mapped ≡ Clean ptr → DropsAtMost c ptr.key drops → DropsEach c (ds ++ d ∷ []) (es ++ drops)
-drops-behind c [] d es drops ptr each is most = (ptr, drops, [], is, ap (λ (l : List Event). l ++ drops) each ∙ sym (append-nil drops), most, refl)
-drops-behind c (x ∷ ds) d es drops ptr each is most =
-    (each.0, each.1, each.2 ++ drops, each.3, ap (λ (l : List Event). l ++ drops) each.4 ∙ append_assoc each.1 each.2 drops, each.5, drops-behind c ds d each.2 drops ptr each.6 is most)
+drops-behind : (c : ℕ) (held : Oid → Bool) (ds : List OutlineDbuf) (d : OutlineDbuf) (es drops : List Event) (ptr : Ptr) → DropsEach c held ds es → d.mapped ≡ Clean ptr → drops ≡ drops_if (held d.at) c ptr.key → DropsEach c held (ds ++ d ∷ []) (es ++ drops)
+drops-behind c held [] d es drops ptr each is most = (ptr, drops, [], is, ap (λ (l : List Event). l ++ drops) each ∙ sym (append-nil drops), most, refl)
+drops-behind c held (x ∷ ds) d es drops ptr each is most =
+    (each.0, each.1, each.2 ++ drops, each.3, ap (λ (l : List Event). l ++ drops) each.4 ∙ append_assoc each.1 each.2 drops, each.5, drops-behind c held ds d each.2 drops ptr each.6 is most)
 
 -- ---- one dbuf more goes
 
@@ -179,6 +181,7 @@ module _ (cache : Cache) (i : ℕ) (p : PartyPlace) (before : OnHeap) (old now :
         es = h.es ++ gave.0;
         party = gave.2;
         sound = h.sound;
+        told = h.told;
         same = ap (λ (c : CellLog Kept). record c { dbufs = left }) h.same;
         hides = end-hides-unkept at old.dbufs ∙ h.hides;
         rest = rest-lasts-by-unkeep at state.Evicting old.dbufs cached h.rest;
@@ -191,7 +194,10 @@ module _ (cache : Cache) (i : ℕ) (p : PartyPlace) (before : OnHeap) (old now :
             (IsPermutation-trans (cached_in before.value.dbufs) (h.gone ++ (splits.front ++ out d.dbuf ∷ splits.back)) (h.gone ++ (out d.dbuf ∷ (splits.front ++ splits.back)))
             (subst (λ (l : List OutlineDbuf). IsPermutation (cached_in before.value.dbufs) (h.gone ++ l)) splits.was_is h.all)
             (IsPermutation-append_right h.gone (splits.front ++ out d.dbuf ∷ splits.back) (out d.dbuf ∷ (splits.front ++ splits.back)) (IsPermutation-middle splits.front (out d.dbuf) splits.back)));
-        dropped = drops-behind (cell_number cache.config i) h.gone (out d.dbuf) h.es gave.0 pointed.ptr h.dropped pointed.mapped (subst (λ (x : Key). DropsAtMost (cell_number cache.config i) x gave.0) pointed.key gave.1);
+        dropped = drops-behind (cell_number cache.config i) (held_in before) h.gone (out d.dbuf) h.es gave.0 pointed.ptr h.dropped pointed.mapped
+            (gave.1 ∙ (ap (λ (x : Key). drops_if (is_held k) (cell_number cache.config i) x) pointed.key
+            ∙ ap (λ (b : Bool). drops_if b (cell_number cache.config i) pointed.ptr.key) (sym (held-as at k old.dbufs there) ∙ ((h.stay at cached).1 ∙ ap (held_in before) (sym at-is)))));
+        stay = stays-then before.value.dbufs old.dbufs left h.stay (stays-out at (without_kept state.Evicting) (λ x. refl) (λ x. none-there x.content state.Evicting refl) old.dbufs);
       }
 
 -- ---- the beginning
@@ -203,6 +209,7 @@ begins-ending cache i p before now q t is = subst (λ (c : CellLog Kept). IsEndi
   es = [];
   party = t.hand.party;
   sound = t.hand.cell.sound;
+  told = t.hand.cell.told;
   same = refl;
   hides = refl;
   rest = rest-lasts before.value.dbufs t.hand.cell.rest;
@@ -212,6 +219,7 @@ begins-ending cache i p before now q t is = subst (λ (c : CellLog Kept). IsEndi
   lower = none-gone (cached_in before.value.dbufs);
   all = IsPermutation-refl (cached_in before.value.dbufs);
   dropped = refl;
+  stay = stays-all before.value.dbufs;
 }
   where
     none-gone : (later : List OutlineDbuf) → AreLower [] later
@@ -221,7 +229,7 @@ begins-ending cache i p before now q t is = subst (λ (c : CellLog Kept). IsEndi
 -- ---- the end
 
 module _ (cache : Cache) (i : ℕ) (p : PartyPlace) (before : OnHeap) (old now : CellLog Kept) (q : PartyPlace) (e : IsEnding cache i p before old q) (n : ℕ) (who : n ≡ q.number)
-    (is : now ≡ noted (End n) (record old { dbufs = map cleared old.dbufs })) where
+    (is : now ≡ noted (End n) (record old { dbufs = map cleared old.dbufs })) (loose : (at : Oid) → held_at old.dbufs at ≡ false) where
   abbrev base : CellLog Kept
   base = record before.value { dbuf_room = old.dbuf_room; event_room = old.event_room }
 
@@ -232,9 +240,10 @@ module _ (cache : Cache) (i : ℕ) (p : PartyPlace) (before : OnHeap) (old now :
   ended-hand = subst (λ (c : CellLog Kept). InHand cache i p before Never (End q.number ∷ []) e.es c q) (sym ended-is) record {
     party = e.party;
     cell = done-more q.number before.value base e.sound.evicting []
-        (done-roomier q.number before.value before.value e.sound.evicting [] (done-none q.number before.value e.sound) old.dbuf_room old.event_room)
+        (done-roomier q.number before.value before.value e.sound.evicting [] (done-none q.number before.value e.sound e.told) old.dbuf_room old.event_room)
         (End q.number) [] (map cleared old.dbufs) e.sound.history.settled tt (end-follows base q.number old.dbufs e.hides) refl (end-rests old.dbufs e.rest)
-        (λ k other. claims-stay-by-end k old.dbufs ∙ e.claims k);
+        (λ k other. claims-stay-by-end k old.dbufs ∙ e.claims k)
+        (λ b. held-map is_held cleared (λ d. refl) (λ d. refl) old.dbufs b ∙ loose b);
     holds = subst (λ (l : List Ptr). AreHolds l (list_at i q.own.listed)) (sym (holds-stay-by-end key_of bytes_of is_held old.dbufs)) e.holds;
   }
 

@@ -1,5 +1,5 @@
 -- Evictions: one dbuf goes, and what it kept is given back; and several, one after another.
-use Rattle.std.proofs.Common.{◌≡◌, ℕ, ◌+◌, IsTrue, List, [], ◌∷◌, ◌++◌, map, cond, true, Option, Some, None, refl, sym, ap, ◌∙◌, subst, inl, inr, arith}
+use Rattle.std.proofs.Common.{◌≡◌, ℕ, ◌+◌, Bool, IsTrue, List, [], ◌∷◌, ◌++◌, map, cond, true, Option, Some, None, refl, sym, ap, ◌∙◌, subst, arith}
 use Rattle.std.proofs.lemmas.List.{append-nil, append_assoc}
 use Rattle.blk_ptr.specs.Order.{key_eq}
 use Rattle.blk_ptr.specs.declared.key.Key.{Key}
@@ -35,15 +35,16 @@ use Rattle.dbuf_state.specs.declared.state.DbState.TheVariants as state
 use Rattle.dbuf_state.specs.declared.state.Mapped.TheVariants.{Clean}
 use Rattle.std.specs.Option.{option_map}
 use Rattle.dbuf_state.proofs.FitLemmas.{has-found}
-use Rattle.dbuf_state.proofs.HandLemmas.{holds-change}
+use Rattle.dbuf_state.proofs.HandLemmas.{evictable-is-cached, holds-change}
 use Rattle.dbuf_state.proofs.OutlineLemmas.{cell-is-in-outline, outline-follows}
 use Rattle.dbuf_state.proofs.StepLemmas.{evict-follows}
 use Rattle.dbuf_cells.specs.InHand.{Evicts, GivesBack, GivesUp, HasDone, HasEvicted, HasTaken, InHand, IsOut, MayEvict}
 use Rattle.dbuf_cells.specs.Kept.{bytes_of, is_held, key_of}
-use Rattle.dbuf_cells.specs.Turns.{AreEvictions, DropsAtMost, OnHeap, PartyPlace, dbuf_meanings, holds_of}
+use Rattle.dbuf_cells.specs.Turns.{AreEvictions, OnHeap, PartyPlace, dbuf_meanings, drops_if, held_at, holds_of}
 use Rattle.dbuf_cells.specs.declared.kept.Kept.{Kept}
 use Rattle.dbuf_cells.specs.declared.kept.Kept.TheVariants.{Held, Loose}
-use Rattle.dbuf_cells.proofs.CellSteps.{done-evict, evict-legal, evicts-cached}
+use Rattle.dbuf_cells.proofs.CellSteps.{done-evict, evict-legal, evicts-cached, none-there}
+use Rattle.dbuf_cells.proofs.Holders.{evictions-held, held-as, stays-all, stays-noted, stays-out, stays-then}
 use Rattle.dbuf_cells.proofs.HoldLists.{kept-one, one-less, taken-out}
 use Rattle.dbuf_cells.proofs.PartySteps.{alike-listed, among-held, drop-lists, taken-more}
 
@@ -66,18 +67,19 @@ has-of P o d h e = subst (DbufHas P) e h
 
 -- ---- several, one behind another
 
-evictions-behind : (n c : ℕ) (o : Outline) (evs more : List CellEvent) (es rest : List Event) → AreEvictions n c o evs es → AreEvictions n c (after_all o evs) more rest → AreEvictions n c o (evs ++ more) (es ++ rest)
-evictions-behind n c o [] more es rest a b = subst (λ (l : List Event). AreEvictions n c o more (l ++ rest)) (sym a) b
-evictions-behind n c o (e ∷ evs) more es rest a b = (
+evictions-behind : (n c : ℕ) (held : Oid → Bool) (o : Outline) (evs more : List CellEvent) (es rest : List Event) → AreEvictions n c held o evs es → AreEvictions n c held (after_all o evs) more rest → AreEvictions n c held o (evs ++ more) (es ++ rest)
+evictions-behind n c held o [] more es rest a b = subst (λ (l : List Event). AreEvictions n c held o more (l ++ rest)) (sym a) b
+evictions-behind n c held o (e ∷ evs) more es rest a b = (
   a.0,
   a.1,
   a.2,
   a.3 ++ rest,
   a.4,
   a.5,
-  ap (λ (l : List Event). l ++ rest) a.6 ∙ append_assoc a.2 a.3 rest,
-  a.7,
-  evictions-behind n c (after o e) evs more a.3 rest a.8 b,
+  a.6,
+  ap (λ (l : List Event). l ++ rest) a.7 ∙ append_assoc a.2 a.3 rest,
+  a.8,
+  evictions-behind n c held (after o e) evs more a.3 rest a.9 b,
 )
 
 after-behind : (o : Outline) (evs more : List CellEvent) → after_all (after_all o evs) more ≡ after_all o (evs ++ more)
@@ -90,6 +92,7 @@ module _ (cache : Cache) (i : ℕ) where
     evictions = [];
     drops = [];
     evicted = refl;
+    stay = stays-all c.dbufs;
     outline = refl;
     hand = subst (λ (l : List CellEvent). InHand cache i p before evicting l (es ++ []) c q) (sym (append-nil news))
         (subst (λ (l : List Event). InHand cache i p before evicting news l c q) (sym (append-nil es)) h);
@@ -103,9 +106,11 @@ module _ (cache : Cache) (i : ℕ) where
       record {
         evictions = x.evictions ++ y.evictions;
         drops = x.drops ++ y.drops;
-        evicted = evictions-behind q.number (cell_number cache.config i) (outline_of (plain_cell evicting a)) x.evictions y.evictions x.drops y.drops x.evicted
-            (subst (λ (o : Outline). AreEvictions q.number (cell_number cache.config i) o y.evictions y.drops) x.outline
-            (subst (λ (n : ℕ). AreEvictions n (cell_number cache.config i) (outline_of (plain_cell evicting b)) y.evictions y.drops) number y.evicted));
+        evicted = evictions-behind q.number (cell_number cache.config i) (held_at a.dbufs) (outline_of (plain_cell evicting a)) x.evictions y.evictions x.drops y.drops x.evicted
+            (subst (λ (o : Outline). AreEvictions q.number (cell_number cache.config i) (held_at a.dbufs) o y.evictions y.drops) x.outline
+            (evictions-held q.number (cell_number cache.config i) (held_at b.dbufs) (held_at a.dbufs) (outline_of (plain_cell evicting b)) y.evictions y.drops (λ at on. (x.stay at ((cell-is-in-outline evicting b at).cached ∙ on)).1)
+            (subst (λ (n : ℕ). AreEvictions n (cell_number cache.config i) (held_at b.dbufs) (outline_of (plain_cell evicting b)) y.evictions y.drops) number y.evicted)));
+        stay = stays-then a.dbufs b.dbufs c.dbufs x.stay y.stay;
         outline = y.outline ∙ (ap (λ (o : Outline). after_all o y.evictions) x.outline ∙ after-behind (outline_of (plain_cell evicting a)) x.evictions y.evictions);
         hand = subst (λ (l : List CellEvent). InHand cache i p before evicting l (es ++ (x.drops ++ y.drops)) c s) (append_assoc news x.evictions y.evictions)
             (subst (λ (l : List Event). InHand cache i p before evicting ((news ++ x.evictions) ++ y.evictions) l c s) (append_assoc es x.drops y.drops) y.hand);
@@ -168,13 +173,13 @@ left-loose at f none-kept ds d o found there loose j =
 module _ (cache : Cache) (i : ℕ) (p : PartyPlace) (before : OnHeap) (es : List Event) (old : CellLog Kept) (q r : PartyPlace) (t : HasTaken cache i p before es q) (holds : AreHolds (holds_of old) (list_at i q.own.listed)) where
   -- what is listed once a hold that a dbuf kept was dropped, or nothing was
   pub given-back : (at : Oid) (f : Dbuf Kept → Dbuf Kept) → ((d : Dbuf Kept) → (f d).kept ≡ None) → (k : Kept) → DbufHas (λ d. d.kept ≡ Some k) (dbuf_at at old.dbufs) → GivesBack cache.config i k q r
-      → (drops : List Event) × DropsAtMost (cell_number cache.config i) (key_of k) drops × HasTaken cache i p before (es ++ drops) r × AreHolds (holds_in key_of bytes_of is_held (with_dbuf at f old.dbufs)) (list_at i r.own.listed)
+      → (drops : List Event) × (drops ≡ drops_if (is_held k) (cell_number cache.config i) (key_of k)) × HasTaken cache i p before (es ++ drops) r × AreHolds (holds_in key_of bytes_of is_held (with_dbuf at f old.dbufs)) (list_at i r.own.listed)
   given-back at f none-kept (Held hold) there back =
       let d = is-dbuf (λ x. x.kept ≡ Some (Held hold)) (dbuf_at at old.dbufs) there in
       let one = kept-one at old.dbufs d.dbuf (Held hold) d.there d.has refl in
       let listed = holds.among one.0 (ptr_of hold) one.1 in (
         Drop (cell_number cache.config i) hold.key ∷ [],
-        inr refl,
+        refl,
         taken-more cache i p before es q r t (Drop (cell_number cache.config i) hold.key) hold.key refl back,
         subst (AreHolds (holds_in key_of bytes_of is_held (with_dbuf at f old.dbufs))) (sym (drop-lists cache i p before es q r t hold.key back))
             (one-less hold.key (ptr_of hold) (holds_of old) (holds_in key_of bytes_of is_held (with_dbuf at f old.dbufs)) (list_at i q.own.listed) holds
@@ -185,7 +190,7 @@ module _ (cache : Cache) (i : ℕ) (p : PartyPlace) (before : OnHeap) (es : List
   given-back at f none-kept (Loose key block) there back =
       let d = is-dbuf (λ x. x.kept ≡ Some (Loose key block)) (dbuf_at at old.dbufs) there in (
         [],
-        inl refl,
+        refl,
         subst (HasTaken cache i p before (es ++ [])) (sym back) (subst (λ (l : List Event). HasTaken cache i p before l q) (sym (append-nil es)) t),
         subst (λ (x : PartyPlace). AreHolds (holds_in key_of bytes_of is_held (with_dbuf at f old.dbufs)) (list_at i x.own.listed)) (sym back)
             (record {
@@ -208,7 +213,20 @@ module _ (cache : Cache) (i : ℕ) (p : PartyPlace) (before : OnHeap) (evicting 
         record {
           evictions = Evict q.number at ∷ [];
           drops = b.0;
-          evicted = (at, m.0, b.0, [], refl, m.1, sym (append-nil b.0), subst (λ (x : Key). DropsAtMost (cell_number cache.config i) x b.0) m.2 b.1, refl);
+          evicted = (
+            at,
+            m.0,
+            b.0,
+            [],
+            refl,
+            m.1,
+            sym (cell-is-in-outline evicting old at).cached ∙ evictable-is-cached old.limit at old.dbufs once evictable,
+            sym (append-nil b.0),
+            b.1 ∙ (ap (λ (x : Key). drops_if (is_held k) (cell_number cache.config i) x) m.2 ∙ ap (λ (h : Bool). drops_if h (cell_number cache.config i) m.0.key) (sym (held-as at k old.dbufs there))),
+            refl,
+          );
+          stay = stays-noted (Evict q.number at) (record old { dbufs = with_dbuf at (without_kept state.Uncached) old.dbufs }) old.dbufs
+              (stays-out at (without_kept state.Uncached) (λ d. refl) (λ d. none-there d.content state.Uncached refl) old.dbufs);
           outline = ap outline_of (evict-follows old q.number at (evicts-cached q.number before.value old evicting news at h.cell may once evictable) evicting)
               ∙ outline-follows (plain_cell evicting old) (Evict q.number at) [] (evict-legal q.number before.value old evicting news at h.cell may once evictable) tt;
           hand = record {

@@ -47,19 +47,21 @@ use Rattle.dbuf_state.proofs.FitLemmas.{all-found, from-has}
 use Rattle.dbuf_state.proofs.HandLemmas.{claims-stay, holds-stay-by-note, rest-stays}
 use Rattle.dbuf_state.proofs.IndexLemmas.{and-both, bool_cases}
 use Rattle.dbuf_state.proofs.StepLemmas.{load-follows}
-use Rattle.dbuf_cells.specs.Bringing.{DropsRead, handed}
+use Rattle.dbuf_cells.specs.Bringing.{DropsRead, handed, is_some_made, gives_hold}
 use Rattle.dbuf_cells.specs.InHand.{AsTaken, HasDone, HasTaken, InHand, IsRoomier}
 use Rattle.dbuf_cells.specs.Kept.{bytes_of, is_held, key_of}
-use Rattle.dbuf_cells.specs.Loading.{HandsOn, HasUnread, IsBroughtBy, IsLoaded, IsReadOf, Keeps, SomeTaken}
-use Rattle.dbuf_cells.specs.Turns.{OnHeap, PartyPlace, dbuf_meanings, holds_of}
+use Rattle.dbuf_cells.specs.Loading.{AreHeldBut, HandsOn, HasUnread, IsBroughtBy, IsLoaded, IsReadOf, Keeps, SomeTaken}
+use Rattle.dbuf_cells.specs.Turns.{OnHeap, PartyPlace, dbuf_meanings, held_at, holds_of}
 use Rattle.dbuf_cells.specs.declared.kept.Kept.{Kept}
 use Rattle.dbuf_cells.specs.declared.kept.Kept.TheVariants.{Held, Loose}
 use Rattle.dbuf_cells.proofs.CellSteps.{done-more}
 use Rattle.dbuf_cells.proofs.Evictions.{has-of, is-dbuf}
+use Rattle.dbuf_cells.proofs.Holders.{held-touched, held-with}
 use Rattle.dbuf_cells.proofs.HoldLists.{first-or-later, one-more}
 use Rattle.dbuf_cells.proofs.Loads.{cached-claim, others-mark, put-among, put-count, is-reading, is-unread, reads-nothing, unmarked-as}
 use Rattle.dbuf_cells.proofs.Operations.{as-taken-room, plain-test}
 use Rattle.dbuf_cells.proofs.PartySteps.{among-held, taken-looks, taken-more}
+use Rattle.dbuf_state.proofs.HeldLemmas.{held-set}
 
 nothing : (x : Ptr) → IsOneOf x [] → ⊥
 nothing x one = some-ne-none x (sym one.1)
@@ -113,18 +115,19 @@ module _ (cache : Cache) (i : ℕ) (p : PartyPlace) (before : OnHeap) (q : Party
   kept-with k = with_dbuf at (cached_with k) old.dbufs
 
   abbrev pub loaded-with : Kept → CellLog Kept
-  loaded-with k = noted (Load q.number at) (record old { dbufs = kept-with k })
+  loaded-with k = noted (Load q.number at (is_held k)) (record old { dbufs = kept-with k })
 
-  load-legal : IsLegal (plain_cell t.evicting old) (Load q.number at)
-  load-legal = and-both _ _ t.settled (plain-test t.evicting old at (λ d. plain.is_uncached d.block) ∙ is-uncached q.number at ptr old.dbufs brought)
+  load-legal : (held : Bool) → IsLegal (plain_cell t.evicting old) (Load q.number at held)
+  load-legal held = and-both _ _ t.settled (plain-test t.evicting old at (λ d. plain.is_uncached d.block) ∙ is-uncached q.number at ptr old.dbufs brought)
 
-  pub done-load : (k : Kept) → HasDone q.number before.value May (Load q.number at ∷ []) (loaded-with k)
-  done-load k = done-more q.number before.value old t.evicting [] t.hand.cell (Load q.number at) [] (kept-with k) load-legal tt
-      (load-follows old q.number at k (is-reading q.number at ptr old.dbufs brought)) refl
+  pub done-load : (k : Kept) → HasDone q.number before.value May (Load q.number at (is_held k) ∷ []) (loaded-with k)
+  done-load k = done-more q.number before.value old t.evicting [] t.hand.cell (Load q.number at (is_held k)) [] (kept-with k) (load-legal (is_held k)) tt
+      (load-follows old q.number at (is_held k) k (is-reading q.number at ptr old.dbufs brought)) refl
       (rest-stays at (cached_with k) old.dbufs (λ d found. refl) t.hand.cell.rest)
       (λ m other. claims-stay at (cached_with k) m old.dbufs (λ d found.
       let b = has-of (λ x. (x.content ≡ Clean ptr) × (x.state ≡ state.Read q.number)) (dbuf_at at old.dbufs) d brought found in
       cached-claim m d.at d.content ∙ sym (ap (claim_in m d.at d.content) b.1 ∙ others-mark m q.number d.at d.content other)))
+      (held-set is_held at (cached_with k) (λ d. refl) (is_held k) (λ d. refl) (λ x. (x.content ≡ Clean ptr) × (x.state ≡ state.Read q.number)) old.dbufs brought)
 
   the-dbuf : (P : Dbuf Kept → Type 0) → ((d : Dbuf Kept) → dbuf_at at old.dbufs ≡ Some d → P d) → (d : Dbuf Kept) × (dbuf_at at old.dbufs ≡ Some d) × P d
   the-dbuf P each =
@@ -162,19 +165,19 @@ module _ (cache : Cache) (i : ℕ) (p : PartyPlace) (before : OnHeap) (q : Party
 
   -- the cell with what it keeps now
   keeps-this : (r : PartyPlace) (es : List Event) (k : Kept) (n : ℕ) → n ≡ r.number → HasTaken cache i p before es r → AreHolds (holds_in key_of bytes_of is_held (kept-with k)) (list_at i r.own.listed)
-      → InHand cache i p before May (Load p.number at ∷ []) es (noted (Load n at) (record old { dbufs = kept-with k })) r
+      → InHand cache i p before May (Load p.number at (is_held k) ∷ []) es (noted (Load n at (is_held k)) (record old { dbufs = kept-with k })) r
   keeps-this r es k n who party holds =
       let number : r.number ≡ q.number = party.number ∙ sym t.hand.party.number in
       record {
         party = party;
-        cell = subst (λ (m : ℕ). HasDone r.number before.value May (Load m at ∷ []) (noted (Load n at) (record old { dbufs = kept-with k }))) t.hand.party.number
-            (subst (λ (m : ℕ). HasDone r.number before.value May (Load q.number at ∷ []) (noted (Load m at) (record old { dbufs = kept-with k }))) (sym (who ∙ number))
-            (subst (λ (m : ℕ). HasDone m before.value May (Load q.number at ∷ []) (loaded-with k)) (sym number) (done-load k)));
+        cell = subst (λ (m : ℕ). HasDone r.number before.value May (Load m at (is_held k) ∷ []) (noted (Load n at (is_held k)) (record old { dbufs = kept-with k }))) t.hand.party.number
+            (subst (λ (m : ℕ). HasDone r.number before.value May (Load q.number at (is_held k) ∷ []) (noted (Load m at (is_held k)) (record old { dbufs = kept-with k }))) (sym (who ∙ number))
+            (subst (λ (m : ℕ). HasDone m before.value May (Load q.number at (is_held k) ∷ []) (loaded-with k)) (sym number) (done-load k)));
         holds = subst (λ (l : List Ptr). AreHolds l (list_at i r.own.listed)) (sym (holds-stay-by-note key_of bytes_of is_held (length old.history + 1) (Some at) (kept-with k))) holds;
       }
 
   pub keeps-read : (read : Read) (k : Kept) (r : PartyPlace) (n : ℕ) → n ≡ r.number → IsReadOf ptr q read → HandsOn cache.config i ptr read q r (Ok k)
-      → InHand cache i p before May (Load p.number at ∷ []) (handed p.number (cell_number cache.config i) read) (noted (Load n at) (record old { dbufs = kept-with k })) r
+      → InHand cache i p before May (Load p.number at (gives_hold read) ∷ []) (handed p.number (cell_number cache.config i) read) (noted (Load n at (is_held k)) (record old { dbufs = kept-with k })) r
   keeps-read (gave.Held hold from) (Held back) r n who of hands =
       let party = taken-more cache i p before [] q r t.hand.party (Hand q.number hold.key (cell_number cache.config i)) hold.key refl hands.0 in
       keeps-this r (Hand p.number hold.key (cell_number cache.config i) ∷ []) (Held back) n who
@@ -254,12 +257,12 @@ module _ (cache : Cache) (i : ℕ) (at : Oid) (ptr : Ptr) (q r : PartyPlace) (ol
   fit-roomy : AllByRecursion (IsFit key_of bytes_of) roomy.dbufs
   fit-roomy = subst (λ (x : CellLog Kept). AllByRecursion (IsFit key_of bytes_of) x.dbufs) (sym log) fit
 
-  pub keeps-now : (k : Kept) (n : ℕ) (kept now : CellLog Kept) → n ≡ r.number → HandsOn cache.config i ptr read q r (Ok k) → kept ≡ record roomy { dbufs = with_dbuf at (cached_with k) roomy.dbufs } → now ≡ noted (Load n at) kept → Keeps cache i at ptr read old now q r
-  keeps-now k n kept now who hands one two p before t =
+  pub keeps-now : (k : Kept) (n : ℕ) (held : Bool) (kept now : CellLog Kept) → n ≡ r.number → held ≡ is_held k → HandsOn cache.config i ptr read q r (Ok k) → kept ≡ record roomy { dbufs = with_dbuf at (cached_with k) roomy.dbufs } → now ≡ noted (Load n at held) kept → Keeps cache i at ptr read old now q r
+  keeps-now k n held kept now who says hands one two p before t =
       let u = as-taken-room cache i p before old roomy q t log in
-      let is = two ∙ ap (λ (x : CellLog Kept). noted (Load n at) x) one in
+      let is = two ∙ (ap (λ (x : CellLog Kept). noted (Load n at held) x) one ∙ ap (λ (h : Bool). noted (Load n at h) (record roomy { dbufs = with_dbuf at (cached_with k) roomy.dbufs })) says) in
       record {
-        hand = subst (λ (x : CellLog Kept). InHand cache i p before May (Load p.number at ∷ []) (handed p.number (cell_number cache.config i) read) x r) (sym is)
+        hand = subst (λ (x : CellLog Kept). InHand cache i p before May (Load p.number at (gives_hold read) ∷ []) (handed p.number (cell_number cache.config i) read) x r) (sym is)
             (keeps-read cache i p before q roomy u at ptr brought-roomy fit-roomy read k r n who of hands);
         there = subst (λ (x : CellLog Kept). IsLoaded at ptr x.dbufs) (sym is) (is-loaded q.number (length roomy.history + 1) at ptr k roomy.dbufs brought-roomy);
       }
@@ -305,3 +308,21 @@ module _ (g : Config) (ptr : Ptr) (p : PartyPlace) (read : Read) (hold : Hold) (
 
   pub drops-held : (q : PartyPlace) → Does dbuf_meanings g hold.key (Drop hold.owner hold.key ∷ []) p q → DropsRead g read p q
   drops-held q d = subst (λ (x : Read). DropsRead g x p q) (sym is) (subst (λ (n : ℕ). Does dbuf_meanings g hold.key (Drop n hold.key ∷ []) p q) held-own d)
+
+-- ---- which dbufs keep a hold then
+
+-- a hold that is handed on is kept as one
+kept-as-hand : (g : Config) (i n : ℕ) (ptr : Ptr) (read : Read) (q r : PartyPlace) (k : Kept) → HandsOn g i ptr read q r (Ok k) → is_held k ≡ is_some_made (handed n (cell_number g i) read)
+kept-as-hand g i n ptr (gave.Held hold from) q r (Held back) hands = refl
+kept-as-hand g i n ptr (gave.Held hold from) q r (Loose key block) hands = absurd hands
+kept-as-hand g i n ptr (gave.Past shared digest) q r (Held back) hands = absurd hands
+kept-as-hand g i n ptr (gave.Past shared digest) q r (Loose key block) hands = refl
+
+pub kept-held : (g : Config) (i : ℕ) (at : Oid) (ptr : Ptr) (q r : PartyPlace) (old roomy : CellLog Kept) → IsRoomier old roomy → IsBroughtBy q.number at ptr old.dbufs → (read : Read) (k : Kept) (n : ℕ) (held : Bool) (kept now : CellLog Kept)
+    → HandsOn g i ptr read q r (Ok k) → kept ≡ record roomy { dbufs = with_dbuf at (cached_with k) roomy.dbufs } → now ≡ noted (Load n at held) kept → AreHeldBut at (is_some_made (handed q.number (cell_number g i) read)) old.dbufs now.dbufs
+kept-held g i at ptr q r old roomy log brought read k n held kept now hands one two b =
+    ap (λ (x : CellLog Kept). held_at x.dbufs b) (two ∙ ap (noted (Load n at held)) one)
+    ∙ (held-touched (length roomy.history + 1) (Some at) (with_dbuf at (cached_with k) roomy.dbufs) b
+    ∙ (ap (λ (x : CellLog Kept). held_at (with_dbuf at (cached_with k) x.dbufs) b) log
+    ∙ (held-with (λ d. (d.content ≡ Clean ptr) × (d.state ≡ state.Read q.number)) at k old.dbufs brought b
+    ∙ ap (λ (h : Bool). if oid_eq at b then h else held_at old.dbufs b) (kept-as-hand g i q.number ptr read q r k hands))))

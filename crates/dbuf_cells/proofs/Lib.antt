@@ -7,6 +7,7 @@ pub mod EndLoads
 pub mod Endings
 pub mod Evictions
 pub mod HoldLists
+pub mod Holders
 pub mod Keeping
 pub mod Loads
 pub mod Mods

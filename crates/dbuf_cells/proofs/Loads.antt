@@ -48,6 +48,7 @@ use Rattle.dbuf_cells.proofs.Evictions.{has-of, is-dbuf}
 use Rattle.dbuf_cells.proofs.HoldLists.{behind, first-of, first-or-behind}
 use Rattle.dbuf_cells.proofs.Operations.{rest-of}
 use Rattle.dbuf_cells.proofs.PutSteps.{state-there}
+use Rattle.dbuf_state.proofs.HeldLemmas.{held-same}
 
 -- ---- claims
 
@@ -103,9 +104,9 @@ marks-besides i n at ptr c ds p to once is are = record {
 }
 
 -- nobody claims a block any more that was kept, or whose mark was taken back
-pub kept-unclaimed : (at : Oid) (k : Kept) (n : ℕ) (old roomy kept now : CellLog Kept) → IsRoomier old roomy → IsTrue (is_distinct dbuf_oid old.dbufs) → kept ≡ record roomy { dbufs = with_dbuf at (cached_with k) roomy.dbufs } → now ≡ noted (Load n at) kept → AreUnclaimed at old.dbufs now.dbufs
-kept-unclaimed at k n old roomy kept now log once one two m =
-    ap (λ (x : CellLog Kept). claims_in m x.dbufs) (two ∙ ap (noted (Load n at)) one)
+pub kept-unclaimed : (at : Oid) (k : Kept) (n : ℕ) (held : Bool) (old roomy kept now : CellLog Kept) → IsRoomier old roomy → IsTrue (is_distinct dbuf_oid old.dbufs) → kept ≡ record roomy { dbufs = with_dbuf at (cached_with k) roomy.dbufs } → now ≡ noted (Load n at held) kept → AreUnclaimed at old.dbufs now.dbufs
+kept-unclaimed at k n held old roomy kept now log once one two m =
+    ap (λ (x : CellLog Kept). claims_in m x.dbufs) (two ∙ ap (noted (Load n at held)) one)
     ∙ (claims-stay-by-note m (length roomy.history + 1) (Some at) (with_dbuf at (cached_with k) roomy.dbufs)
     ∙ (ap (λ (x : CellLog Kept). claims_in m (with_dbuf at (cached_with k) x.dbufs)) log ∙ loses-claim m at (cached_with k) old.dbufs once (λ d. cached-claim m d.at d.content)))
 
@@ -121,7 +122,8 @@ module _ (cache : Cache) (i : ℕ) (p : PartyPlace) (before : OnHeap) (evicting 
     party = h.party;
     cell = done-alike q.number before.value now evicting news h.cell (with_dbuf at (reading_by n) now.dbufs) (reading-alike now n at evicting to.uncached)
         (rest-stays at (reading_by n) now.dbufs (λ d found. refl) h.cell.rest)
-        (λ k other. claims-stay at (reading_by n) k now.dbufs (λ d found. others-mark k n d.at d.content (λ e. other (e ∙ who)) ∙ sym (uncached-claim k d.at d.content d.state (test-of (is_clean_in is_uncached) at now.dbufs d to.uncached found))));
+        (λ k other. claims-stay at (reading_by n) k now.dbufs (λ d found. others-mark k n d.at d.content (λ e. other (e ∙ who)) ∙ sym (uncached-claim k d.at d.content d.state (test-of (is_clean_in is_uncached) at now.dbufs d to.uncached found))))
+        (held-same is_held at (reading_by n) (λ d. refl) (λ d. refl) now.dbufs);
     holds = subst (λ (l : List Ptr). AreHolds l (list_at i q.own.listed)) (sym (holds-stay key_of bytes_of is_held at (reading_by n) now.dbufs (λ d. refl))) h.holds;
   }
 
@@ -139,7 +141,8 @@ module _ (cache : Cache) (i : ℕ) (p : PartyPlace) (before : OnHeap) (evicting 
         (rest-stays at unread now.dbufs (λ d found. refl) h.cell.rest)
         (λ k other. claims-stay at unread k now.dbufs (λ d found.
         let b = has-of (λ x. (x.content ≡ Clean ptr) × (x.state ≡ state.Read n)) (dbuf_at at now.dbufs) d brought found in
-        none-claimed k d.at d.content ∙ sym (ap (claim_in k d.at d.content) b.1 ∙ others-mark k n d.at d.content (λ e. other (e ∙ who)))));
+        none-claimed k d.at d.content ∙ sym (ap (claim_in k d.at d.content) b.1 ∙ others-mark k n d.at d.content (λ e. other (e ∙ who)))))
+        (held-same is_held at unread (λ d. refl) (λ d. refl) now.dbufs);
     holds = subst (λ (l : List Ptr). AreHolds l (list_at i q.own.listed)) (sym (holds-stay key_of bytes_of is_held at unread now.dbufs (λ d. refl))) h.holds;
   }
 

@@ -9,7 +9,7 @@ use Rattle.arc_table.specs.Geometry.{cell_number}
 use Rattle.arc_table.specs.Giving.{AreHolds}
 use Rattle.blk_ptr.specs.declared.ptr.Ptr.{Ptr}
 use Rattle.dbuf_state.specs.CellLog.{CellLog, noted}
-use Rattle.dbuf_state.specs.Dbufs.{dbuf_at, dbuf_is, is_passing, plain_dbuf, standing_of, unpinned_by, with_dbuf}
+use Rattle.dbuf_state.specs.Dbufs.{dbuf_at, dbuf_is, is_cached, is_clean_in, is_passing, plain_dbuf, standing_of, unpinned_by, with_dbuf}
 use Rattle.dbuf_state.specs.InHand.{are_at_rest}
 use Rattle.dbuf_state.specs.Numbers.{claims_in, number_of}
 use Rattle.dbuf_state.specs.Objects.{Evicting, IsBase, IsLegal, Must, PlainDbuf, evicting_after, is_due, must_evict, use_of}
@@ -31,9 +31,12 @@ use Rattle.dbuf_state.proofs.OutlineLemmas.{cell-is-in-outline, leads-outline}
 use Rattle.dbuf_state.proofs.StepLemmas.{unpin-follows}
 use Rattle.dbuf_cells.specs.InHand.{AsTaken, HasFinished, InHand}
 use Rattle.dbuf_cells.specs.Kept.{bytes_of, is_held, key_of}
-use Rattle.dbuf_cells.specs.Turns.{AreEvictions, OnHeap, Operates, PartyPlace, outline_in}
+use Rattle.dbuf_cells.specs.Turns.{AreEvictions, OnHeap, Operates, PartyPlace, held_at, outline_in}
 use Rattle.dbuf_cells.specs.declared.kept.Kept.{Kept}
 use Rattle.dbuf_cells.proofs.CellSteps.{done-more, done-roomier}
+use Rattle.dbuf_cells.proofs.Holders.{evictions-held}
+use Rattle.dbuf_state.proofs.HeldLemmas.{held-same}
+use Rattle.dbuf_state.specs.Held.{held_after}
 
 -- ---- outlines that differ in what may be evicted alone
 
@@ -41,18 +44,19 @@ pub after-alike : (o a : Outline) (es : List CellEvent) → a.dbufs ≡ o.dbufs 
 after-alike o a [] ds ev = (ds, ev)
 after-alike o a (e ∷ es) ds ev = after-alike (after o e) (after a e) es (λ z. outline.touched (ev z + 1) (use_of e) (effect (ds z) e)) (λ z. ev z + 1)
 
-evictions-alike : (n c : ℕ) (o a : Outline) (evs : List CellEvent) (es : List Event) → a.dbufs ≡ o.dbufs → a.events ≡ o.events → AreEvictions n c o evs es → AreEvictions n c a evs es
-evictions-alike n c o a [] es ds ev are = are
-evictions-alike n c o a (e ∷ evs) es ds ev are = (
+evictions-alike : (n c : ℕ) (held : Oid → Bool) (o a : Outline) (evs : List CellEvent) (es : List Event) → a.dbufs ≡ o.dbufs → a.events ≡ o.events → AreEvictions n c held o evs es → AreEvictions n c held a evs es
+evictions-alike n c held o a [] es ds ev are = are
+evictions-alike n c held o a (e ∷ evs) es ds ev are = (
   are.0,
   are.1,
   are.2,
   are.3,
   are.4,
   ap (λ (l : List OutlineDbuf). option_map (λ (d : OutlineDbuf). d.mapped) (item_at outline.dbuf_oid are.0 l)) ds ∙ are.5,
-  are.6,
+  ap (λ (l : List OutlineDbuf). option_map_or (λ (d : OutlineDbuf). d.cached) (item_at outline.dbuf_oid are.0 l) false) ds ∙ are.6,
   are.7,
-  evictions-alike n c (after o e) (after a e) evs are.3 (λ z. outline.touched (ev z + 1) (use_of e) (effect (ds z) e)) (λ z. ev z + 1) are.8,
+  are.8,
+  evictions-alike n c held (after o e) (after a e) evs are.3 (λ z. outline.touched (ev z + 1) (use_of e) (effect (ds z) e)) (λ z. ev z + 1) are.9,
 )
 
 -- ---- more room
@@ -65,10 +69,10 @@ room-settled evicting now c is settled = subst (λ (x : CellLog Kept). IsTrue (n
 module _ (cache : Cache) (i : ℕ) (p : PartyPlace) (before : OnHeap) (evicting : Evicting) (news : List CellEvent) (es : List Event) (now : CellLog Kept) (q : PartyPlace) (h : InHand cache i p before evicting news es now q) where
   pub hand-more : (e : CellEvent) (base : List ℕ) (ds : List (Dbuf Kept)) → IsLegal (plain_cell evicting now) e → IsBase base (plain_cell evicting now) e → Follows base now e ds → number_of e ≡ q.number
       → IsTrue (are_at_rest ds) → ((k : ℕ) → k ≢ q.number → claims_in k ds ≡ claims_in k now.dbufs) → AreHolds (holds_in key_of bytes_of is_held ds) (list_at i q.own.listed)
-      → InHand cache i p before (evicting_after evicting e) (news ++ e ∷ []) es (noted e (record now { dbufs = ds })) q
-  hand-more e base ds legal of follows who rest claims holds = record {
+      → ((b : Oid) → held_at ds b ≡ held_after b (held_at now.dbufs b) e) → InHand cache i p before (evicting_after evicting e) (news ++ e ∷ []) es (noted e (record now { dbufs = ds })) q
+  hand-more e base ds legal of follows who rest claims holds held = record {
     party = h.party;
-    cell = done-more q.number before.value now evicting news h.cell e base ds legal of follows who rest claims;
+    cell = done-more q.number before.value now evicting news h.cell e base ds legal of follows who rest claims held;
     holds = subst (λ (l : List Ptr). AreHolds l (list_at i q.own.listed)) (sym (holds-stay-by-note key_of bytes_of is_held (length now.history + 1) (use_of e) ds)) holds;
   }
 
@@ -78,18 +82,19 @@ module _ (cache : Cache) (i : ℕ) (p : PartyPlace) (before : OnHeap) (evicting 
   pub hand-room : (c : CellLog Kept) → c ≡ record now { dbuf_room = c.dbuf_room; event_room = c.event_room } → InHand cache i p before evicting news es c q
   hand-room c is = subst (λ (x : CellLog Kept). InHand cache i p before evicting news es x q) (sym is) (hand-roomier c.dbuf_room c.event_room)
 
-  -- what was evicted goes on from the operation's events
-  pub operates : (r : PartyPlace) → HasFinished cache i p before evicting news es now q r → Operates cache.config i before news es p r
-  operates r f =
+  -- what was evicted goes on from the operation's events, by each function that says of what is cached which dbufs keep a hold
+  pub operates : (held : Oid → Bool) → ((b : Oid) → dbuf_is (is_clean_in is_cached) b now.dbufs ≡ true → held_at now.dbufs b ≡ held b) → (r : PartyPlace) → HasFinished cache i p before evicting news es now q r → Operates cache.config i before held news es p r
+  operates held stay r f =
       let told = leads-outline (plain_cell h.cell.sound.evicting before.value) news h.cell.bases (plain_cell evicting now) h.cell.leads in
       let same = after-alike (outline_of (plain_cell h.cell.sound.evicting before.value)) (outline_in before) news refl refl in
       record {
         evictions = f.evictions;
         drops = f.drops;
         turn = f.given.turn;
-        evicted = subst (λ (n : ℕ). AreEvictions n (cell_number cache.config i) (after_all (outline_in before) news) f.evictions f.drops) h.party.number
-            (evictions-alike q.number (cell_number cache.config i) (after_all (outline_of (plain_cell h.cell.sound.evicting before.value)) news) (after_all (outline_in before) news) f.evictions f.drops same.0 same.1
-            (subst (λ (o : Outline). AreEvictions q.number (cell_number cache.config i) o f.evictions f.drops) told f.evicted));
+        evicted = subst (λ (n : ℕ). AreEvictions n (cell_number cache.config i) held (after_all (outline_in before) news) f.evictions f.drops) h.party.number
+            (evictions-alike q.number (cell_number cache.config i) held (after_all (outline_of (plain_cell h.cell.sound.evicting before.value)) news) (after_all (outline_in before) news) f.evictions f.drops same.0 same.1
+            (subst (λ (o : Outline). AreEvictions q.number (cell_number cache.config i) held o f.evictions f.drops) told
+            (evictions-held q.number (cell_number cache.config i) (held_at now.dbufs) held (outline_of (plain_cell evicting now)) f.evictions f.drops (λ b on. stay b ((cell-is-in-outline evicting now b).cached ∙ on)) f.evicted)));
       }
 
 -- ---- what is not due
@@ -147,7 +152,8 @@ module _ (cache : Cache) (i : ℕ) (p : PartyPlace) (before : OnHeap) (evicting 
       (and-both (not (is_due (plain_cell evicting now))) _ settled (plain-test evicting now at (λ d. has_pin n d.pins) ∙ has)) tt (unpin-follows now n at) who
       (rest-stays at (unpinned_by n) now.dbufs (λ d found. rest-of at now.dbufs d h.cell.rest found) h.cell.rest)
       (λ k other. claims-stay at (unpinned_by n) k now.dbufs (λ d found. refl))
-      (subst (λ (l : List Ptr). AreHolds l (list_at i q.own.listed)) (sym (holds-stay key_of bytes_of is_held at (unpinned_by n) now.dbufs (λ d. refl))) h.holds))
+      (subst (λ (l : List Ptr). AreHolds l (list_at i q.own.listed)) (sym (holds-stay key_of bytes_of is_held at (unpinned_by n) now.dbufs (λ d. refl))) h.holds)
+      (held-same is_held at (unpinned_by n) (λ d. refl) (λ d. refl) now.dbufs))
 
 -- whether a number has a pin stands in the outline
 pub no-pin : (b : OnHeap) (n : ℕ) (at : Oid) → dbuf_is (λ d. has_pin n d.pins) at b.value.dbufs ≡ false → has_pin_at n at (outline_in b) ≡ false

@@ -51,7 +51,7 @@ use Rattle.dbuf_state.specs.declared.event.CellEvent.{CellEvent}
 use Rattle.dbuf_state.specs.declared.state.DbState.TheVariants as state
 use Rattle.dbuf_state.specs.declared.oid.Oid.{Oid}
 use Rattle.dbuf_cells.specs.InHand.{AsTaken, ClaimsAre, Gives, HasGiven, HasTaken, InHand, MayGive, TakesAtRest}
-use Rattle.dbuf_cells.specs.Turns.{BringsNone, FindsBringing, MakesAll, OnHeap, OnceAtRest, PartyPlace, WaitsForDbuf, dbuf_meanings}
+use Rattle.dbuf_cells.specs.Turns.{BringsNone, FindsBringing, HoldsStand, MakesAll, OnHeap, OnceAtRest, PartyPlace, WaitsForDbuf, dbuf_meanings}
 use Rattle.dbuf_cells.specs.Kept.{bytes_of, key_of}
 use Rattle.dbuf_cells.specs.Places.{cell_of}
 use Rattle.dbuf_cells.specs.declared.kept.Kept.{Kept}
@@ -65,8 +65,8 @@ some-same a b e = cc
 -- ---- taking
 
 module _ (cache : Cache) (i : ℕ) (valid : IsConfig cache.config) (in_range : IsCell cache.config i) where
-  pub begins : (before : OnHeap) (p q : PartyPlace) → IsPartyOf cache p → HasNoLook cache p → Takes dbuf_meanings i (item.Cell before) p q → AsTaken cache i p before before.value q
-  begins before p q party look t = record {
+  pub begins : (before : OnHeap) (p q : PartyPlace) → IsPartyOf cache p → HasNoLook cache p → HoldsStand before → Takes dbuf_meanings i (item.Cell before) p q → AsTaken cache i p before before.value q
+  begins before p q party look stands t = record {
     evicting = sound-is.evicting;
     hand = record {
       party = record {
@@ -74,6 +74,7 @@ module _ (cache : Cache) (i : ℕ) (valid : IsConfig cache.config) (in_range : I
         cell = in_range;
         taken = q;
         takes = t;
+        stands = stands;
         makes = (0, refl);
         party = record {
           row = (k.table ∙ party.row.0, k.parties ∙ party.row.1);
@@ -86,7 +87,7 @@ module _ (cache : Cache) (i : ℕ) (valid : IsConfig cache.config) (in_range : I
         recorded = cell-is.recorded;
         claims = ap (λ (l : Ledger). l.claims) k.ledger;
       };
-      cell = done-none q.number before.value sound-is;
+      cell = done-none q.number before.value sound-is cell-is.sound.tells;
       holds = record {
         count = λ j. ap (holds_on j) (sym cell-is.listed);
         among = λ j h at. (j, subst (λ (l : List Ptr). get_elem? l j ≡ some h) (sym cell-is.listed) at);
@@ -108,7 +109,7 @@ module _ (cache : Cache) (i : ℕ) (valid : IsConfig cache.config) (in_range : I
       cell-is = subst (IsTakenCell dbuf_meanings cache.config i before p) (sym t.took) (taken-cell dbuf_meanings cache.config i before t.owners t.knew p valid party.config in_range t.lost t.free)
 
       sound-is : IsSound before.value
-      sound-is = cell-is.sound
+      sound-is = cell-is.sound.sound
 
       looks : (j : ℕ) → IsAmong j (i ∷ p.held) → IsCell cache.config j
       looks j (inl e) = subst (IsCell cache.config) e in_range
@@ -141,6 +142,7 @@ module _ (cache : Cache) (i : ℕ) (p : PartyPlace) (before : OnHeap) (es : List
     cell = h.cell;
     taken = h.taken;
     takes = h.takes;
+    stands = h.stands;
     makes = makes-more cache.config es h.taken q r e k h.makes key d;
     party = stays_party cache q r stays h.party;
     look = stays_free cache q r stays h.look;
@@ -161,6 +163,7 @@ module _ (cache : Cache) (i : ℕ) (p : PartyPlace) (before : OnHeap) (es : List
     cell = h.cell;
     taken = h.taken;
     takes = h.takes;
+    stands = h.stands;
     makes = looks-more cache.config es h.taken q r k h.makes d;
     party = stays_party cache q r stays h.party;
     look = stays_free cache q r stays h.look;
@@ -206,7 +209,7 @@ module _ (cache : Cache) (i : ℕ) (p : PartyPlace) (before : OnHeap) (evicting 
   may-give = record {
     taken = before;
     recorded = h.party.recorded;
-    sound = done-sound q.number before.value now.value evicting news h.cell settled fit;
+    sound = record { sound = done-sound q.number before.value now.value evicting news h.cell settled fit; tells = h.cell.tells };
     holds = h.holds;
     more = map event_numbers news;
     entries = ap (map event_numbers) h.cell.history ∙ map-append event_numbers before.value.history news;
@@ -224,6 +227,8 @@ module _ (cache : Cache) (i : ℕ) (p : PartyPlace) (before : OnHeap) (evicting 
       takes = h.party.takes;
       makes = h.party.makes;
       sound = h.cell.sound;
+      stands = h.party.stands;
+      tells = h.cell.told;
       history = h.cell.history;
       evicting = evicting;
       bases = h.cell.bases;

@@ -1,5 +1,5 @@
 -- What is so of a cell in hand to which a part of a block was written.
-use Rattle.std.proofs.Common.{◌≡◌, ◌⊎◌, ℕ, ◌+◌, ◌-◌, ◌≤◌, nat_le, Bool, true, false, not, ◌&&◌, if◌then◌else◌, IsTrue, List, [], ◌∷◌, ◌++◌, length, Option, Some, None, refl, sym, ap, ◌∙◌, subst, inl, inr, arith}
+use Rattle.std.proofs.Common.{◌≡◌, ℕ, ◌+◌, ◌-◌, ◌≤◌, nat_le, Bool, true, false, not, ◌&&◌, if◌then◌else◌, IsTrue, List, [], ◌∷◌, ◌++◌, length, Option, Some, None, refl, sym, ap, ◌∙◌, subst, inl, inr, arith}
 use Rattle.std.specs.Prelude.{IfErr, IfSome, OnErr, OnOk, Result, Ok, Err}
 use Rattle.std.specs.Option.{option_map, option_map_or}
 use Rattle.std.proofs.lemmas.Bool.{false≢true}
@@ -26,7 +26,7 @@ use Rattle.dbuf_state.specs.Objects.{AreBytesOf, Evicting, IsBaseAt, Must, Plain
 use Rattle.dbuf_state.specs.Objects as plain
 use Rattle.dbuf_state.specs.Outline.{Outline, OutlineDbuf, after_all, is_cached_at, mapped_at, outline_of}
 use Rattle.dbuf_state.specs.Outline as outline
-use Rattle.dbuf_state.specs.Oids.{item_at}
+use Rattle.dbuf_state.specs.Oids.{item_at, oid_eq}
 use Rattle.dbuf_state.specs.Soundness.{holds_in, plain_cell}
 use Rattle.dbuf_state.specs.declared.dbuf.Content.{Content}
 use Rattle.dbuf_state.specs.declared.dbuf.Content.TheVariants.{Clean, Dirty}
@@ -42,24 +42,27 @@ use Rattle.dbuf_state.specs.declared.state.Mapped.{Mapped}
 use Rattle.dbuf_state.specs.declared.state.Mapped.TheVariants as mapped
 use Rattle.dbuf_state.specs.declared.window.Window.{Window}
 use Rattle.dbuf_state.proofs.HandLemmas.{claims-stay, holds-stay, holds-stay-by-note, plain-dbuf-is, rest-stays, claims-stay-by-note}
-use Rattle.dbuf_state.proofs.IndexLemmas.{and-both}
+use Rattle.dbuf_state.proofs.IndexLemmas.{and-both, bool_cases}
 use Rattle.dbuf_state.proofs.OutlineLemmas.{cell-is-in-outline, leads-outline}
 use Rattle.dbuf_state.proofs.StepLemmas.{patch-follows, patch-of-clean-follows}
 use Rattle.dbuf_cells.specs.Accessing.{EndsInside, Gets, Refuses, no_bytes, no_key}
-use Rattle.dbuf_cells.specs.InHand.{Finishes, Gives, GivesUp, HasGiven, HasDone, InHand, IsOut, MayEvict, MayGive, ClaimsAre, AreClaimedAlike}
+use Rattle.dbuf_cells.specs.InHand.{Finishes, Gives, GivesUp, HasGiven, HasDone, HoldsStay, InHand, IsOut, MayEvict, MayGive, ClaimsAre, AreClaimedAlike}
 use Rattle.dbuf_cells.specs.Kept.{bytes_of, is_held, key_of}
 use Rattle.dbuf_cells.specs.Loading.{HasBrought, Tests, mapped_in}
 use Rattle.dbuf_cells.specs.Patching.{ChecksKey, EndsPatch, HasPatched, IsPatched, IsSizedIn, TakesOver, Writes}
-use Rattle.dbuf_cells.specs.Putting.{ReleasesAtMost, no_hold, one_hold}
-use Rattle.dbuf_cells.specs.Turns.{OnHeap, Operates, PartyPlace, holds_of, outline_in, KeepsClaims}
+use Rattle.dbuf_cells.specs.Putting.{Releases, no_hold, one_hold}
+use Rattle.dbuf_cells.specs.Turns.{OnHeap, Operates, PartyPlace, held_at, held_in, holds_of, outline_in, KeepsClaims}
 use Rattle.dbuf_cells.specs.declared.kept.Kept.{Kept}
 use Rattle.dbuf_cells.proofs.Acts.{IsReadFault, has-its-bytes, no-room, no-room-party, after-claims}
 use Rattle.dbuf_cells.proofs.Bringings.{in-outline}
-use Rattle.dbuf_cells.proofs.CellSteps.{done-more, length-change, length-touched, test-of}
+use Rattle.dbuf_cells.proofs.Holders.{held-as, operates-as, stays-noted, stays-out, stays-roomy, stays-same, stays-then}
+use Rattle.dbuf_cells.specs.Bringing.{held_behind}
+use Rattle.dbuf_cells.proofs.CellSteps.{done-more, length-change, length-touched, test-of, oid-is}
 use Rattle.dbuf_cells.proofs.Copies.{dirtied-dirty, dirtied-inside}
 use Rattle.dbuf_cells.proofs.Evictions.{has-of, kept-out}
 use Rattle.dbuf_cells.proofs.Operations.{after-alike, hand-room, operates, plain-test, rest-of, room-settled}
-use Rattle.dbuf_cells.proofs.PutSteps.{GivenUp, given-up, same-party}
+use Rattle.dbuf_cells.proofs.PutSteps.{GivenUp, IsReleaseOf, given-up, same-party}
+use Rattle.dbuf_state.proofs.HeldLemmas.{held-cleared, held-same}
 
 -- ---- the outline of a cell in hand
 
@@ -136,6 +139,13 @@ cached-none m at (Clean ptr) state.Fill h = absurd (false≢true h)
 cached-none m at (Clean ptr) state.Cached h = refl
 cached-none m at (Clean ptr) state.Evicting h = absurd (false≢true h)
 
+-- where no hold is kept none is let go
+none-already : (at b : Oid) (ds : List (Dbuf Kept)) → held_at ds at ≡ false → (if oid_eq b at then false else held_at ds b) ≡ held_at ds b
+none-already at b ds loose = elim (bool_cases (oid_eq b at)) [
+  | inl same ↦ let none : held_at ds b ≡ false = ap (held_at ds) (oid-is b at same) ∙ loose in rw same (sym none)
+  | inr other ↦ rw other refl
+]
+
 -- ---- the cell
 
 module _ (cache : Cache) (i : ℕ) (p : PartyPlace) (before : OnHeap) (evicting : Evicting) (news : List CellEvent) (es : List Event) (now : CellLog Kept) (q r : PartyPlace) (h : InHand cache i p before evicting news es now q)
@@ -173,14 +183,20 @@ module _ (cache : Cache) (i : ℕ) (p : PartyPlace) (before : OnHeap) (evicting 
       (patch-of-clean-follows now n at from bytes (bytes_of k)) who
       (written-rest X (rest-stays at (dirty_with (bytes_of k)) now.dbufs (λ d found. refl) h.cell.rest))
       (λ k' other. written-claims k' X ∙ claims-stay at (dirty_with (bytes_of k)) k' now.dbufs (λ d found. sym (cached-none k' d.at d.content d.state (test-of (is_clean_in is_cached) at now.dbufs d clean found))))
+      (λ b. held-same is_held at (written_at from bytes) (λ d. refl) (λ d. refl) X b ∙ held-cleared is_held at (dirty_with (bytes_of k)) (λ d. refl) (λ d. refl) now.dbufs b)
 
   -- of a dirty one
-  done-dirty : dbuf_is is_dirty at now.dbufs ≡ true → HasDone q.number before.value Must (news ++ Patch n at from bytes ∷ []) (noted (Patch n at from bytes) (record now { dbufs = with_dbuf at (written_at from bytes) now.dbufs }))
-  done-dirty dirty =
+  done-dirty : dbuf_is is_dirty at now.dbufs ≡ true → held_at now.dbufs at ≡ false → HasDone q.number before.value Must (news ++ Patch n at from bytes ∷ []) (noted (Patch n at from bytes) (record now { dbufs = with_dbuf at (written_at from bytes) now.dbufs }))
+  done-dirty dirty loose =
       let b = dirty-list at now.dbufs dirty in
       done-more q.number before.value now evicting news h.cell (Patch n at from bytes) b.0 (with_dbuf at (written_at from bytes) now.dbufs) patch-legal
       (base-at b.0 evicting now at (λ d found. let is = has-of (λ x. x.content ≡ Dirty b.0) (dbuf_at at now.dbufs) d b.1 found in subst (λ (c : Content). AreBytesOf b.0 (plain_block c d.state)) (sym is) refl))
       (patch-follows now n at from bytes b.0 b.1) who (written-rest now.dbufs h.cell.rest) (λ k' other. written-claims k' now.dbufs)
+      (λ b'. held-same is_held at (written_at from bytes) (λ d. refl) (λ d. refl) now.dbufs b' ∙ sym (none-already at b' now.dbufs loose))
+
+still-clean : (from : ℕ) (bytes : List ℕ) (c : Content) (s : DbState) → (is_clean (written from bytes c) && is_cached s) ≡ (is_clean c && is_cached s)
+still-clean from bytes (Clean ptr) s = refl
+still-clean from bytes (Dirty old) s = refl
 
 -- ---- the call
 
@@ -202,7 +218,8 @@ module _ (cache : Cache) (i : ℕ) (n : ℕ) (at : Oid) (from : ℕ) (bytes : Li
 
   pub record Patched (p : PartyPlace) (before : OnHeap) (news : List CellEvent) (es : List Event) (r : PartyPlace) : Type 0 where
     pub released : List Event
-    pub releases : ReleasesAtMost (cell_number cache.config i) at (after_all (outline_in before) news) released
+    pub releases : Releases (cell_number cache.config i) at (held_at now.dbufs at) (after_all (outline_in before) news) released
+    pub stay : HoldsStay now.dbufs c.dbufs
     pub hand : InHand cache i p before Must (news ++ Patch n at from bytes ∷ []) (es ++ released) c r
 
   pub patched : (r : PartyPlace) → GivesUp cache.config i kept q r → (p : PartyPlace) (before : OnHeap) (evicting : Evicting) (news : List CellEvent) (es : List Event) → IsTrue (not (is_due (plain_cell evicting now)))
@@ -215,13 +232,18 @@ module _ (cache : Cache) (i : ℕ) (n : ℕ) (at : Oid) (from : ℕ) (bytes : Li
       s : IsTrue (not (is_due (plain_cell evicting u.roomy)))
       s = room-settled evicting now u.roomy u.made settled
 
+      -- what is written over a dirty block says nothing of what others keep
+      stays-written : (x : CellLog Kept) → HoldsStay now.dbufs x.dbufs → HoldsStay now.dbufs (noted (Patch n at from bytes) (record x { dbufs = with_dbuf at (written_at from bytes) x.dbufs })).dbufs
+      stays-written x stay = stays-noted (Patch n at from bytes) (record x { dbufs = with_dbuf at (written_at from bytes) x.dbufs }) now.dbufs
+          (stays-then now.dbufs x.dbufs (with_dbuf at (written_at from bytes) x.dbufs) stay (stays-same at (written_at from bytes) (λ d. refl) (λ d. still-clean from bytes d.content d.state) (λ d. refl) x.dbufs))
+
       told : (k : Kept) (released : List Event) → DbufHas (λ d. IsOfContent key_of bytes_of k d.content) (dbuf_at at u.roomy.dbufs) → dbuf_is (is_clean_in is_cached) at u.roomy.dbufs ≡ true
-          → (released ≡ []) ⊎ ((x : Kept) × (sole : Bool) × (◌≡◌ {A = Option Kept} (Some k) (Some x)) × (released ≡ Release (cell_number cache.config i) (key_of x) sole ∷ []))
-          → ReleasesAtMost (cell_number cache.config i) at (after_all (outline_in before) news) released
-      told k released of clean (inl none) = no_hold none
-      told k released of clean (inr one) =
+          → held_at now.dbufs at ≡ is_held k → IsReleaseOf (cell_number cache.config i) (Some k) released
+          → Releases (cell_number cache.config i) at (held_at now.dbufs at) (after_all (outline_in before) news) released
+      told k released of clean was (inl none) = no_hold (was ∙ none.0) none.1
+      told k released of clean was (inr one) =
           let ptr = pointer of in
-          one_hold ptr.0 one.1 (mapped-now cache i p before evicting news es u.roomy q h at ∙ ptr.1) (cached-now cache i p before evicting news es u.roomy q h at ∙ clean)
+          one_hold (was ∙ (ap is_held (some-one k one.0 one.2) ∙ one.4)) ptr.0 one.1 (mapped-now cache i p before evicting news es u.roomy q h at ∙ ptr.1) (cached-now cache i p before evicting news es u.roomy q h at ∙ clean)
           (one.3 ∙ ap (λ (x : Key). Release (cell_number cache.config i) x one.1 ∷ []) (ap key_of (sym (some-one k one.0 one.2)) ∙ ptr.2))
         where
           some-one : (a b : Kept) → ◌≡◌ {A = Option Kept} (Some a) (Some b) → a ≡ b
@@ -240,18 +262,18 @@ module _ (cache : Cache) (i : ℕ) (n : ℕ) (at : Oid) (from : ℕ) (bytes : Li
 
       go : (o : Option Kept) → TakesOver at o u.roomy u.owned → GivesUp cache.config i o q r → c ≡ noted (Patch n at from bytes) (record u.owned { dbufs = with_dbuf at (written_at from bytes) u.owned.dbufs }) → Patched p before news es r
       go None t g is =
-          let up = same-party cache i p before evicting news es u.roomy q r h None (holds_of u.roomy) h.holds g in
-          let hand = patch-with cache i p before evicting news es u.roomy q r h n at from bytes who s cached-roomy inside-roomy u.roomy.dbufs None (done-dirty cache i p before evicting news es u.roomy q r h n at from bytes who s cached-roomy inside-roomy t.dirty) up in
+          let up = same-party cache i p before evicting news es u.roomy q r h None (holds_of u.roomy) refl h.holds g in
+          let hand = patch-with cache i p before evicting news es u.roomy q r h n at from bytes who s cached-roomy inside-roomy u.roomy.dbufs None (done-dirty cache i p before evicting news es u.roomy q r h n at from bytes who s cached-roomy inside-roomy t.dirty t.loose) up in
           record {
             released = up.released;
             releases = none up.released up.told;
+            stay = subst (λ (x : CellLog Kept). HoldsStay now.dbufs x.dbufs) (sym is) (stays-written u.owned (subst (λ (x : CellLog Kept). HoldsStay now.dbufs x.dbufs) (sym t.same) (stays-roomy now u.roomy u.made)));
             hand = subst (λ (x : CellLog Kept). InHand cache i p before Must (news ++ Patch n at from bytes ∷ []) (es ++ up.released) x r)
                 (sym (is ∙ ap (λ (x : CellLog Kept). noted (Patch n at from bytes) (record x { dbufs = with_dbuf at (written_at from bytes) x.dbufs })) t.same)) hand;
           }
         where
-          none : (released : List Event) → (released ≡ []) ⊎ ((x : Kept) × (sole : Bool) × (◌≡◌ {A = Option Kept} None (Some x)) × (released ≡ Release (cell_number cache.config i) (key_of x) sole ∷ []))
-              → ReleasesAtMost (cell_number cache.config i) at (after_all (outline_in before) news) released
-          none released (inl e) = no_hold e
+          none : (released : List Event) → IsReleaseOf (cell_number cache.config i) None released → Releases (cell_number cache.config i) at (held_at now.dbufs at) (after_all (outline_in before) news) released
+          none released (inl e) = no_hold (ap (λ (x : CellLog Kept). held_at x.dbufs at) (sym u.made) ∙ t.loose) e.1
           none released (inr one) = absurd (let clash : ◌≡◌ {A = Option Kept} None (Some one.0) = one.2 in cc)
       go (Some k) t g is =
           let up = given-up cache i p before evicting news es u.roomy q r h at (dirty_with (bytes_of k)) (λ d. refl) k t.there g in
@@ -259,7 +281,10 @@ module _ (cache : Cache) (i : ℕ) (n : ℕ) (at : Oid) (from : ℕ) (bytes : Li
           (done-clean cache i p before evicting news es u.roomy q r h n at from bytes who s cached-roomy inside-roomy k t.cached t.of) up in
           record {
             released = up.released;
-            releases = told k up.released t.of t.cached up.told;
+            releases = told k up.released t.of t.cached (ap (λ (x : CellLog Kept). held_at x.dbufs at) (sym u.made) ∙ held-as at k u.roomy.dbufs t.there) up.told;
+            stay = subst (λ (x : CellLog Kept). HoldsStay now.dbufs x.dbufs) (sym is)
+                (stays-written u.owned (subst (λ (x : CellLog Kept). HoldsStay now.dbufs x.dbufs) (sym t.taken)
+                (stays-then now.dbufs u.roomy.dbufs (with_dbuf at (dirty_with (bytes_of k)) u.roomy.dbufs) (stays-roomy now u.roomy u.made) (stays-out at (dirty_with (bytes_of k)) (λ d. refl) (λ d. refl) u.roomy.dbufs))));
             hand = subst (λ (x : CellLog Kept). InHand cache i p before Must (news ++ Patch n at from bytes ∷ []) (es ++ up.released) x r)
                 (sym (is ∙ ap (λ (x : CellLog Kept). noted (Patch n at from bytes) (record x { dbufs = with_dbuf at (written_at from bytes) x.dbufs })) t.taken)) (other-room up.released hand);
           }
@@ -280,10 +305,10 @@ module _ (cache : Cache) (i : ℕ) (n : ℕ) (at : Oid) (from : ℕ) (bytes : Li
   patch-ends r s gives finishes p before evicting news es settled h =
       let x = patched r gives p before evicting news es settled h in
       let f = finishes p before Must (news ++ Patch n at from bytes ∷ []) (es ++ x.released) refl x.hand in
-      subst (λ (m : ℕ). HasPatched cache i at from bytes m p before news es s) who record {
+      subst (λ (m : ℕ). HasPatched cache i at from bytes m p before (held_at now.dbufs) news es s) who record {
         released = x.released;
         releases = x.releases;
-        operates = operates cache i p before Must (news ++ Patch n at from bytes ∷ []) (es ++ x.released) c r x.hand s f;
+        operates = operates cache i p before Must (news ++ Patch n at from bytes ∷ []) (es ++ x.released) c r x.hand (held_at now.dbufs) (λ b on. (x.stay b on).1) s f;
         party = f.given.party;
         held = f.given.held;
         number = f.given.number;
@@ -361,7 +386,7 @@ module _ {P D : Type 0} (pools : PoolGhosts P) (devices : DeviceGhosts D) (cache
   refuses-patch (fault.NoPin named) is inside refuses = absurd is
 
   module _ (result : OnHeap) (q : PartyPlace) (b : HasBrought pools devices cache i at tick before now cell p result q) where
-    patched-by : EndsPatch cache i at from bytes result.value q r → HasPatched cache i at from bytes q.number b.back b.mid b.loads b.hands r
+    patched-by : EndsPatch cache i at from bytes result.value q r → HasPatched cache i at from bytes q.number b.back b.mid (held_at result.value.dbufs) b.loads b.hands r
     patched-by ends = ends b.back b.mid b.evicting b.loads b.hands b.settled b.hand
 
     pub patch-answers : (done : Result (Unit {0}) DbufFault) → EndsInside pools devices cache.config i at tick before now (from + length bytes) cell → OnOk done (EndsPatch cache i at from bytes result.value q r)
@@ -375,8 +400,9 @@ module _ {P D : Type 0} (pools : PoolGhosts P) (devices : DeviceGhosts D) (cache
           hands = b.hands;
           brings = b.brings;
           es = x.released;
-          releases = x.releases;
-          operates = subst (λ (n : ℕ). Operates cache.config i b.mid (b.loads ++ Patch n at from bytes ∷ []) (b.hands ++ x.released) b.back r) (b.hand.party.number ∙ b.number) x.operates;
+          releases = subst (λ (h : Bool). Releases (cell_number cache.config i) at h (after_all (outline_in b.mid) b.loads) x.released) (b.holds at) x.releases;
+          operates = operates-as (held_at result.value.dbufs) (held_behind at b.loads b.hands (held_in b.mid)) b.holds
+              (subst (λ (n : ℕ). Operates cache.config i b.mid (held_at result.value.dbufs) (b.loads ++ Patch n at from bytes ∷ []) (b.hands ++ x.released) b.back r) (b.hand.party.number ∙ b.number) x.operates);
         }
     patch-answers (Err e) inside ok err why =
         refuses-patch e (subst IsReadFault (sym why) tt) inside (subst (Refuses pools devices cache.config i at tick before now cell p r) (sym why) (no-room pools devices cache i at tick before now cell p result q b r err))

@@ -39,7 +39,7 @@ use Rattle.dbuf_state.proofs.IndexLemmas.{and-parts, bool_cases}
 use Rattle.dbuf_state.proofs.StepLemmas.{put-follows}
 use Rattle.dbuf_cells.specs.InHand.{GivesUp, HasDone, HasTaken, InHand, IsAtRest, is_kept_by}
 use Rattle.dbuf_cells.specs.Kept.{bytes_of, is_held, key_of}
-use Rattle.dbuf_cells.specs.Turns.{OnHeap, PartyPlace, dbuf_meanings, holds_of}
+use Rattle.dbuf_cells.specs.Turns.{OnHeap, PartyPlace, dbuf_meanings, held_at, holds_of}
 use Rattle.dbuf_cells.specs.declared.kept.Kept.{Kept}
 use Rattle.dbuf_cells.specs.declared.kept.Kept.TheVariants.{Held, Loose}
 use Rattle.dbuf_cells.proofs.CellSteps.{done-more}
@@ -47,6 +47,7 @@ use Rattle.dbuf_cells.proofs.Evictions.{has-of, is-dbuf, left-held, left-loose}
 use Rattle.dbuf_cells.proofs.HoldLists.{kept-one, one-less, taken-out}
 use Rattle.dbuf_cells.proofs.Operations.{rest-of}
 use Rattle.dbuf_cells.proofs.PartySteps.{alike-listed, among-held, taken-more}
+use Rattle.dbuf_state.proofs.HeldLemmas.{held-item}
 
 -- ---- what may be written
 
@@ -145,18 +146,22 @@ release-lists cache i p before es q r h k sole d =
     cell-lists dbuf_meanings cache.config h.valid k (Release c k sole ∷ []) q r h.party.config d i h.cell (among-held cache i p before es q r h)
     ∙ ap (λ (b : Bool). if b then without_hold k hs else hs) (eq-eqb c c refl)
 
+-- a release with the cell's number c of the hold that was kept, or none where what was kept, if anything, was no hold
+abbrev pub IsReleaseOf : (c : ℕ) → Option Kept → List Event → Type 0
+IsReleaseOf c kept es = ((option_map_or is_held kept false ≡ false) × (es ≡ [])) ⊎ ((k : Kept) × (sole : Bool) × (kept ≡ Some k) × (es ≡ Release c (key_of k) sole ∷ []) × (is_held k ≡ true))
+
 -- the party once it has given up what a dbuf kept, and what it lists then
 pub record GivenUp (cache : Cache) (i : ℕ) (p : PartyPlace) (before : OnHeap) (es : List Event) (kept : Option Kept) (left : List Ptr) (r : PartyPlace) : Type 0 where
   pub released : List Event
-  pub told : (released ≡ []) ⊎ ((k : Kept) × (sole : Bool) × (kept ≡ Some k) × (released ≡ Release (cell_number cache.config i) (key_of k) sole ∷ []))
+  pub told : IsReleaseOf (cell_number cache.config i) kept released
   pub party : HasTaken cache i p before (es ++ released) r
   pub holds : AreHolds left (list_at i r.own.listed)
 
 module _ (cache : Cache) (i : ℕ) (p : PartyPlace) (before : OnHeap) (evicting : Evicting) (news : List CellEvent) (es : List Event) (old : CellLog Kept) (q r : PartyPlace) (h : InHand cache i p before evicting news es old q) where
-  pub same-party : (kept : Option Kept) (left : List Ptr) → AreHolds left (list_at i q.own.listed) → r ≡ q → GivenUp cache i p before es kept left r
-  same-party kept left holds is = subst (GivenUp cache i p before es kept left) (sym is) record {
+  pub same-party : (kept : Option Kept) (left : List Ptr) → option_map_or is_held kept false ≡ false → AreHolds left (list_at i q.own.listed) → r ≡ q → GivenUp cache i p before es kept left r
+  same-party kept left loose holds is = subst (GivenUp cache i p before es kept left) (sym is) record {
     released = [];
-    told = inl refl;
+    told = inl (loose, refl);
     party = subst (λ (l : List Event). HasTaken cache i p before l q) (sym (append-nil es)) h.party;
     holds = holds;
   }
@@ -170,7 +175,7 @@ module _ (cache : Cache) (i : ℕ) (p : PartyPlace) (before : OnHeap) (evicting 
       let listed = h.holds.among one.0 (ptr_of hold) one.1 in
       record {
         released = Release (cell_number cache.config i) hold.key back.0 ∷ [];
-        told = inr (Held hold, back.0, refl, refl);
+        told = inr (Held hold, back.0, refl, refl, refl);
         party = taken-more cache i p before es q r h.party (Release (cell_number cache.config i) hold.key back.0) hold.key refl back.1;
         holds = subst (AreHolds (holds_in key_of bytes_of is_held (with_dbuf at f old.dbufs))) (sym (release-lists cache i p before es q r h.party hold.key back.0 back.1))
             (one-less hold.key (ptr_of hold) (holds_of old) (holds_in key_of bytes_of is_held (with_dbuf at f old.dbufs)) (list_at i q.own.listed) h.holds
@@ -180,7 +185,7 @@ module _ (cache : Cache) (i : ℕ) (p : PartyPlace) (before : OnHeap) (evicting 
       }
   given-up at f none-kept (Loose key block) there back =
       let d = is-dbuf (λ x. x.kept ≡ Some (Loose key block)) (dbuf_at at old.dbufs) there in
-      same-party (Some (Loose key block)) (holds_in key_of bytes_of is_held (with_dbuf at f old.dbufs))
+      same-party (Some (Loose key block)) (holds_in key_of bytes_of is_held (with_dbuf at f old.dbufs)) refl
       (record {
         count = λ j. left-loose at f none-kept old.dbufs d.dbuf (Some (Loose key block)) d.there d.has refl j ∙ h.holds.count j;
         among = λ j x at'. let one = taken-out at f none-kept x old.dbufs (j, at') in h.holds.among one.0 x one.1;
@@ -200,6 +205,16 @@ keeps-none d fit uncached = go d.content d.state d.kept fit uncached
     go (content.Dirty bytes) s o f u = none-of o (and-parts (is_cached s) (is_none o) f.0).1
     go (content.Clean ptr) s None f u = refl
     go (content.Clean ptr) s (Some k) f u = absurd (false≢true (sym u ∙ f.0))
+
+-- and no hold
+pub none-held : (at : Oid) (ds : List (Dbuf Kept)) → AllByRecursion (IsFit key_of bytes_of) ds → dbuf_is (is_clean_in is_cached) at ds ≡ false → held_at ds at ≡ false
+none-held at ds fit uncached = go (dbuf_at at ds) refl
+  where
+    go : (o : Option (Dbuf Kept)) → dbuf_at at ds ≡ o → option_map_or (λ d. option_map_or is_held d.kept false) o false ≡ false
+    go None found = refl
+    go (Some d) found = ap (λ (k : Option Kept). option_map_or is_held k false) (keeps-none d
+        (has-of (IsFit key_of bytes_of) (dbuf_at at ds) d (all-found (IsFit key_of bytes_of) (λ x. true) at ds fit (ap (λ (o : Option (Dbuf Kept)). option_map_or (λ x. true) o false) found)) found)
+        (ap (λ (o : Option (Dbuf Kept)). option_map_or (is_clean_in is_cached) o false) (sym found) ∙ uncached))
 
 module _ (cache : Cache) (i : ℕ) (p : PartyPlace) (before : OnHeap) (evicting : Evicting) (news : List CellEvent) (es : List Event) (now : CellLog Kept) (q r : PartyPlace) (h : InHand cache i p before evicting news es now q)
     (n : ℕ) (at : Oid) (size fill : ℕ) (who : n ≡ q.number) (settled : IsTrue (not (is_due (plain_cell evicting now)))) (quiet : IsAtRest at now.dbufs) where
@@ -229,7 +244,7 @@ module _ (cache : Cache) (i : ℕ) (p : PartyPlace) (before : OnHeap) (evicting 
           (subst (λ (l : List Ptr). AreHolds l (list_at i q.own.listed)) (sym (holds-stay-by-new key_of bytes_of is_held now.dbufs (new-dbuf at bytes now.dbufs) refl)) h.holds)
 
   pub put-with : (kept : Option Kept) → GivenUp cache i p before es kept (holds_in key_of bytes_of is_held (written-to at bytes now.dbufs)) r → (released : List Event) × InHand cache i p before Must (news ++ Put n at size fill ∷ []) (es ++ released) put-to r
-      × ((released ≡ []) ⊎ ((k : Kept) × (sole : Bool) × (kept ≡ Some k) × (released ≡ Release (cell_number cache.config i) (key_of k) sole ∷ [])))
+      × IsReleaseOf (cell_number cache.config i) kept released
   put-with kept up =
       let number : r.number ≡ q.number = up.party.number ∙ sym h.party.number in (
         up.released,
@@ -237,7 +252,8 @@ module _ (cache : Cache) (i : ℕ) (p : PartyPlace) (before : OnHeap) (evicting 
           party = up.party;
           cell = subst (λ (m : ℕ). HasDone m before.value Must (news ++ Put n at size fill ∷ []) put-to) (sym number)
               (done-more q.number before.value now evicting news h.cell (Put n at size fill) [] (written-to at bytes now.dbufs) settled tt (put-follows now n at size fill) who (written-rest at bytes now.dbufs h.cell.rest)
-              (λ k other. written-claims at bytes now.dbufs quiet k));
+              (λ k other. written-claims at bytes now.dbufs quiet k)
+              (held-item is_held at (dirty_with bytes) (λ d. refl) (λ d. refl) (new-dbuf at bytes now.dbufs) refl refl now.dbufs));
           holds = subst (λ (l : List Ptr). AreHolds l (list_at i r.own.listed)) (sym (holds-stay-by-note key_of bytes_of is_held (length now.history + 1) (Some at) (written-to at bytes now.dbufs))) up.holds;
         },
         up.told,

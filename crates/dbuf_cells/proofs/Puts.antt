@@ -1,5 +1,5 @@
 -- What is so of a cell in hand to which a whole block was written.
-use Rattle.std.proofs.Common.{◌≡◌, ◌⊎◌, ℕ, ◌+◌, ◌-◌, ◌≤◌, ◌<◌, Bool, List, [], ◌∷◌, length, replicate, Option, Some, None, refl, sym, ap, ◌∙◌, subst, inl, inr, arith}
+use Rattle.std.proofs.Common.{◌≡◌, ℕ, ◌+◌, ◌-◌, ◌≤◌, ◌<◌, false, List, [], ◌∷◌, length, replicate, Option, Some, None, refl, sym, ap, ◌∙◌, subst, inl, inr, arith}
 use Rattle.std.specs.Prelude.{IfSome}
 use Rattle.std.specs.List.{AllByRecursion}
 use Rattle.blk_ptr.specs.declared.key.Key.{Key}
@@ -7,6 +7,7 @@ use Rattle.arc_core.specs.declared.event.Event.{Event}
 use Rattle.arc_core.specs.declared.event.Event.TheVariants.{Release}
 use Rattle.arc_table.specs.Cache.{Cache}
 use Rattle.arc_table.specs.Geometry.{cell_number}
+use Rattle.std.specs.Option.{option_map_or}
 use Rattle.dbuf_state.specs.CellLog.{CellLog, noted}
 use Rattle.dbuf_state.specs.Dbufs.{DbufHas, IsFit, IsOfContent, dbuf_at, dbuf_is, dirty_with, is_cached, is_clean_in, without_kept}
 use Rattle.dbuf_state.specs.Objects.{Must, Never}
@@ -18,15 +19,16 @@ use Rattle.dbuf_state.specs.declared.state.DbState.TheVariants as state
 use Rattle.dbuf_state.proofs.FitLemmas.{item-changed}
 use Rattle.dbuf_state.proofs.HandLemmas.{dirty-hides-unkept, claims-stay-by-note}
 use Rattle.dbuf_state.proofs.OutlineLemmas.{cell-is-in-outline}
-use Rattle.dbuf_cells.specs.InHand.{Finishes, GivesUp, HasFinished, InHand, IsAtRest, IsOut, IsPut, IsRoomier, MayEvict, TakesAtRest, TakesOut, AreClaimedAlike}
+use Rattle.dbuf_cells.specs.InHand.{Finishes, GivesUp, HasFinished, HoldsStay, InHand, IsAtRest, IsOut, IsPut, IsRoomier, MayEvict, TakesAtRest, TakesOut, AreClaimedAlike}
 use Rattle.dbuf_cells.specs.Kept.{bytes_of, is_held, key_of}
-use Rattle.dbuf_cells.specs.Putting.{Puts, ReleasesAtMost, no_hold, one_hold}
-use Rattle.dbuf_cells.specs.Turns.{OnHeap, PartyPlace, outline_in}
+use Rattle.dbuf_cells.specs.Putting.{Puts, Releases, no_hold, one_hold}
+use Rattle.dbuf_cells.specs.Turns.{OnHeap, PartyPlace, held_at, held_in, outline_in}
 use Rattle.dbuf_cells.specs.declared.kept.Kept.{Kept}
 use Rattle.dbuf_cells.proofs.CellSteps.{length-change, length-item, length-touched}
 use Rattle.dbuf_cells.proofs.Evictions.{has-dbuf, kept-out, pointed}
 use Rattle.dbuf_cells.proofs.Operations.{hand-roomier, operates}
-use Rattle.dbuf_cells.proofs.PutSteps.{GivenUp, given-up, holds-none, new-dbuf, put-to, put-with, same-party, written-to, written-claims}
+use Rattle.dbuf_cells.proofs.Holders.{held-as, stays-new, stays-noted, stays-roomy, stays-then}
+use Rattle.dbuf_cells.proofs.PutSteps.{GivenUp, IsReleaseOf, none-held, given-up, holds-none, new-dbuf, put-to, put-with, same-party, written-to, written-claims}
 use Rattle.dbuf_cells.proofs.Unholds.{at-room, number-is}
 use Rattle.dbuf_state.specs.Numbers.{claims_in}
 
@@ -43,7 +45,8 @@ but-dbufs at (Some k) c1 c2 t ds a = ap (λ (x : CellLog Kept). record x { dbufs
 -- a cell in hand to which a whole block was written, and what it kept given up
 pub record HasPut (cache : Cache) (i : ℕ) (at : Oid) (size fill : ℕ) (ready : PartyPlace) (before : OnHeap) (c : CellLog Kept) (r : PartyPlace) : Type 0 where
   pub released : List Event
-  pub releases : ReleasesAtMost (cell_number cache.config i) at (outline_in before) released
+  pub releases : Releases (cell_number cache.config i) at (held_in before at) (outline_in before) released
+  pub stay : HoldsStay before.value.dbufs c.dbufs
   pub hand : InHand cache i ready before Must (Put ready.number at size fill ∷ []) released c r
 
 module _ (cache : Cache) (i : ℕ) (at : Oid) (p : PartyPlace) (before : OnHeap) (q : PartyPlace) (t : TakesAtRest cache i at p before q) (c1 : CellLog Kept) (log : IsRoomier before.value c1)
@@ -59,7 +62,7 @@ module _ (cache : Cache) (i : ℕ) (at : Oid) (p : PartyPlace) (before : OnHeap)
   up-of : (kept : Option Kept) (c2 : CellLog Kept) (r : PartyPlace) → TakesOut at kept c1 c2 → GivesUp cache.config i kept q r → GivenUp cache i t.ready before [] kept (holds_in key_of bytes_of is_held (written-to at (replicate size fill) c1.dbufs)) r
   up-of None c2 r o gives =
       let a = at-room cache i at p before q t c1 log in
-      same-party cache i t.ready before a.evicting [] [] c1 q r a.hand None (holds_in key_of bytes_of is_held (written-to at (replicate size fill) c1.dbufs))
+      same-party cache i t.ready before a.evicting [] [] c1 q r a.hand None (holds_in key_of bytes_of is_held (written-to at (replicate size fill) c1.dbufs)) refl
       (holds-none cache i t.ready before a.evicting [] [] c1 q r a.hand n at size fill who a.settled quiet fit o.uncached) gives
   up-of (Some k) c2 r o gives =
       let a = at-room cache i at p before q t c1 log in
@@ -67,15 +70,20 @@ module _ (cache : Cache) (i : ℕ) (at : Oid) (p : PartyPlace) (before : OnHeap)
       (sym (item-changed at (dirty_with (replicate size fill)) (new-dbuf at (replicate size fill) c1.dbufs) c1.dbufs (has-dbuf (λ d. d.kept ≡ Some k) at c1.dbufs o.there)))
       (given-up cache i t.ready before a.evicting [] [] c1 q r a.hand at (dirty_with (replicate size fill)) (λ d. refl) k o.there gives)
 
+  -- whether the dbuf kept a hold
+  was-held : (kept : Option Kept) (c2 : CellLog Kept) → TakesOut at kept c1 c2 → held_in before at ≡ option_map_or is_held kept false
+  was-held None c2 o = ap (λ (x : CellLog Kept). held_at x.dbufs at) (sym log) ∙ none-held at c1.dbufs fit o.uncached
+  was-held (Some k) c2 o = ap (λ (x : CellLog Kept). held_at x.dbufs at) (sym log) ∙ held-as at k c1.dbufs o.there
+
   -- the release is of the cell's number and of the block's pointer
-  releases-of : (kept : Option Kept) (c2 : CellLog Kept) (es : List Event) → TakesOut at kept c1 c2 → (es ≡ []) ⊎ ((k : Kept) × (sole : Bool) × (kept ≡ Some k) × (es ≡ Release (cell_number cache.config i) (key_of k) sole ∷ []))
-      → ReleasesAtMost (cell_number cache.config i) at (outline_in before) es
-  releases-of kept c2 es o (inl none) = no_hold none
+  releases-of : (kept : Option Kept) (c2 : CellLog Kept) (es : List Event) → TakesOut at kept c1 c2 → IsReleaseOf (cell_number cache.config i) kept es
+      → Releases (cell_number cache.config i) at (held_in before at) (outline_in before) es
+  releases-of kept c2 es o (inl none) = no_hold (was-held kept c2 o ∙ none.0) none.1
   releases-of None c2 es o (inr one) = absurd (let clash : ◌≡◌ {A = Option Kept} None (Some one.0) = one.2 in cc)
   releases-of (Some k) c2 es o (inr one) =
       let same : k ≡ one.0 = some-one k one.0 one.2 in
       let m = pointed Never before.value at k (subst (λ (x : CellLog Kept). DbufHas (λ d. IsOfContent key_of bytes_of k d.content) (dbuf_at at x.dbufs)) log o.of) in
-      one_hold m.0 one.1 m.1 (sym (cell-is-in-outline Never before.value at).cached ∙ (ap (λ (x : CellLog Kept). dbuf_is (is_clean_in is_cached) at x.dbufs) (sym log) ∙ o.cached))
+      one_hold (was-held (Some k) c2 o ∙ (ap is_held same ∙ one.4)) m.0 one.1 m.1 (sym (cell-is-in-outline Never before.value at).cached ∙ (ap (λ (x : CellLog Kept). dbuf_is (is_clean_in is_cached) at x.dbufs) (sym log) ∙ o.cached))
       (one.3 ∙ ap (λ (x : Key). Release (cell_number cache.config i) x one.1 ∷ []) (ap key_of (sym same) ∙ m.2))
     where
       some-one : (a b : Kept) → ◌≡◌ {A = Option Kept} (Some a) (Some b) → a ≡ b
@@ -94,6 +102,10 @@ module _ (cache : Cache) (i : ℕ) (at : Oid) (p : PartyPlace) (before : OnHeap)
       record {
         released = w.0;
         releases = releases-of kept c2 w.0 o w.2;
+        stay = subst (λ (x : CellLog Kept). HoldsStay before.value.dbufs x.dbufs) (sym is)
+            (stays-noted (Put n at size fill) (record c1 { dbufs = written-to at (replicate size fill) c1.dbufs }) before.value.dbufs
+            (stays-then before.value.dbufs c1.dbufs (written-to at (replicate size fill) c1.dbufs) (stays-roomy before.value c1 log)
+            (stays-new at (dirty_with (replicate size fill)) (λ d. refl) (λ d. refl) (new-dbuf at (replicate size fill) c1.dbufs) refl c1.dbufs)));
         hand = subst (λ (m : ℕ). InHand cache i t.ready before Must (Put m at size fill ∷ []) w.0 c4 r) number
             (subst (λ (x : CellLog Kept). InHand cache i t.ready before Must (Put n at size fill ∷ []) w.0 x r) (sym is)
             (hand-roomier cache i t.ready before Must (Put n at size fill ∷ []) w.0 to r w.1 c3.dbuf_room to.event_room));
@@ -120,7 +132,7 @@ module _ (cache : Cache) (i : ℕ) (at : Oid) (p : PartyPlace) (before : OnHeap)
     put-answers s finishes = record {
       es = puts.released;
       releases = puts.releases;
-      operates = operates cache i t.ready before Must (Put t.ready.number at size fill ∷ []) puts.released c r puts.hand s (put-finished s finishes);
+      operates = operates cache i t.ready before Must (Put t.ready.number at size fill ∷ []) puts.released c r puts.hand (held_in before) (λ b on. (puts.stay b on).1) s (put-finished s finishes);
     }
 
 out-rooms : (at : Oid) (kept : Option Kept) (c1 c2 : CellLog Kept) → TakesOut at kept c1 c2 → (c2.dbuf_room ≡ c1.dbuf_room) × (c2.event_room ≡ c1.event_room) × (length c2.dbufs ≡ length c1.dbufs)

@@ -92,13 +92,13 @@ written at b n new of sized (d ∷ ds) = elim (bool_cases (oid_eq b d.at)) [
 
 -- what a sync notes is the pointer of as many bytes as the block has
 abbrev FitsSync : List OutlineDbuf → CellEvent → Type 0
-FitsSync ds (Synced n b ptr) = (d : OutlineDbuf) → item_at outline.dbuf_oid b ds ≡ Some d → ptr.key.size ≡ mapped_size d.mapped
+FitsSync ds (Synced n b ptr held) = (d : OutlineDbuf) → item_at outline.dbuf_oid b ds ≡ Some d → ptr.key.size ≡ mapped_size d.mapped
 FitsSync ds (Get n b) = Unit {0}
 FitsSync ds (Put n b most fill) = Unit {0}
 FitsSync ds (Patch n b from bytes) = Unit {0}
 FitsSync ds (Pin n b) = Unit {0}
 FitsSync ds (Unpin n b) = Unit {0}
-FitsSync ds (Load n b) = Unit {0}
+FitsSync ds (Load n b held) = Unit {0}
 FitsSync ds (Evict n b) = Unit {0}
 FitsSync ds (End n) = Unit {0}
 
@@ -108,9 +108,9 @@ effect-size at ds (Put n b most fill) fits = written at b most _ refl refl ds
 effect-size at ds (Patch n b from bytes) fits = keeps at b _ (λ d. refl) ds (λ d found. refl)
 effect-size at ds (Pin n b) fits = keeps at b _ (λ d. refl) ds (λ d found. refl)
 effect-size at ds (Unpin n b) fits = keeps at b _ (λ d. refl) ds (λ d found. refl)
-effect-size at ds (Load n b) fits = keeps at b _ (λ d. refl) ds (λ d found. refl)
+effect-size at ds (Load n b held) fits = keeps at b _ (λ d. refl) ds (λ d found. refl)
 effect-size at ds (Evict n b) fits = keeps at b _ (λ d. refl) ds (λ d found. refl)
-effect-size at ds (Synced n b ptr) fits = keeps at b (λ d. record d { mapped = mapped.Clean ptr; cached = true }) (λ d. refl) ds (λ d found. fits d found)
+effect-size at ds (Synced n b ptr held) fits = keeps at b (λ d. record d { mapped = mapped.Clean ptr; cached = true }) (λ d. refl) ds (λ d found. fits d found)
 effect-size at ds (End n) fits = keeps-ended at ds
 
 -- what is legal fits
@@ -135,9 +135,9 @@ legal-fits c (Put n b most fill) legal = tt
 legal-fits c (Patch n b from bytes) legal = tt
 legal-fits c (Pin n b) legal = tt
 legal-fits c (Unpin n b) legal = tt
-legal-fits c (Load n b) legal = tt
+legal-fits c (Load n b held) legal = tt
 legal-fits c (Evict n b) legal = tt
-legal-fits c (Synced n b ptr) legal = synced-fits c b ptr legal.1
+legal-fits c (Synced n b ptr held) legal = synced-fits c b ptr legal.1
 legal-fits c (End n) legal = tt
 
 after-size : (at : Oid) (c : PlainCell) (e : CellEvent) → IsLegal c e → size_in at (after (outline_of c) e).dbufs ≡ size_after at (size_in at (outline_of c).dbufs) e
@@ -201,9 +201,9 @@ after-some at n (Put m b most fill) = elim (bool_cases (oid_eq at b)) [
 after-some at n (Patch m b from bytes) = (n, refl)
 after-some at n (Pin m b) = (n, refl)
 after-some at n (Unpin m b) = (n, refl)
-after-some at n (Load m b) = (n, refl)
+after-some at n (Load m b held) = (n, refl)
 after-some at n (Evict m b) = (n, refl)
-after-some at n (Synced m b ptr) = (n, refl)
+after-some at n (Synced m b ptr held) = (n, refl)
 after-some at n (End m) = (n, refl)
 
 told-some : (at : Oid) (n : ℕ) (es : List CellEvent) → told_size at (Some n) es ≡ None → ⊥
@@ -216,9 +216,9 @@ after-none at (Put m b most fill) other = rw other refl
 after-none at (Patch m b from bytes) other = refl
 after-none at (Pin m b) other = refl
 after-none at (Unpin m b) other = refl
-after-none at (Load m b) other = refl
+after-none at (Load m b held) other = refl
 after-none at (Evict m b) other = refl
-after-none at (Synced m b ptr) other = refl
+after-none at (Synced m b ptr held) other = refl
 after-none at (End m) other = refl
 
 put-some : (at : Oid) (o : Option ℕ) (e : CellEvent) → is_put_of at e ≡ true → (k : ℕ) × (size_after at o e ≡ Some k)
@@ -227,9 +227,9 @@ put-some at o (Put m b most fill) is = (most, rw is refl)
 put-some at o (Patch m b from bytes) is = absurd (let clash : false ≡ true = is in cc)
 put-some at o (Pin m b) is = absurd (let clash : false ≡ true = is in cc)
 put-some at o (Unpin m b) is = absurd (let clash : false ≡ true = is in cc)
-put-some at o (Load m b) is = absurd (let clash : false ≡ true = is in cc)
+put-some at o (Load m b held) is = absurd (let clash : false ≡ true = is in cc)
 put-some at o (Evict m b) is = absurd (let clash : false ≡ true = is in cc)
-put-some at o (Synced m b ptr) is = absurd (let clash : false ≡ true = is in cc)
+put-some at o (Synced m b ptr held) is = absurd (let clash : false ≡ true = is in cc)
 put-some at o (End m) is = absurd (let clash : false ≡ true = is in cc)
 
 told-none : (at : Oid) (o : Option ℕ) (es : List CellEvent) → told_size at o es ≡ None → (o ≡ None) × IsTrue (list_all (λ e. not (is_put_of at e)) es)
@@ -295,9 +295,9 @@ after-pass test at o (Put m b most fill) h p = elim (bool_cases (oid_eq at b)) [
 after-pass test at o (Patch m b from bytes) h p = h
 after-pass test at o (Pin m b) h p = h
 after-pass test at o (Unpin m b) h p = h
-after-pass test at o (Load m b) h p = h
+after-pass test at o (Load m b held) h p = h
 after-pass test at o (Evict m b) h p = h
-after-pass test at o (Synced m b ptr) h p = h
+after-pass test at o (Synced m b ptr held) h p = h
 after-pass test at o (End m) h p = h
 
 told-pass : (test : ℕ → Bool) (at : Oid) (o : Option ℕ) (es : List CellEvent) → Passes test o → IsTrue (list_all (λ e. option_map_or test (put_size e) true) es) → Passes test (told_size at o es)

@@ -1,5 +1,5 @@
 -- What is so of a cell in hand whose pin is taken back.
-use Rattle.std.proofs.Common.{◌≡◌, ℕ, ◌-◌, ◌≤◌, true, false, [], ◌∷◌, length, refl, ap, ◌∙◌, subst, arith, ◌+◌, Some}
+use Rattle.std.proofs.Common.{◌≡◌, ℕ, ◌-◌, ◌≤◌, true, false, [], ◌∷◌, length, refl, ap, ◌∙◌, subst, sym, arith, ◌+◌, Some}
 use Rattle.arc_table.specs.Cache.{Cache}
 use Rattle.dbuf_state.specs.CellLog.{CellLog}
 use Rattle.dbuf_state.specs.Dbufs.{dbuf_is, unpinned_by, with_dbuf}
@@ -10,11 +10,12 @@ use Rattle.dbuf_state.specs.declared.event.CellEvent.TheVariants.{Unpin}
 use Rattle.dbuf_state.specs.declared.fault.DbufFault.{DbufFault}
 use Rattle.dbuf_state.specs.declared.fault.DbufFault.TheVariants as fault
 use Rattle.dbuf_state.specs.declared.oid.Oid.{Oid}
-use Rattle.dbuf_cells.specs.InHand.{AsTaken, Finishes, Gives, HasFinished, HasGiven, InHand, IsNotUnpinned, IsRoomier, IsUnpinned, MayEvict, MayGive, TakesAtRest, AreClaimedAlike}
-use Rattle.dbuf_cells.specs.Turns.{OnHeap, Operates, PartyPlace, outline_in}
+use Rattle.dbuf_cells.specs.InHand.{AsTaken, Finishes, Gives, HasFinished, HasGiven, HoldsStay, InHand, IsNotUnpinned, IsRoomier, IsUnpinned, MayEvict, MayGive, TakesAtRest, AreClaimedAlike}
+use Rattle.dbuf_cells.specs.Turns.{OnHeap, Operates, PartyPlace, held_in, outline_in}
 use Rattle.dbuf_cells.specs.Unholding.{NotUnholds}
 use Rattle.dbuf_cells.specs.declared.kept.Kept.{Kept}
 use Rattle.dbuf_cells.proofs.CellSteps.{length-change}
+use Rattle.dbuf_cells.proofs.Holders.{stays-noted, stays-roomy, stays-same, stays-then}
 use Rattle.dbuf_cells.proofs.Operations.{as-taken-room, hand-unpin, no-pin, operates}
 use Rattle.dbuf_cells.proofs.PartySteps.{as-given, as-may-give}
 use Rattle.dbuf_state.specs.Numbers.{claims_in}
@@ -56,8 +57,13 @@ module _ (cache : Cache) (i : ℕ) (at : Oid) (p : PartyPlace) (before : OnHeap)
   pub unpin-finished : (c : CellLog Kept) (r : PartyPlace) → IsUnpinned n at before.value c → Finishes cache i c q r → HasFinished cache i t.ready before Must (Unpin t.ready.number at ∷ []) [] c q r
   unpin-finished c r u finishes = finishes t.ready before Must (Unpin t.ready.number at ∷ []) [] refl (unpins c u)
 
-  pub unpin-operates : (c : CellLog Kept) (r : PartyPlace) → IsUnpinned n at before.value c → Finishes cache i c q r → Operates cache.config i before (Unpin t.ready.number at ∷ []) [] t.ready r
-  unpin-operates c r u finishes = operates cache i t.ready before Must (Unpin t.ready.number at ∷ []) [] c q (unpins c u) r (unpin-finished c r u finishes)
+  pub unpin-operates : (c : CellLog Kept) (r : PartyPlace) → IsUnpinned n at before.value c → Finishes cache i c q r → Operates cache.config i before (held_in before) (Unpin t.ready.number at ∷ []) [] t.ready r
+  unpin-operates c r u finishes = operates cache i t.ready before Must (Unpin t.ready.number at ∷ []) [] c q (unpins c u) (held_in before) (λ b on. (stay b on).1) r (unpin-finished c r u finishes)
+    where
+      stay : HoldsStay before.value.dbufs c.dbufs
+      stay = subst (λ (x : CellLog Kept). HoldsStay before.value.dbufs x.dbufs) (sym u.noted_is)
+          (stays-noted (Unpin n at) (record u.roomy { dbufs = with_dbuf at (unpinned_by n) u.roomy.dbufs }) before.value.dbufs
+          (stays-then before.value.dbufs u.roomy.dbufs (with_dbuf at (unpinned_by n) u.roomy.dbufs) (stays-roomy before.value u.roomy u.made) (stays-same at (unpinned_by n) (λ d. refl) (λ d. refl) (λ d. refl) u.roomy.dbufs)))
 
 -- a cell has room for the evictions behind its event
 pub unpin-room : (n : ℕ) (at : Oid) (old c : CellLog Kept) → IsUnpinned n at old c → length c.dbufs ≤ c.event_room

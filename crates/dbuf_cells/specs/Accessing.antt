@@ -21,9 +21,9 @@ use Rattle.dbuf_state.specs.declared.oid.Oid.{Oid}
 use Rattle.dbuf_state.specs.declared.state.Mapped.{Mapped}
 use Rattle.dbuf_state.specs.declared.state.Mapped.TheVariants.{Clean}
 use Rattle.dbuf_state.specs.declared.window.Window.{Window}
-use Rattle.dbuf_cells.specs.Bringing.{Brings, FailsToLoad}
+use Rattle.dbuf_cells.specs.Bringing.{Brings, FailsToLoad, held_behind}
 use Rattle.dbuf_cells.specs.Places.{cell_of}
-use Rattle.dbuf_cells.specs.Turns.{CellTurn, OnHeap, OnceAtRest, Operates, PartyPlace, outline_in}
+use Rattle.dbuf_cells.specs.Turns.{CellTurn, OnHeap, OnceAtRest, Operates, PartyPlace, held_in, outline_in}
 
 module _ {P D : Type 0} (pools : PoolGhosts P) (devices : DeviceGhosts D) (g : Config) (i : ℕ) (at : Oid) (t : ℕ) (before now : Outside P D) where
   -- The block's bytes were there, or were brought; and in one turn of the cell, right behind the Load where there is one, the operation's own
@@ -35,7 +35,7 @@ module _ {P D : Type 0} (pools : PoolGhosts P) (devices : DeviceGhosts D) (g : C
     pub hands : List Event
     pub brings : Brings pools devices g i at t before now cell p back mid loads hands
     pub fits : Fits mid
-    pub operates : Operates g i mid (loads ++ own p.number ∷ []) hands back q
+    pub operates : Operates g i mid (held_behind at loads hands (held_in mid)) (loads ++ own p.number ∷ []) hands back q
 
   -- The block could not be brought. Or memory was refused once its bytes were there: the cell is as before, or it has the Load alone.
   pub data Refuses (cell : OnHeap) (p q : PartyPlace) (why : DbufFault) : Type 0 where

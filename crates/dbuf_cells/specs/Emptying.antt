@@ -11,12 +11,14 @@ use Rattle.dbuf_state.specs.Dbufs.{cleared, plain_dbuf}
 use Rattle.dbuf_state.specs.InHand.{are_clean_or_rest}
 use Rattle.dbuf_state.specs.Numbers.{claims_in}
 use Rattle.dbuf_state.specs.Outline.{OutlineDbuf, outline_dbuf}
+use Rattle.dbuf_state.specs.Held.{TellsHolds}
 use Rattle.dbuf_state.specs.Soundness.{IsSound}
 use Rattle.dbuf_state.specs.declared.dbuf.Dbuf.{Dbuf}
 use Rattle.dbuf_cells.specs.Ending.{DropsEach, lower_oid}
-use Rattle.dbuf_cells.specs.InHand.{HasTaken}
-use Rattle.dbuf_cells.specs.Turns.{OnHeap, PartyPlace, holds_of}
+use Rattle.dbuf_cells.specs.InHand.{HasTaken, HoldsStay}
+use Rattle.dbuf_cells.specs.Turns.{OnHeap, PartyPlace, held_in, holds_of}
 use Rattle.dbuf_cells.specs.declared.kept.Kept.{Kept}
+use Rattle.dbuf_cells.specs.Kept.{is_held}
 
 -- those of these dbufs that have the bytes of a clean block
 abbrev pub cached_in : List (Dbuf Kept) → List OutlineDbuf
@@ -32,6 +34,7 @@ pub record IsEnding (cache : Cache) (i : ℕ) (p : PartyPlace) (before : OnHeap)
   pub es : List Event
   pub party : HasTaken cache i p before es q
   pub sound : IsSound before.value
+  pub told : TellsHolds is_held before.value
   pub same : now ≡ record before.value { dbufs = now.dbufs; dbuf_room = now.dbuf_room; event_room = now.event_room }
   pub hides : map plain_dbuf (map cleared now.dbufs) ≡ map plain_dbuf (map cleared before.value.dbufs)
   pub rest : IsTrue (are_clean_or_rest now.dbufs)
@@ -40,7 +43,8 @@ pub record IsEnding (cache : Cache) (i : ℕ) (p : PartyPlace) (before : OnHeap)
   pub rising : IsSortedBy lower_oid gone
   pub lower : AreLower gone (cached_in now.dbufs)
   pub all : IsPermutation (cached_in before.value.dbufs) (gone ++ cached_in now.dbufs)
-  pub dropped : DropsEach (cell_number cache.config i) gone es
+  pub dropped : DropsEach (cell_number cache.config i) (held_in before) gone es
+  pub stay : HoldsStay before.value.dbufs now.dbufs
 
 -- so it is with some party and some cell
 abbrev pub MayEmpty : Cache → (i : ℕ) → (now : CellLog Kept) → (q : PartyPlace) → Type 0

@@ -8,8 +8,9 @@ use Rattle.arc_table.specs.Geometry.{cell_number}
 use Rattle.dbuf_state.specs.Oids.{oid_lt}
 use Rattle.dbuf_state.specs.Outline.{Outline, OutlineDbuf}
 use Rattle.dbuf_state.specs.declared.event.CellEvent.TheVariants.{End}
+use Rattle.dbuf_state.specs.declared.oid.Oid.{Oid}
 use Rattle.dbuf_state.specs.declared.state.Mapped.TheVariants.{Clean}
-use Rattle.dbuf_cells.specs.Turns.{CellTurn, DropsAtMost, OnHeap, PartyPlace, outline_in}
+use Rattle.dbuf_cells.specs.Turns.{CellTurn, OnHeap, PartyPlace, drops_if, held_in, outline_in}
 
 abbrev pub lower_oid : OutlineDbuf → OutlineDbuf → Bool
 lower_oid a b = oid_lt a.at b.at
@@ -19,10 +20,10 @@ pub record AreAllCached (o : Outline) (ds : List OutlineDbuf) : Type 0 where
   pub rising : IsSortedBy lower_oid ds
   pub all : IsPermutation (filter (λ d. d.cached) o.dbufs) ds
 
--- for each of these dbufs, in this order, a hold on the key of its pointer was dropped with the cell's number c, or there was none, since the block was loose
-abbrev pub DropsEach : (c : ℕ) → List OutlineDbuf → List Event → Type 0
-DropsEach c [] es = es ≡ []
-DropsEach c (d ∷ ds) es = (ptr : Ptr) × (drops : List Event) × (rest : List Event) × (d.mapped ≡ Clean ptr) × (es ≡ drops ++ rest) × DropsAtMost c ptr.key drops × DropsEach c ds rest
+-- of each of these dbufs that kept a hold, in this order, it was dropped with the cell's number c, on the key of its pointer
+abbrev pub DropsEach : (c : ℕ) → (held : Oid → Bool) → List OutlineDbuf → List Event → Type 0
+DropsEach c held [] es = es ≡ []
+DropsEach c held (d ∷ ds) es = (ptr : Ptr) × (drops : List Event) × (rest : List Event) × (d.mapped ≡ Clean ptr) × (es ≡ drops ++ rest) × (drops ≡ drops_if (held d.at) c ptr.key) × DropsEach c held ds rest
 
 -- In one turn of the cell all that its dbufs kept was given back, and that the cell ended was noted, and nothing else.
 pub record EndsCell (g : Config) (i : ℕ) (p q : PartyPlace) : Type 0 where
@@ -30,7 +31,7 @@ pub record EndsCell (g : Config) (i : ℕ) (p q : PartyPlace) : Type 0 where
   pub kept : List OutlineDbuf
   pub drops : List Event
   pub all : AreAllCached (outline_in before) kept
-  pub dropped : DropsEach (cell_number g i) kept drops
+  pub dropped : DropsEach (cell_number g i) (held_in before) kept drops
   pub turn : CellTurn g i before (End p.number ∷ []) drops p q
 
 -- so many cells were ended, one after the other, from the cell i on

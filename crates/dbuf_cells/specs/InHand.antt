@@ -16,6 +16,7 @@ use Rattle.arc_table.specs.Looking.{HasNoLook}
 use Rattle.arc_table.specs.declared.item.Item.TheVariants as item
 use Rattle.dbuf_state.specs.CellLog.{CellLog, fresh, noted}
 use Rattle.dbuf_state.specs.Dbufs.{DbufHas, IsFit, IsOfContent, dbuf_at, dbuf_is, dbuf_oid, dirty_with, is_cached, is_clean_in, standing_of, unpinned_by, with_dbuf, without_kept}
+use Rattle.dbuf_state.specs.Held.{TellsHolds}
 use Rattle.dbuf_state.specs.History.{Leads}
 use Rattle.dbuf_state.specs.InHand.{are_at_rest}
 use Rattle.dbuf_state.specs.Numbers.{claims_in, mapping_numbers, number_of}
@@ -35,9 +36,9 @@ use Rattle.dbuf_state.specs.declared.state.DbState.{DbState}
 use Rattle.dbuf_state.specs.declared.state.DbState.TheVariants as state
 use Rattle.dbuf_state.specs.declared.state.Mapped.{Mapped}
 use Rattle.dbuf_state.specs.declared.state.Mapped.TheVariants as mapped
-use Rattle.dbuf_cells.specs.Kept.{bytes_of, key_of}
+use Rattle.dbuf_cells.specs.Kept.{bytes_of, key_of, is_held}
 pub use Rattle.dbuf_cells.specs.Turns.{IsAtRest}
-use Rattle.dbuf_cells.specs.Turns.{AreEvictions, CellTurn, KeepsClaims, MakesAll, OnHeap, PartyPlace, WaitsForDbuf, dbuf_meanings, holds_of}
+use Rattle.dbuf_cells.specs.Turns.{AreEvictions, CellTurn, HoldsStand, KeepsClaims, MakesAll, OnHeap, PartyPlace, WaitsForDbuf, dbuf_meanings, held_at, holds_of}
 use Rattle.dbuf_cells.specs.declared.kept.Kept.{Kept}
 use Rattle.dbuf_cells.specs.declared.kept.Kept.TheVariants.{Held, Loose}
 
@@ -47,6 +48,7 @@ pub record HasTaken (cache : Cache) (i : ℕ) (p : PartyPlace) (before : OnHeap)
   pub cell : IsCell cache.config i
   pub taken : PartyPlace
   pub takes : Takes dbuf_meanings i (item.Cell before) p taken
+  pub stands : HoldsStand before
   pub makes : MakesAll cache.config es taken q
   pub party : IsPartyOf cache q
   pub look : HasNoLook cache q
@@ -59,6 +61,8 @@ pub record HasTaken (cache : Cache) (i : ℕ) (p : PartyPlace) (before : OnHeap)
 -- The number n did these things to a cell, which was so before: it is `now`, and evictions stand so.
 pub record HasDone (n : ℕ) (before : CellLog Kept) (evicting : Evicting) (news : List CellEvent) (now : CellLog Kept) : Type 0 where
   pub sound : IsSound before
+  pub told : TellsHolds is_held before
+  pub tells : TellsHolds is_held now
   pub limit : now.limit ≡ before.limit
   pub opening : now.opening ≡ before.opening
   pub history : now.history ≡ before.history ++ news
@@ -118,11 +122,16 @@ GivesUp g i (Some (Loose key block)) p q = q ≡ p
 abbrev pub kept_count : List (Dbuf Kept) → ℕ
 kept_count ds = count_by (λ d. (standing_of d).kept) ds
 
+-- A block that is clean and cached now was so before, and its dbuf keeps a hold where it did.
+abbrev pub HoldsStay : (old now : List (Dbuf Kept)) → Type 0
+HoldsStay old now = (b : Oid) → dbuf_is (is_clean_in is_cached) b now ≡ true → (dbuf_is (is_clean_in is_cached) b old ≡ true) × (held_at now b ≡ held_at old b)
+
 -- Whatever was done before, these evictions go on from it; nothing is over the limit afterwards.
 pub record HasEvicted (cache : Cache) (i : ℕ) (p : PartyPlace) (before : OnHeap) (evicting : Evicting) (news : List CellEvent) (es : List Event) (old now : CellLog Kept) (q r : PartyPlace) : Type 0 where
   pub evictions : List CellEvent
   pub drops : List Event
-  pub evicted : AreEvictions q.number (cell_number cache.config i) (outline_of (plain_cell evicting old)) evictions drops
+  pub evicted : AreEvictions q.number (cell_number cache.config i) (held_at old.dbufs) (outline_of (plain_cell evicting old)) evictions drops
+  pub stay : HoldsStay old.dbufs now.dbufs
   pub outline : outline_of (plain_cell evicting now) ≡ after_all (outline_of (plain_cell evicting old)) evictions
   pub hand : InHand cache i p before evicting (news ++ evictions) (es ++ drops) now r
 
@@ -174,7 +183,7 @@ Gives cache i now q r = (p : PartyPlace) (before : OnHeap) (evicting : Evicting)
 pub record HasFinished (cache : Cache) (i : ℕ) (p : PartyPlace) (before : OnHeap) (evicting : Evicting) (news : List CellEvent) (es : List Event) (old : CellLog Kept) (q r : PartyPlace) : Type 0 where
   pub evictions : List CellEvent
   pub drops : List Event
-  pub evicted : AreEvictions q.number (cell_number cache.config i) (outline_of (plain_cell evicting old)) evictions drops
+  pub evicted : AreEvictions q.number (cell_number cache.config i) (held_at old.dbufs) (outline_of (plain_cell evicting old)) evictions drops
   pub given : HasGiven cache i p before (news ++ evictions) (es ++ drops) r
 
 abbrev pub Finishes : Cache → (i : ℕ) → (old : CellLog Kept) → (q r : PartyPlace) → Type 0

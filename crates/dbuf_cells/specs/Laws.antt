@@ -29,9 +29,9 @@ size_after at size (Put n b most fill) = if oid_eq at b then Some most else size
 size_after at size (Patch n b from bytes) = size
 size_after at size (Pin n b) = size
 size_after at size (Unpin n b) = size
-size_after at size (Load n b) = size
+size_after at size (Load n b held) = size
 size_after at size (Evict n b) = size
-size_after at size (Synced n b ptr) = size
+size_after at size (Synced n b ptr held) = size
 size_after at size (End n) = size
 
 abbrev pub told_size : Oid → Option ℕ → List CellEvent → Option ℕ
@@ -46,9 +46,9 @@ is_put_of at (Put n b most fill) = oid_eq at b
 is_put_of at (Patch n b from bytes) = false
 is_put_of at (Pin n b) = false
 is_put_of at (Unpin n b) = false
-is_put_of at (Load n b) = false
+is_put_of at (Load n b held) = false
 is_put_of at (Evict n b) = false
-is_put_of at (Synced n b ptr) = false
+is_put_of at (Synced n b ptr held) = false
 is_put_of at (End n) = false
 
 -- the opening has no pointer of the Oid, and none of these events is a whole write of it
@@ -76,9 +76,9 @@ put_size (Put n b most fill) = Some most
 put_size (Patch n b from bytes) = None
 put_size (Pin n b) = None
 put_size (Unpin n b) = None
-put_size (Load n b) = None
+put_size (Load n b held) = None
 put_size (Evict n b) = None
-put_size (Synced n b ptr) = None
+put_size (Synced n b ptr held) = None
 put_size (End n) = None
 
 -- each size with which a block opened, and each size of a whole write, passes this test

@@ -1,5 +1,5 @@
 -- What is so of a cell and of the party that has it while a block is brought, and behind that.
-use Rattle.std.specs.Prelude.{◌≡◌, ◌≢◌, ℕ, ◌+◌, ◌≤◌, ◌<◌, ◌⊎◌, true, if◌then◌else◌, not, IsTrue, List, [], ◌∷◌, ◌++◌, length, Option, Some, None, Result, Ok, Err}
+use Rattle.std.specs.Prelude.{◌≡◌, ◌≢◌, ℕ, ◌+◌, ◌≤◌, ◌<◌, ◌⊎◌, Bool, true, if◌then◌else◌, not, IsTrue, List, [], ◌∷◌, ◌++◌, length, Option, Some, None, Result, Ok, Err}
 use Rattle.std.specs.List.{filter}
 use Rattle.std.specs.Option.{option_map}
 use Rattle.blk_ptr.specs.declared.ptr.Ptr.{Ptr}
@@ -41,11 +41,12 @@ use Rattle.dbuf_state.specs.declared.state.Mapped.{Mapped}
 use Rattle.dbuf_state.specs.declared.state.Mapped.TheVariants as mapped
 use Rattle.dbuf_state.specs.declared.state.Mapping.{Mapping}
 use Rattle.dbuf_state.specs.declared.window.Window.{Window}
-use Rattle.dbuf_cells.specs.Bringing.{Brings, DropsRead, FailsToLoad, IsUnmarked, handed}
-use Rattle.dbuf_cells.specs.InHand.{AsTaken, ClaimsAre, HasGiven, InHand, IsRoomier}
-use Rattle.dbuf_cells.specs.Turns.{KeepsClaims, OnHeap, Operates, PartyPlace, dbuf_meanings, holds_of, outline_in}
+use Rattle.dbuf_cells.specs.Bringing.{Brings, DropsRead, FailsToLoad, IsUnmarked, handed, held_behind, is_some_made, gives_hold}
+use Rattle.dbuf_cells.specs.InHand.{AsTaken, ClaimsAre, HasGiven, HoldsStay, InHand, IsRoomier}
+use Rattle.dbuf_cells.specs.Turns.{KeepsClaims, OnHeap, Operates, PartyPlace, dbuf_meanings, held_at, held_in, holds_of, outline_in}
 use Rattle.dbuf_cells.specs.declared.kept.Kept.{Kept}
 use Rattle.dbuf_cells.specs.declared.kept.Kept.TheVariants.{Held, Loose}
+use Rattle.dbuf_state.specs.Held.{held_after}
 
 -- ---- what a block is
 
@@ -129,7 +130,7 @@ SomeTaken cache i now q = (p : PartyPlace) × (before : OnHeap) × AsTaken cache
 
 -- what was read is the cell's, and the Load is noted
 pub record HasKept (cache : Cache) (i : ℕ) (at : Oid) (ptr : Ptr) (p : PartyPlace) (before : OnHeap) (read : Read) (now : CellLog Kept) (q : PartyPlace) : Type 0 where
-  pub hand : InHand cache i p before May (Load p.number at ∷ []) (handed p.number (cell_number cache.config i) read) now q
+  pub hand : InHand cache i p before May (Load p.number at (gives_hold read) ∷ []) (handed p.number (cell_number cache.config i) read) now q
   pub there : IsLoaded at ptr now.dbufs
 
 abbrev pub Keeps : Cache → (i : ℕ) → Oid → Ptr → Read → (old now : CellLog Kept) → (q r : PartyPlace) → Type 0
@@ -142,6 +143,10 @@ pub record HasUnread (cache : Cache) (i : ℕ) (at : Oid) (ptr : Ptr) (read back
   pub uncached : DbufHas (λ d. d.state ≡ state.Uncached) (dbuf_at at now.dbufs)
   pub taken : (p : PartyPlace) (before : OnHeap) → AsTaken cache i p before old q → AsTaken cache i p before now r
 
+-- among these dbufs now each keeps a hold where it did among those, but for the block's, which does where this says so
+abbrev pub AreHeldBut : Oid → (held : Bool) → (old now : List (Dbuf Kept)) → Type 0
+AreHeldBut at held old now = (b : Oid) → held_at now b ≡ (if oid_eq at b then held else held_at old b)
+
 -- ---- the end of a load
 
 -- the cell was taken again, and keeps what was read
@@ -150,6 +155,7 @@ pub record EndsKept (cache : Cache) (i : ℕ) (at : Oid) (ptr : Ptr) (read : Rea
   pub pointer : mapped_at at (outline_in mid) ≡ Some (mapped.Clean ptr)
   pub brought : IsBroughtBy p.number at ptr mid.value.dbufs
   pub kept : HasKept cache i at ptr p mid read cell.value q
+  pub held : AreHeldBut at (is_some_made (handed p.number (cell_number cache.config i) read)) mid.value.dbufs cell.value.dbufs
   pub claimed : ClaimsAre i q.number mid.value p
   pub unclaimed : AreUnclaimed at mid.value.dbufs cell.value.dbufs
 
@@ -187,6 +193,7 @@ module _ {P D : Type 0} (pools : PoolGhosts P) (devices : DeviceGhosts D) (cache
     pub number : back.number ≡ p.number
     pub held : back.held ≡ []
     pub claimed : ClaimsAre i q.number result.value p
+    pub holds : (b : Oid) → held_at result.value.dbufs b ≡ held_behind at loads hands (held_in mid) b
     pub others : (j : ℕ) → j ≢ i → list_at j back.own.ledger.claims ≡ list_at j p.own.ledger.claims
     pub cached : concrete.dbuf_is (λ d. is_cached d.state) at result.value.dbufs ≡ true
     pub mapped : mapped_in at result.value.dbufs ≡ mapped_in at cell.value.dbufs
@@ -227,10 +234,12 @@ pub record Notes (n : ℕ) (e : CellEvent) (old new : CellLog Kept) : Type 0 whe
   pub rest : IsTrue (are_at_rest roomy.dbufs) → IsTrue (are_at_rest dbufs)
   pub claims : (k : ℕ) → claims_in k dbufs ≡ claims_in k roomy.dbufs
   pub holds : holds_of (record roomy { dbufs = dbufs }) ≡ holds_of roomy
+  pub stay : HoldsStay roomy.dbufs dbufs
+  pub tells : (b : Oid) → held_at dbufs b ≡ held_after b (held_at roomy.dbufs b) e
 
 -- in the turn in which these things were done, the event was made too, and evictions, and the cell was given back
-pub record HasOperated (cache : Cache) (i : ℕ) (p : PartyPlace) (before : OnHeap) (news : List CellEvent) (es : List Event) (r : PartyPlace) : Type 0 where
-  pub operates : Operates cache.config i before news es p r
+pub record HasOperated (cache : Cache) (i : ℕ) (p : PartyPlace) (before : OnHeap) (holding : Oid → Bool) (news : List CellEvent) (es : List Event) (r : PartyPlace) : Type 0 where
+  pub operates : Operates cache.config i before holding news es p r
   pub party : IsPartyOf cache r
   pub held : r.held ≡ p.held
   pub number : r.number ≡ p.number
@@ -238,4 +247,4 @@ pub record HasOperated (cache : Cache) (i : ℕ) (p : PartyPlace) (before : OnHe
 
 abbrev pub EndsWith : Cache → (i : ℕ) → CellEvent → CellLog Kept → (q r : PartyPlace) → Type 0
 EndsWith cache i e old q r = (p : PartyPlace) (before : OnHeap) (evicting : Evicting) (news : List CellEvent) (es : List Event)
-    → IsTrue (not (is_due (plain_cell evicting old))) → InHand cache i p before evicting news es old q → HasOperated cache i p before (news ++ e ∷ []) es r
+    → IsTrue (not (is_due (plain_cell evicting old))) → InHand cache i p before evicting news es old q → HasOperated cache i p before (held_at old.dbufs) (news ++ e ∷ []) es r

@@ -1,5 +1,5 @@
 -- What `patch` answers, and what is so on the way.
-use Rattle.std.specs.Prelude.{◌≡◌, ◌≢◌, ℕ, ◌+◌, ◌≤◌, not, IsTrue, List, [], ◌∷◌, ◌++◌, length, Option, Some, IfNone, IfSome, Result, Ok, Err}
+use Rattle.std.specs.Prelude.{◌≡◌, ◌≢◌, ℕ, ◌+◌, ◌≤◌, Bool, false, not, IsTrue, List, [], ◌∷◌, ◌++◌, length, Option, Some, IfNone, IfSome, Result, Ok, Err}
 use Rattle.blk_ptr.specs.Key.{IsFirstKeyFault}
 use Rattle.blk_ptr.specs.Size.{IsBlockSize}
 use Rattle.blk_ptr.specs.declared.ptr.Ptr.{Ptr}
@@ -27,13 +27,13 @@ use Rattle.dbuf_state.specs.declared.oid.Oid.{Oid}
 use Rattle.dbuf_state.specs.declared.state.Mapped.{Mapped}
 use Rattle.dbuf_state.specs.declared.state.Mapped.TheVariants as mapped
 use Rattle.dbuf_cells.specs.Accessing.{EndsInside, EndsPast, HasNoBlock, NotAccessed}
-use Rattle.dbuf_cells.specs.Bringing.{Brings}
+use Rattle.dbuf_cells.specs.Bringing.{Brings, held_behind}
 use Rattle.dbuf_cells.specs.InHand.{InHand, IsRoomier}
 use Rattle.dbuf_cells.specs.Kept.{bytes_of, key_of}
 use Rattle.dbuf_cells.specs.Loading.{mapped_in}
 use Rattle.dbuf_cells.specs.Places.{cell_of}
-use Rattle.dbuf_cells.specs.Putting.{ReleasesAtMost}
-use Rattle.dbuf_cells.specs.Turns.{OnHeap, OnceAtRest, Operates, PartyPlace, outline_in}
+use Rattle.dbuf_cells.specs.Putting.{Releases}
+use Rattle.dbuf_cells.specs.Turns.{OnHeap, OnceAtRest, Operates, PartyPlace, held_at, held_in, outline_in}
 use Rattle.dbuf_cells.specs.declared.kept.Kept.{Kept}
 
 -- ---- on the way
@@ -58,6 +58,7 @@ pub record TakesOver (at : Oid) (kept : Option Kept) (old new : CellLog Kept) : 
   pub of : IfSome kept (λ k. DbufHas (λ d. IsOfContent key_of bytes_of k d.content) (dbuf_at at old.dbufs))
   pub same : IfNone kept (new ≡ old)
   pub dirty : IfNone kept (IsTrue (dbuf_is is_dirty at old.dbufs))
+  pub loose : IfNone kept (held_at old.dbufs at ≡ false)
 
 -- n wrote over a part of the block, and that is noted
 pub record IsPatched (n : ℕ) (at : Oid) (from : ℕ) (bytes : List ℕ) (kept : Option Kept) (old new : CellLog Kept) : Type 0 where
@@ -69,10 +70,10 @@ pub record IsPatched (n : ℕ) (at : Oid) (from : ℕ) (bytes : List ℕ) (kept 
   pub noted_is : new ≡ noted (Patch n at from bytes) (record owned { dbufs = with_dbuf at (written_at from bytes) owned.dbufs })
 
 -- in the turn in which these things were done, the part was written, what was kept released, and dbufs evicted, and the cell was given back
-pub record HasPatched (cache : Cache) (i : ℕ) (at : Oid) (from : ℕ) (bytes : List ℕ) (n : ℕ) (p : PartyPlace) (before : OnHeap) (news : List CellEvent) (es : List Event) (r : PartyPlace) : Type 0 where
+pub record HasPatched (cache : Cache) (i : ℕ) (at : Oid) (from : ℕ) (bytes : List ℕ) (n : ℕ) (p : PartyPlace) (before : OnHeap) (holding : Oid → Bool) (news : List CellEvent) (es : List Event) (r : PartyPlace) : Type 0 where
   pub released : List Event
-  pub releases : ReleasesAtMost (cell_number cache.config i) at (after_all (outline_in before) news) released
-  pub operates : Operates cache.config i before (news ++ Patch n at from bytes ∷ []) (es ++ released) p r
+  pub releases : Releases (cell_number cache.config i) at (holding at) (after_all (outline_in before) news) released
+  pub operates : Operates cache.config i before holding (news ++ Patch n at from bytes ∷ []) (es ++ released) p r
   pub party : IsPartyOf cache r
   pub held : r.held ≡ p.held
   pub number : r.number ≡ p.number
@@ -80,7 +81,7 @@ pub record HasPatched (cache : Cache) (i : ℕ) (at : Oid) (from : ℕ) (bytes :
 
 abbrev pub EndsPatch : Cache → (i : ℕ) → Oid → (from : ℕ) → (bytes : List ℕ) → CellLog Kept → (q r : PartyPlace) → Type 0
 EndsPatch cache i at from bytes old q r = (p : PartyPlace) (before : OnHeap) (evicting : Evicting) (news : List CellEvent) (es : List Event)
-    → IsTrue (not (is_due (plain_cell evicting old))) → InHand cache i p before evicting news es old q → HasPatched cache i at from bytes q.number p before news es r
+    → IsTrue (not (is_due (plain_cell evicting old))) → InHand cache i p before evicting news es old q → HasPatched cache i at from bytes q.number p before (held_at old.dbufs) news es r
 
 -- ---- the answer
 
@@ -94,8 +95,8 @@ module _ {P D : Type 0} (pools : PoolGhosts P) (devices : DeviceGhosts D) (g : C
     pub hands : List Event
     pub brings : Brings pools devices g i at t before now cell p back mid loads hands
     pub es : List Event
-    pub releases : ReleasesAtMost (cell_number g i) at (after_all (outline_in mid) loads) es
-    pub operates : Operates g i mid (loads ++ Patch p.number at from bytes ∷ []) (hands ++ es) back q
+    pub releases : Releases (cell_number g i) at (held_behind at loads hands (held_in mid) at) (after_all (outline_in mid) loads) es
+    pub operates : Operates g i mid (held_behind at loads hands (held_in mid)) (loads ++ Patch p.number at from bytes ∷ []) (hands ++ es) back q
 
   abbrev pub Writes : {T : Type 0} → (from : ℕ) → List ℕ → OnHeap → (p q : PartyPlace) → Result T DbufFault → Type 0
   Writes from bytes cell p q (Ok done) = Patches from bytes cell p q

@@ -7,7 +7,7 @@ use Rattle.dbuf_state.specs.declared.fault.DbufFault.{DbufFault}
 use Rattle.dbuf_state.specs.declared.fault.DbufFault.TheVariants as fault
 use Rattle.dbuf_state.specs.declared.oid.Oid.{Oid}
 use Rattle.dbuf_cells.specs.Places.{cell_of}
-use Rattle.dbuf_cells.specs.Turns.{CellTurn, OnHeap, OnceAtRest, Operates, PartyPlace, outline_in}
+use Rattle.dbuf_cells.specs.Turns.{CellTurn, OnHeap, OnceAtRest, Operates, PartyPlace, held_in, outline_in}
 
 -- The party had no pin there, or memory was refused, and the cell is as before.
 abbrev pub NotUnholds : Config → (i : ℕ) → Oid → OnHeap → (p q : PartyPlace) → DbufFault → Type 0
@@ -19,7 +19,7 @@ NotUnholds g i at before p q (fault.Read why) = ⊥
 
 -- In one turn of the cell a pin of the party's went, and what was over the limit was evicted; or none went, for one of these causes.
 abbrev pub Unholds : {T : Type 0} → Config → (i : ℕ) → Oid → OnHeap → (p q : PartyPlace) → Result T DbufFault → Type 0
-Unholds g i at before p q (Ok done) = Operates g i before (Unpin p.number at ∷ []) [] p q
+Unholds g i at before p q (Ok done) = Operates g i before (held_in before) (Unpin p.number at ∷ []) [] p q
 Unholds g i at before p q (Err why) = NotUnholds g i at before p q why
 
 -- the party waited so often, took the block's cell, which was so then, and had its answer

@@ -1,14 +1,15 @@
 //! All cells are ended: what their dbufs keep is given back, and every pin goes (`dnode_evict_dbufs` of OpenZFS's `dnode_sync.c`).
-ghost use Rattle.std.specs.Prelude.{◌≡◌, ◌+◌, ◌<◌, [], IsTrue, OnErr, OnOk, map};
+ghost use Rattle.std.specs.Prelude.{◌≡◌, ◌+◌, ◌<◌, [], IsTrue, OnErr, OnOk, false, map};
 ghost use Rattle.arc_core.specs.Config.{IsConfig};
 ghost use Rattle.arc_table.specs.Cache.{IsPartyOf};
 ghost use Rattle.arc_table.specs.Geometry.{IsCell};
 ghost use Rattle.dbuf_state.specs.Dbufs.{standing_of};
 ghost use Rattle.dbuf_state.specs.Standings.{is_first_kept, none_kept};
+ghost use Rattle.dbuf_state.specs.declared.oid.Oid.{Oid};
 ghost use Rattle.dbuf_cells.specs.Emptying.{Empties, MayEmpty};
 ghost use Rattle.dbuf_cells.specs.Ending.{AnswersEnd, EndsCell, Untouched};
 ghost use Rattle.dbuf_cells.specs.InHand.{kept_count};
-ghost use Rattle.dbuf_cells.specs.Turns.{KeepsClaims};
+ghost use Rattle.dbuf_cells.specs.Turns.{KeepsClaims, held_at};
 
 use crate::evict::give_back;
 use crate::kept::{Cells, HeapCell, Kept};
@@ -49,11 +50,13 @@ fn drop_kept(
     requires hand { MayEmpty arcs.now i cell.old party.old }
     ensures empties { Empties arcs.now i cell.old cell.new party.old party.new }
     ensures none { IsTrue (none_kept (map standing_of cell.new.dbufs)) }
+    ensures loose { (at : Oid) → held_at cell.new.dbufs at ≡ false }
     ensures room { cell.new.event_room ≡ cell.old.event_room }
 {
     while let Some(at) = cell.first_kept() {
         drop_first(arcs, rt, party, i, cell, at);
     }
+    told(cell);
 }
 
 // Ends one cell. After want of memory it is as before.

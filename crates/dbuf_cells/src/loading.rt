@@ -11,16 +11,16 @@ ghost use Rattle.vdev_io.specs.Calls.{KeepsPool};
 ghost use Rattle.dbuf_state.specs.Dbufs.{dbuf_oid};
 ghost use Rattle.dbuf_state.specs.InHand.{are_at_rest};
 ghost use Rattle.dbuf_state.specs.Oids.{is_distinct};
-ghost use Rattle.dbuf_cells.specs.Bringing.{Claims, DropsRead, IsUnmarked};
+ghost use Rattle.dbuf_cells.specs.Bringing.{Claims, DropsRead, IsUnmarked, handed, is_some_made};
 ghost use Rattle.dbuf_cells.specs.InHand.{AsTaken, ClaimsAre, Gives, HasGiven, IsAtRest, IsRoomier, MayGive};
-ghost use Rattle.dbuf_cells.specs.Loading.{AreUnclaimed, BringsAlone, ClaimsBesides, EndsLoad, HandsOn, HasUnread, IsBroughtBy, IsReadOf, IsToLoad, Keeps, KeepsOthers, SomeTaken, TakenAlone, mapped_in, to_load};
+ghost use Rattle.dbuf_cells.specs.Loading.{AreHeldBut, AreUnclaimed, BringsAlone, ClaimsBesides, EndsLoad, HandsOn, HasUnread, IsBroughtBy, IsReadOf, IsToLoad, Keeps, KeepsOthers, SomeTaken, TakenAlone, mapped_in, to_load};
 ghost use Rattle.dbuf_cells.specs.Turns.{OnHeap};
 
 use crate::evict::make_room;
 use crate::kept::{Cells, HeapCell, Kept};
 use crate::turn::{give, take, told};
 use arc_table::{Party, Read};
-use blk_ptr::Ptr;
+use blk_ptr::{Ptr, Shows};
 use dbuf_state::{Cell, CellEvent, DbState, DbufFault, Mapped, Oid};
 use std::sync::Wait;
 use vdev_io::{CacheDev, Pool};
@@ -150,14 +150,17 @@ fn keep_read(
     ensures ok { OnOk result (Keeps arcs.now i at ptr.now read cell.old cell.new party.old party.new) }
     ensures err { IfErr result (λ back. HasUnread arcs.now i at ptr.now read back cell.old cell.new party.old party.new) }
     ensures unclaimed { AreUnclaimed at cell.old.dbufs cell.new.dbufs }
+    ensures held { OnOk result (AreHeldBut at (is_some_made (handed party.old.number (cell_number arcs.now.config i) read)) cell.old.dbufs cell.new.dbufs) }
 {
     told(cell);
     match hand_on(arcs, rt, party, i, cell, ptr, read) {
         Ok(kept) => {
+            let held = kept.held();
             cell.loaded(at, kept);
             cell.note(CellEvent::Load {
                 n: party.number(),
                 at,
+                held,
             });
             Ok(())
         }

@@ -40,7 +40,9 @@ pub(crate) fn take(arcs: &Cells, rt: &impl Wait, party: &mut Party<HeapCell>, i:
     ensures claims { ClaimsAre i party.new.number result.value party.old }
     ensures ledger { party.new.own.ledger ≡ party.old.own.ledger }
 {
-    arcs.take_cell(rt, party, i)
+    let cell = arcs.take_cell(rt, party, i);
+    told(&cell);
+    cell
 }
 
 // Gives a cell back.

@@ -1,5 +1,5 @@
 -- A view of each item of a list, as its items are found, changed and added by their Oids.
-use Rattle.std.proofs.Common.{◌≡◌, Bool, true, false, List, [], ◌∷◌, map, Option, Some, None, inl, inr, refl, ap}
+use Rattle.std.proofs.Common.{◌≡◌, List, [], ◌∷◌, map, Some, inl, inr, refl, ap}
 use Rattle.std.specs.Option.{option_map}
 use Rattle.dbuf_state.specs.declared.oid.Oid.{Oid}
 use Rattle.dbuf_state.specs.Oids.{item_at, oid_eq, with_change, with_item}

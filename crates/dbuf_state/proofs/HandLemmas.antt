@@ -1,11 +1,11 @@
 -- A cell in hand: its holds, its claims and its plain cell, step by step.
-use Rattle.std.proofs.Common.{◌≡◌, ℕ, ◌+◌, Bool, true, false, not, ◌&&◌, ◌||◌, ◌==◌, ◌⊎◌, IsTrue, List, [], ◌∷◌, ◌++◌, map, Option, Some, None, inl, inr, refl, sym, ap, subst, ◌∙◌, arith}
+use Rattle.std.proofs.Common.{◌≡◌, ℕ, ◌+◌, Bool, true, false, not, ◌&&◌, ◌||◌, ◌==◌, ◌⊎◌, List, [], ◌∷◌, ◌++◌, map, Option, Some, None, inl, inr, refl, sym, ap, subst, ◌∙◌, arith}
 use Rattle.std.proofs.lemmas.Bool.{false≢true}
 use Rattle.std.proofs.lemmas.Bool.Decides.{nat_tests}
-use Rattle.std.proofs.lemmas.List.{append-nil, append_assoc}
+use Rattle.std.proofs.lemmas.List.{append_assoc}
 use Rattle.std.proofs.lemmas.List.Sums.{sum_by-append}
 use Rattle.std.specs.List.{AllByRecursion, list_any}
-use Rattle.std.specs.Option.{option_map, option_map_or}
+use Rattle.std.specs.Option.{option_map_or}
 use Rattle.std.specs.Prelude.{cond, is_some}
 use Rattle.blk_ptr.specs.declared.key.Key.{Key}
 use Rattle.blk_ptr.specs.declared.ptr.Ptr.{Ptr}
@@ -20,16 +20,14 @@ use Rattle.dbuf_state.specs.declared.oid.Oid.{Oid}
 use Rattle.dbuf_state.specs.declared.state.DbState.{DbState}
 use Rattle.dbuf_state.specs.declared.state.DbState.TheVariants as state
 use Rattle.dbuf_state.specs.declared.state.Mapping.{Mapping}
-use Rattle.dbuf_state.specs.CellLog.{CellLog, touched}
-use Rattle.dbuf_state.specs.Dbufs.{DbufHas, Fits, IsFit, cached_with, cleared, dbuf_at, dbuf_oid, dirty_with, emptied, is_cached, is_clean, is_clean_in, is_passing, plain_block, plain_dbuf, standing_of, used_at, with_dbuf, without_kept}
+use Rattle.dbuf_state.specs.Dbufs.{DbufHas, Fits, cached_with, cleared, dbuf_at, dbuf_oid, dirty_with, emptied, is_cached, is_clean, is_clean_in, is_passing, plain_block, plain_dbuf, standing_of, used_at, with_dbuf, without_kept}
 use Rattle.dbuf_state.specs.History.{Leads}
-use Rattle.dbuf_state.specs.InHand.{ClaimedIsRead, ClaimsChange, ClaimsChanged, ClaimsStay, ClaimsStayByEnd, ClaimsStayByNew, ClaimsStayByNote, DirtyHidesUnkept, DirtyIsChange, EndHidesUnkept, EndRests, EndedKeepsNothing, EvictableIsCached, FirstKeptIsCached, FitKeeps, HoldsChange, HoldsStay, HoldsStayByEnd, HoldsStayByNew, HoldsStayByNote, PlainDbufIs, PlainStandingsAre, RekeptIsThere, RestLasts, RestLastsByUnkeep, RestStays, RestStaysByNew, RestStaysByNote, are_at_rest, are_clean_or_rest, kept_by, kept_on}
+use Rattle.dbuf_state.specs.InHand.{ClaimedIsRead, ClaimsChange, ClaimsStay, ClaimsStayByEnd, ClaimsStayByNew, ClaimsStayByNote, DirtyHidesUnkept, DirtyIsChange, EndHidesUnkept, EndRests, EndedKeepsNothing, EvictableIsCached, FirstKeptIsCached, FitKeeps, HoldsChange, HoldsStay, HoldsStayByEnd, HoldsStayByNew, HoldsStayByNote, PlainDbufIs, PlainStandingsAre, RekeptIsThere, RestLasts, RestLastsByUnkeep, RestStays, RestStaysByNew, RestStaysByNote, are_at_rest, are_clean_or_rest, kept_by, kept_on}
 use Rattle.dbuf_state.specs.Numbers.{claim_in, claims_in}
 use Rattle.dbuf_state.specs.Objects.{Block, Evicting, PlainCell, PlainDbuf}
 use Rattle.dbuf_state.specs.Objects as plain
-use Rattle.dbuf_state.specs.Oids.{has_item, is_distinct, oid_eq, with_item}
+use Rattle.dbuf_state.specs.Oids.{has_item, is_distinct, oid_eq}
 use Rattle.dbuf_state.specs.Soundness.{KeepsWhereCached, hold_in, holds_in, plain_cell}
-use Rattle.dbuf_state.specs.Standings.{is_first_kept}
 use Rattle.dbuf_state.proofs.Changes.{view-found}
 use Rattle.dbuf_state.proofs.FitLemmas.{any-found, evictable-cached, has-found, item-changed}
 use Rattle.dbuf_state.proofs.IndexLemmas.{and-both, and-parts, bool_cases}

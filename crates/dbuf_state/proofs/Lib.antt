@@ -3,6 +3,7 @@ pub mod CellLemmas
 pub mod Changes
 pub mod FitLemmas
 pub mod HandLemmas
+pub mod HeldLemmas
 pub mod HoldLemmas
 pub mod IndexLemmas
 pub mod NumberLemmas

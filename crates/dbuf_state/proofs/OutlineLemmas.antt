@@ -1,10 +1,8 @@
 -- The outline of a cell follows from its opening and its events.
-use Rattle.std.proofs.Common.{◌≡◌, ℕ, ◌+◌, ◌≤◌, Bool, true, false, not, ◌&&◌, nat_le, IsTrue, if◌then◌else◌, List, [], ◌∷◌, ◌++◌, length, map, replicate, Option, Some, None, refl, sym, ap, subst, ◌∙◌, arith, length-append, length-drop}
-use Rattle.std.proofs.lemmas.Bool.{false≢true}
+use Rattle.std.proofs.Common.{◌≡◌, ℕ, ◌+◌, ◌≤◌, Bool, true, false, not, ◌&&◌, nat_le, IsTrue, if◌then◌else◌, List, [], ◌∷◌, length, map, replicate, Option, Some, None, refl, sym, ap, subst, ◌∙◌, arith, length-append, length-drop}
 use Rattle.std.proofs.lemmas.Bool.Decides.{nat_tests}
 use Rattle.std.proofs.lemmas.List.{length-replicate, length-take}
 use Rattle.std.specs.Option.{option_map, option_map_or}
-use Rattle.blk_ptr.specs.declared.ptr.Ptr.{Ptr}
 use Rattle.dbuf_state.specs.declared.dbuf.Content.{Content}
 use Rattle.dbuf_state.specs.declared.dbuf.Content.TheVariants as content
 use Rattle.dbuf_state.specs.declared.dbuf.Dbuf.{Dbuf}
@@ -16,7 +14,6 @@ use Rattle.dbuf_state.specs.declared.state.DbState.{DbState}
 use Rattle.dbuf_state.specs.declared.state.DbState.TheVariants as state
 use Rattle.dbuf_state.specs.declared.state.Mapped.{Mapped}
 use Rattle.dbuf_state.specs.declared.state.Mapped.TheVariants as mapped
-use Rattle.dbuf_state.specs.CellLog.{CellLog}
 use Rattle.dbuf_state.specs.Dbufs.{mapped_of, plain_block, plain_dbuf, standing_of}
 use Rattle.dbuf_state.specs.Dbufs as concrete
 use Rattle.dbuf_state.specs.History.{Leads}
@@ -26,7 +23,6 @@ use Rattle.dbuf_state.specs.Outline.{CellIsInOutline, IsInOutline, Outline, Outl
 use Rattle.dbuf_state.specs.Outline as outline
 use Rattle.dbuf_state.specs.Oids.{item_at}
 use Rattle.dbuf_state.specs.Pins as pins
-use Rattle.dbuf_state.specs.Soundness.{plain_cell}
 use Rattle.dbuf_state.proofs.Changes.{view-change, view-found, view-item}
 use Rattle.dbuf_state.proofs.IndexLemmas.{and-parts}
 
@@ -103,11 +99,11 @@ effects c (Put n at size fill) base legal of =
 effects c (Patch n at from bytes) base legal of = patches c at from bytes base (and-parts (not (is_due c)) _ legal).1 of
 effects c (Pin n at) base legal of = changes at (plain.with_pins (pins.pinned n)) (outline.with_pins (pins.pinned n)) c.dbufs (λ d. refl)
 effects c (Unpin n at) base legal of = changes at (plain.with_pins (pins.unpinned n)) (outline.with_pins (pins.unpinned n)) c.dbufs (λ d. refl)
-effects c (Load n at) base legal of = changes at (plain.with_block plain.loaded) (λ d. record d { cached = is_clean d.mapped }) c.dbufs
+effects c (Load n at held) base legal of = changes at (plain.with_block plain.loaded) (λ d. record d { cached = is_clean d.mapped }) c.dbufs
     (λ d. ap (λ (s : Mapped × Bool). record { at = d.at; mapped = s.0; cached = s.1; pins = d.pins; used = d.used }) (load-cached d.block))
 effects c (Evict n at) base legal of = changes at (plain.with_block plain.evicted) (λ d. record d { cached = false }) c.dbufs
     (λ d. ap (λ (s : Mapped × Bool). record { at = d.at; mapped = s.0; cached = s.1; pins = d.pins; used = d.used }) (evict-cached d.block))
-effects c (Synced n at ptr) base legal of = changes at (plain.with_block (λ _. Cached ptr)) (λ d. record d { mapped = mapped.Clean ptr; cached = true }) c.dbufs (λ d. refl)
+effects c (Synced n at ptr held) base legal of = changes at (plain.with_block (λ _. Cached ptr)) (λ d. record d { mapped = mapped.Clean ptr; cached = true }) c.dbufs (λ d. refl)
 effects c (End n) base legal of = ends c.dbufs
 
 pub outline-follows : OutlineFollows

@@ -1,5 +1,5 @@
 -- An event of a cell that was written as bytes is read back.
-use Rattle.std.proofs.Common.{◌≡◌, ℕ, zero, suc, ◌+◌, ◌<◌, ◌≤◌, ◌^◌, true, nat_le, List, [], ◌∷◌, ◌++◌, length, refl, sym, ap, subst, ◌∙◌, append_assoc, length-append, ◌-◌, arith}
+use Rattle.std.proofs.Common.{◌≡◌, ℕ, zero, suc, ◌+◌, ◌<◌, ◌≤◌, ◌^◌, Bool, true, false, nat_le, List, [], ◌∷◌, ◌++◌, length, refl, sym, ap, subst, ◌∙◌, append_assoc, length-append, ◌-◌, arith}
 use Rattle.std.specs.List.{AllByRecursion}
 use Rattle.std.proofs.lemmas.Bool.{lt-ltb, le-leb}
 use Rattle.std.proofs.lemmas.List.{append-nil}
@@ -64,8 +64,8 @@ patch-taken h from bytes xs low few =
     (rw (number-taken from (number_bytes (length bytes) ++ (bytes ++ xs)) one) (rw (number-taken (length bytes) (bytes ++ xs) two)
     (rw (narrow-fits from low, narrow-fits (length bytes) three) (rw (shown-taken bytes xs few) refl))))
 
-synced-taken : (h : Head) (ptr : Ptr) (xs : List ℕ) → PtrFits ptr → taken_synced h (ptr_bytes ptr ++ xs) ≡ (Synced h.n h.at ptr, xs)
-synced-taken h ptr xs fits =
+synced-taken : (h : Head) (ptr : Ptr) (held : Bool) (xs : List ℕ) → PtrFits ptr → taken_synced h held (ptr_bytes ptr ++ xs) ≡ (Synced h.n h.at ptr held, xs)
+synced-taken h ptr held xs fits =
     let os = number_bytes ptr.key.offset in
     let ss = number_bytes ptr.key.size in
     let bs = number_bytes ptr.key.birth in
@@ -81,7 +81,8 @@ pub event-taken : (e : CellEvent) (xs : List ℕ) → IsPackable e → taken_eve
 event-taken (Get n at) xs can = event_read 0 n at xs (omega arith) can
 event-taken (Pin n at) xs can = event_read 1 n at xs (omega arith) can
 event-taken (Unpin n at) xs can = event_read 2 n at xs (omega arith) can
-event-taken (Load n at) xs can = event_read 3 n at xs (omega arith) can
+event-taken (Load n at true) xs can = event_read 9 n at xs (omega arith) can
+event-taken (Load n at false) xs can = event_read 3 n at xs (omega arith) can
 event-taken (Evict n at) xs can = event_read 4 n at xs (omega arith) can
 event-taken (End n) xs can = event_read 5 n no_oid xs (omega arith) can
 event-taken (Put n at size fill) xs can =
@@ -90,21 +91,26 @@ event-taken (Put n at size fill) xs can =
 event-taken (Patch n at from bytes) xs can =
     ap taken_event (append_assoc (head_bytes 7 n at) (patch_bytes from bytes) xs) ∙ event_read 7 n at (patch_bytes from bytes ++ xs) (omega arith) can.0
     ∙ patch-taken (record { kind = 7; n = n; at = at }) from bytes xs can.1.0 can.1.1
-event-taken (Synced n at ptr) xs can =
+event-taken (Synced n at ptr true) xs can =
+    ap taken_event (append_assoc (head_bytes 10 n at) (ptr_bytes ptr) xs) ∙ event_read 10 n at (ptr_bytes ptr ++ xs) (omega arith) can.0
+    ∙ synced-taken (record { kind = 10; n = n; at = at }) ptr true xs can.1
+event-taken (Synced n at ptr false) xs can =
     ap taken_event (append_assoc (head_bytes 8 n at) (ptr_bytes ptr) xs) ∙ event_read 8 n at (ptr_bytes ptr ++ xs) (omega arith) can.0
-    ∙ synced-taken (record { kind = 8; n = n; at = at }) ptr xs can.1
+    ∙ synced-taken (record { kind = 8; n = n; at = at }) ptr false xs can.1
 
 -- it has a byte at least
 event-some : (e : CellEvent) → 0 < length (event_bytes e)
 event-some (Get n at) = omega arith
 event-some (Pin n at) = omega arith
 event-some (Unpin n at) = omega arith
-event-some (Load n at) = omega arith
+event-some (Load n at true) = omega arith
+event-some (Load n at false) = omega arith
 event-some (Evict n at) = omega arith
 event-some (End n) = omega arith
 event-some (Put n at size fill) = omega arith
 event-some (Patch n at from bytes) = omega arith
-event-some (Synced n at ptr) = omega arith
+event-some (Synced n at ptr true) = omega arith
+event-some (Synced n at ptr false) = omega arith
 
 -- ---- lists of events
 

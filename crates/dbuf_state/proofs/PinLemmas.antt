@@ -1,5 +1,5 @@
 -- Until the end, a number's pins are its Pins less its Unpins.
-use Rattle.std.proofs.Common.{◌≡◌, ℕ, ◌+◌, ◌-◌, ◌<◌, ◌≤◌, Bool, true, false, not, ◌&&◌, ◌==◌, nat_le, nat_lt, IsTrue, if◌then◌else◌, cond, List, [], ◌∷◌, map, replicate, Option, Some, None, inl, inr, refl, sym, ap, subst, ◌∙◌, arith}
+use Rattle.std.proofs.Common.{◌≡◌, ℕ, ◌+◌, ◌-◌, ◌<◌, Bool, true, false, not, ◌&&◌, ◌==◌, nat_le, nat_lt, if◌then◌else◌, cond, List, [], ◌∷◌, map, replicate, Option, Some, None, inl, inr, refl, sym, ap, subst, ◌∙◌, arith}
 use Rattle.std.proofs.lemmas.Bool.{false≢true}
 use Rattle.std.proofs.lemmas.Bool.Decides.{nat_tests}
 use Rattle.std.proofs.lemmas.List.Sums.{sum_by-cons}
@@ -13,7 +13,7 @@ use Rattle.dbuf_state.specs.declared.pins.PinCount.{PinCount}
 use Rattle.dbuf_state.specs.declared.state.Mapping.{Mapping}
 use Rattle.dbuf_state.specs.History.{Leads}
 use Rattle.dbuf_state.specs.Objects.{Cached, Dirty, IsLegal, PlainCell, PlainDbuf, after, changed, dbuf_at, dbuf_oid, effect, evicted, fresh_dbuf, has_bytes, is_due, loaded, opened, opening_cell, patched, touched, use_of, used_at, with_block, with_pins}
-use Rattle.dbuf_state.specs.Oids.{item_at, oid_eq, with_change, with_item}
+use Rattle.dbuf_state.specs.Oids.{item_at, oid_eq, with_item}
 use Rattle.dbuf_state.specs.Outline.{ArePinsCounted, PinsAreCounted, has_pin_at, is_end, is_pin_of, is_unpin_of, outline_after, outline_dbuf, outline_of, pins_at}
 use Rattle.dbuf_state.specs.Outline as outline
 use Rattle.dbuf_state.specs.Pins.{has_pin, pinned, pins_of, unpinned}
@@ -325,9 +325,9 @@ count-effect c (Pin m b) base n at rows legal goes =
 count-effect c (Unpin m b) base n at rows legal goes =
     let there = tested (λ d. has_pin m d.pins) b c.dbufs (and-parts (not (is_due c)) _ legal).1 in
     let one = count-unpin n m at b c.dbufs there.0 rows there.1 there.2 in omega arith
-count-effect c (Load m b) base n at rows legal goes = ap (λ (x : ℕ). x + 0) (count-kept n at b (with_block loaded) c.dbufs (λ d. refl) (λ d. refl))
+count-effect c (Load m b held) base n at rows legal goes = ap (λ (x : ℕ). x + 0) (count-kept n at b (with_block loaded) c.dbufs (λ d. refl) (λ d. refl))
 count-effect c (Evict m b) base n at rows legal goes = ap (λ (x : ℕ). x + 0) (count-kept n at b (with_block evicted) c.dbufs (λ d. refl) (λ d. refl))
-count-effect c (Synced m b ptr) base n at rows legal goes = ap (λ (x : ℕ). x + 0) (count-kept n at b (with_block (λ _. Cached ptr)) c.dbufs (λ d. refl) (λ d. refl))
+count-effect c (Synced m b ptr held) base n at rows legal goes = ap (λ (x : ℕ). x + 0) (count-kept n at b (with_block (λ _. Cached ptr)) c.dbufs (λ d. refl) (λ d. refl))
 count-effect c (End m) base n at rows legal goes = absurd (false≢true (sym goes))
 
 rows-effect : (base : List ℕ) (ds : List PlainDbuf) (e : CellEvent) → is_end e ≡ false → AreRows ds → AreRows (effect base ds e)
@@ -336,9 +336,9 @@ rows-effect base ds (Put m b size fill) goes rows = rows-put b (with_block (λ _
 rows-effect base ds (Patch m b from bytes) goes rows = rows-changed b (with_block (λ _. Dirty (patched from bytes base))) ds (λ d row. row) rows
 rows-effect base ds (Pin m b) goes rows = rows-changed b (with_pins (pinned m)) ds (λ d row. pinned-row m d.pins row) rows
 rows-effect base ds (Unpin m b) goes rows = rows-changed b (with_pins (unpinned m)) ds (λ d row. unpinned-row m d.pins row) rows
-rows-effect base ds (Load m b) goes rows = rows-changed b (with_block loaded) ds (λ d row. row) rows
+rows-effect base ds (Load m b held) goes rows = rows-changed b (with_block loaded) ds (λ d row. row) rows
 rows-effect base ds (Evict m b) goes rows = rows-changed b (with_block evicted) ds (λ d row. row) rows
-rows-effect base ds (Synced m b ptr) goes rows = rows-changed b (with_block (λ _. Cached ptr)) ds (λ d row. row) rows
+rows-effect base ds (Synced m b ptr held) goes rows = rows-changed b (with_block (λ _. Cached ptr)) ds (λ d row. row) rows
 rows-effect base ds (End m) goes rows = absurd (false≢true (sym goes))
 
 -- ---- histories

@@ -1,5 +1,5 @@
 -- Two replays of one history, and two answers at one cell, are alike, or two lists share a digest.
-use Rattle.std.proofs.Common.{◌≡◌, ◌≢◌, ℕ, ◌+◌, ◌≤◌, ◌⊎◌, Bool, true, false, not, ◌&&◌, nat_le, IsTrue, List, [], ◌∷◌, ◌++◌, length, Option, Some, None, inl, inr, refl, sym, ap, subst, ◌∙◌}
+use Rattle.std.proofs.Common.{◌≡◌, ◌≢◌, ℕ, ◌+◌, ◌≤◌, ◌⊎◌, true, false, not, ◌&&◌, nat_le, List, [], ◌∷◌, ◌++◌, length, Option, Some, None, inl, inr, refl, sym, ap, subst, ◌∙◌}
 use Rattle.std.proofs.lemmas.Bool.{false≢true}
 use Rattle.std.proofs.lemmas.Slice.Eq.{bytes_eq-Decides}
 use Rattle.std.specs.Option.{option_map, option_map_or}
@@ -70,9 +70,9 @@ step-alike c (Put n at size fill) u v legal one other = inl (refl, refl)
 step-alike c (Patch n at from bytes) u v legal one other = patch-alike c n at from bytes u v (dbuf_at at c) refl (and-parts (not (is_due c)) _ legal).1 one other
 step-alike c (Pin n at) u v legal one other = inl (refl, refl)
 step-alike c (Unpin n at) u v legal one other = inl (refl, refl)
-step-alike c (Load n at) u v legal one other = inl (refl, refl)
+step-alike c (Load n at held) u v legal one other = inl (refl, refl)
 step-alike c (Evict n at) u v legal one other = inl (refl, refl)
-step-alike c (Synced n at ptr) u v legal one other = inl (refl, refl)
+step-alike c (Synced n at ptr held) u v legal one other = inl (refl, refl)
 step-alike c (End n) u v legal one other = inl (refl, refl)
 
 behind : (front xs ys : List (List ℕ)) → Collide xs ys → Collide (front ++ xs) (front ++ ys)

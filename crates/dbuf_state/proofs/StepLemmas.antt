@@ -138,7 +138,7 @@ module _ {H : Type 0} where
   get-follows c n at = follows [] c (Get n at) c.dbufs refl
 
   pub load-follows : LoadFollows H
-  load-follows c n at kept h = follows [] c (Load n at) _ (plain-change at (cached_with kept) (plain.with_block plain.loaded) c.dbufs
+  load-follows c n at held kept h = follows [] c (Load n at held) _ (plain-change at (cached_with kept) (plain.with_block plain.loaded) c.dbufs
       (from-test (is_clean_in is_reading) _ (λ d t. ap (λ (b : Block). record { at = d.at; block = b; pins = d.pins; used = d.used }) (loads d.content d.state t)) at c.dbufs h))
 
   pub evict-follows : EvictFollows H
@@ -176,7 +176,7 @@ module _ {H : Type 0} where
   unpin-follows c n at = follows [] c (Unpin n at) _ (plain-change-all at (unpinned_by n) (plain.with_pins (pins.unpinned n)) (λ d. refl) c.dbufs)
 
   pub synced-follows : SyncedFollows H
-  synced-follows c n at ptr kept = follows [] c (Synced n at ptr) _ (plain-change-all at (synced_to ptr kept) (plain.with_block (λ _. plain.Cached ptr)) (λ d. refl) c.dbufs)
+  synced-follows c n at ptr held kept = follows [] c (Synced n at ptr held) _ (plain-change-all at (synced_to ptr kept) (plain.with_block (λ _. plain.Cached ptr)) (λ d. refl) c.dbufs)
 
   ends : (ds : List (Dbuf H)) → map plain_dbuf (map cleared ds) ≡ map plain.ended (map plain_dbuf ds)
   ends [] = refl

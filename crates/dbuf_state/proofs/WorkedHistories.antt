@@ -1,5 +1,5 @@
 -- Worked histories, computed from the definitions alone.
-use Rattle.std.proofs.Common.{ℕ, ◌*◌, List, [], ◌∷◌, map, refl}
+use Rattle.std.proofs.Common.{ℕ, ◌*◌, List, [], ◌∷◌, map, refl, true}
 use Rattle.blk_ptr.specs.declared.ptr.Ptr.{Ptr}
 use Rattle.blk_ptr.specs.Ptr.{IsOf}
 use Rattle.dbuf_state.specs.declared.event.CellEvent.{CellEvent}
@@ -23,7 +23,7 @@ blocks c = map (λ d. d.block) c.dbufs
 
 -- two blocks under a limit of one, read in turn: each load puts the other out
 abbrev turns : List CellEvent
-turns = Load 0 (oid 7 0) ∷ (Get 0 (oid 7 0) ∷ (Load 0 (oid 7 1) ∷ (Get 0 (oid 7 1) ∷ (Evict 0 (oid 7 0) ∷ (Load 0 (oid 7 0) ∷ (Get 0 (oid 7 0) ∷ (Evict 0 (oid 7 1) ∷ (End 1 ∷ []))))))))
+turns = Load 0 (oid 7 0) true ∷ (Get 0 (oid 7 0) ∷ (Load 0 (oid 7 1) true ∷ (Get 0 (oid 7 1) ∷ (Evict 0 (oid 7 0) ∷ (Load 0 (oid 7 0) true ∷ (Get 0 (oid 7 0) ∷ (Evict 0 (oid 7 1) ∷ (End 1 ∷ []))))))))
 
 abbrev turns_end : PlainCell
 turns_end = record {
@@ -38,7 +38,7 @@ two_in_turn = (refl, ([], [], refl, tt, (refl, ([], [], refl, tt, (refl, ([], []
 
 -- a block is read, patched and read again: the patch makes it dirty, and no event tells the bytes that it starts from
 abbrev edits : List CellEvent
-edits = Load 0 (oid 7 0) ∷ (Get 0 (oid 7 0) ∷ (Patch 0 (oid 7 0) 0 (255 ∷ []) ∷ (Get 0 (oid 7 0) ∷ [])))
+edits = Load 0 (oid 7 0) true ∷ (Get 0 (oid 7 0) ∷ (Patch 0 (oid 7 0) 0 (255 ∷ []) ∷ (Get 0 (oid 7 0) ∷ [])))
 
 abbrev edits_end : List ℕ → PlainCell
 edits_end base = record {

@@ -13,7 +13,7 @@ use Rattle.dbuf_state.specs.declared.oid.Oid.{Oid}
 use Rattle.dbuf_state.specs.declared.state.DbState.{DbState}
 use Rattle.dbuf_state.specs.declared.state.DbState.TheVariants as state
 use Rattle.dbuf_state.specs.declared.state.Mapping.{Mapping}
-use Rattle.dbuf_state.specs.CellLog.{CellLog, fresh, touched}
+use Rattle.dbuf_state.specs.CellLog.{CellLog, touched}
 use Rattle.dbuf_state.specs.Dbufs.{DbufHas, IsFit, cached_with, cleared, dbuf_at, dbuf_is, dbuf_oid, dirty_with, is_cached, is_clean, is_clean_in, is_passing, plain_dbuf, standing_of, with_dbuf, without_kept}
 use Rattle.dbuf_state.specs.Numbers.{claim_in, claims_in}
 use Rattle.dbuf_state.specs.Objects.{Evicting}

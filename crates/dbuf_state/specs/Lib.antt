@@ -3,6 +3,7 @@ pub mod CellLog
 pub mod CellModel
 pub mod Dbufs
 pub mod Faults
+pub mod Held
 pub mod History
 pub mod HistoryLog
 pub mod HistoryModel

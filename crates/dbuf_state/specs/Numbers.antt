@@ -1,5 +1,5 @@
 -- How the events, the opening and the claims of a cell are written as numbers, and how they are read back.
-use Rattle.std.specs.Prelude.{◌≡◌, ℕ, zero, suc, ◌==◌, if◌then◌else◌, List, [], ◌∷◌, ◌++◌, length, take, drop, slice_index}
+use Rattle.std.specs.Prelude.{◌≡◌, ℕ, zero, suc, ◌==◌, Bool, if◌then◌else◌, List, [], ◌∷◌, ◌++◌, length, take, drop, slice_index}
 use Rattle.blk_ptr.specs.declared.ptr.Ptr.{Ptr}
 use Rattle.dbuf_state.specs.declared.dbuf.Content.{Content}
 use Rattle.dbuf_state.specs.declared.dbuf.Content.TheVariants.{Clean, Dirty}
@@ -15,6 +15,10 @@ use Rattle.dbuf_state.specs.declared.state.Mapping.{Mapping}
 abbrev pub ptr_numbers : Ptr → List ℕ
 ptr_numbers p = p.key.offset ∷ (p.key.size ∷ (p.key.birth ∷ (length p.digest.0 ∷ p.digest.0)))
 
+-- whether the dbuf keeps a hold
+abbrev pub held_number : Bool → ℕ
+held_number held = if held then 1 else 0
+
 -- an event: who, which kind, and what it says
 abbrev pub event_numbers : CellEvent → List ℕ
 event_numbers (Get n at) = n ∷ (0 ∷ (at.object ∷ (at.block ∷ [])))
@@ -22,9 +26,9 @@ event_numbers (Put n at size fill) = n ∷ (1 ∷ (at.object ∷ (at.block ∷ (
 event_numbers (Patch n at from bytes) = n ∷ (2 ∷ (at.object ∷ (at.block ∷ (from ∷ bytes))))
 event_numbers (Pin n at) = n ∷ (3 ∷ (at.object ∷ (at.block ∷ [])))
 event_numbers (Unpin n at) = n ∷ (4 ∷ (at.object ∷ (at.block ∷ [])))
-event_numbers (Load n at) = n ∷ (5 ∷ (at.object ∷ (at.block ∷ [])))
+event_numbers (Load n at held) = n ∷ (5 ∷ (at.object ∷ (at.block ∷ (held_number held ∷ []))))
 event_numbers (Evict n at) = n ∷ (6 ∷ (at.object ∷ (at.block ∷ [])))
-event_numbers (Synced n at ptr) = n ∷ (7 ∷ (at.object ∷ (at.block ∷ ptr_numbers ptr)))
+event_numbers (Synced n at ptr held) = n ∷ (7 ∷ (at.object ∷ (at.block ∷ (held_number held ∷ ptr_numbers ptr))))
 event_numbers (End n) = n ∷ (8 ∷ [])
 
 -- mapped Oids, one after the other
@@ -53,9 +57,9 @@ event_of_kind n kind xs =
     if kind == 2 then Patch n (oid_in xs) (slice_index xs 2) (drop 3 xs) else (
     if kind == 3 then Pin n (oid_in xs) else (
     if kind == 4 then Unpin n (oid_in xs) else (
-    if kind == 5 then Load n (oid_in xs) else (
+    if kind == 5 then Load n (oid_in xs) (slice_index xs 2 == 1) else (
     if kind == 6 then Evict n (oid_in xs) else (
-    if kind == 7 then Synced n (oid_in xs) (ptr_in (drop 2 xs)) else End n)))))))
+    if kind == 7 then Synced n (oid_in xs) (ptr_in (drop 3 xs)) (slice_index xs 2 == 1) else End n)))))))
 
 -- the event that is written so
 abbrev pub event_in : List ℕ → CellEvent
@@ -75,9 +79,9 @@ number_of (Put n at size fill) = n
 number_of (Patch n at from bytes) = n
 number_of (Pin n at) = n
 number_of (Unpin n at) = n
-number_of (Load n at) = n
+number_of (Load n at held) = n
 number_of (Evict n at) = n
-number_of (Synced n at ptr) = n
+number_of (Synced n at ptr held) = n
 number_of (End n) = n
 
 -- each event begins with who did it

@@ -136,9 +136,9 @@ IsLegal c (Put n at size fill) = IsTrue (not (is_due c))
 IsLegal c (Patch n at from bytes) = IsTrue (not (is_due c) && dbuf_is (λ d. has_bytes d.block && nat_le (from + length bytes) (size_of d.block)) at c)
 IsLegal c (Pin n at) = IsTrue (not (is_due c) && dbuf_is (λ d. has_bytes d.block) at c)
 IsLegal c (Unpin n at) = IsTrue (not (is_due c) && dbuf_is (λ d. has_pin n d.pins) at c)
-IsLegal c (Load n at) = IsTrue (not (is_due c) && dbuf_is (λ d. is_uncached d.block) at c)
+IsLegal c (Load n at held) = IsTrue (not (is_due c) && dbuf_is (λ d. is_uncached d.block) at c)
 IsLegal c (Evict n at) = IsTrue (may_evict c.evicting && is_evictable c.limit at (standings c))
-IsLegal c (Synced n at ptr) = IsTrue (not (is_due c)) × IsWrittenAt ptr (dbuf_at at c)
+IsLegal c (Synced n at ptr held) = IsTrue (not (is_due c)) × IsWrittenAt ptr (dbuf_at at c)
 IsLegal c (End n) = IsTrue (not (is_due c))
 
 -- ---- what an event does. A patch of a clean block starts from a list that is of its pointer, which no event tells: `base`
@@ -160,9 +160,9 @@ IsBase base c (Get n at) = Unit {0}
 IsBase base c (Put n at size fill) = Unit {0}
 IsBase base c (Pin n at) = Unit {0}
 IsBase base c (Unpin n at) = Unit {0}
-IsBase base c (Load n at) = Unit {0}
+IsBase base c (Load n at held) = Unit {0}
 IsBase base c (Evict n at) = Unit {0}
-IsBase base c (Synced n at ptr) = Unit {0}
+IsBase base c (Synced n at ptr held) = Unit {0}
 IsBase base c (End n) = Unit {0}
 
 -- the list from which a change starts, where no event and no event before it tells it: the base of a patch of a clean block
@@ -172,9 +172,9 @@ untold c (Get n at) base = []
 untold c (Put n at size fill) base = []
 untold c (Pin n at) base = []
 untold c (Unpin n at) base = []
-untold c (Load n at) base = []
+untold c (Load n at held) base = []
 untold c (Evict n at) base = []
-untold c (Synced n at ptr) base = []
+untold c (Synced n at ptr held) base = []
 untold c (End n) base = []
 
 abbrev pub loaded : Block → Block
@@ -209,9 +209,9 @@ effect base ds (Put n at size fill) = with_item dbuf_oid at (with_block (λ _. D
 effect base ds (Patch n at from bytes) = changed at (with_block (λ _. Dirty (patched from bytes base))) ds
 effect base ds (Pin n at) = changed at (with_pins (pinned n)) ds
 effect base ds (Unpin n at) = changed at (with_pins (unpinned n)) ds
-effect base ds (Load n at) = changed at (with_block loaded) ds
+effect base ds (Load n at held) = changed at (with_block loaded) ds
 effect base ds (Evict n at) = changed at (with_block evicted) ds
-effect base ds (Synced n at ptr) = changed at (with_block (λ _. Cached ptr)) ds
+effect base ds (Synced n at ptr held) = changed at (with_block (λ _. Cached ptr)) ds
 effect base ds (End n) = map ended ds
 
 -- the Oid that an event uses; an Evict, a Synced and an End use none
@@ -221,9 +221,9 @@ use_of (Put n at size fill) = Some at
 use_of (Patch n at from bytes) = Some at
 use_of (Pin n at) = Some at
 use_of (Unpin n at) = Some at
-use_of (Load n at) = Some at
+use_of (Load n at held) = Some at
 use_of (Evict n at) = None
-use_of (Synced n at ptr) = None
+use_of (Synced n at ptr held) = None
 use_of (End n) = None
 
 abbrev pub used_at : ℕ → PlainDbuf → PlainDbuf
@@ -240,9 +240,9 @@ evicting_after before (Put n at size fill) = Must
 evicting_after before (Patch n at from bytes) = Must
 evicting_after before (Pin n at) = Must
 evicting_after before (Unpin n at) = Must
-evicting_after before (Load n at) = May
+evicting_after before (Load n at held) = May
 evicting_after before (Evict n at) = before
-evicting_after before (Synced n at ptr) = Never
+evicting_after before (Synced n at ptr held) = Never
 evicting_after before (End n) = Never
 
 abbrev pub after : List ℕ → PlainCell → CellEvent → PlainCell

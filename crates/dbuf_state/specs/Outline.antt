@@ -3,7 +3,6 @@
 use Rattle.std.specs.Prelude.{◌≡◌, ℕ, ◌+◌, Bool, true, false, not, ◌&&◌, ◌==◌, IsTrue, nat_lt, if◌then◌else◌, List, [], ◌∷◌, length, map, count_by, Option, Some, None}
 use Rattle.std.specs.List.{list_all}
 use Rattle.std.specs.Option.{option_map, option_map_or}
-use Rattle.blk_ptr.specs.declared.ptr.Ptr.{Ptr}
 use Rattle.dbuf_state.specs.declared.event.CellEvent.{CellEvent}
 use Rattle.dbuf_state.specs.declared.event.CellEvent.TheVariants.{Get, Put, Patch, Pin, Unpin, Load, Evict, Synced, End}
 use Rattle.dbuf_state.specs.declared.oid.Oid.{Oid}
@@ -110,9 +109,9 @@ effect ds (Put n at size fill) = with_item dbuf_oid at (dirtied size) (record { 
 effect ds (Patch n at from bytes) = changed at (λ d. dirtied (mapped_size d.mapped) d) ds
 effect ds (Pin n at) = changed at (with_pins (pinned n)) ds
 effect ds (Unpin n at) = changed at (with_pins (unpinned n)) ds
-effect ds (Load n at) = changed at (λ d. record d { cached = is_clean d.mapped }) ds
+effect ds (Load n at held) = changed at (λ d. record d { cached = is_clean d.mapped }) ds
 effect ds (Evict n at) = changed at (λ d. record d { cached = false }) ds
-effect ds (Synced n at ptr) = changed at (λ d. record d { mapped = Clean ptr; cached = true }) ds
+effect ds (Synced n at ptr held) = changed at (λ d. record d { mapped = Clean ptr; cached = true }) ds
 effect ds (End n) = map ended ds
 
 abbrev pub touched : ℕ → Option Oid → List OutlineDbuf → List OutlineDbuf

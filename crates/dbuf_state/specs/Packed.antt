@@ -1,5 +1,5 @@
 -- An event of a cell as a run of bytes, and back: its kind, who did it, which block, and what else its kind says.
-use Rattle.std.specs.Prelude.{◌≡◌, ℕ, ◌<◌, ◌≤◌, ◌^◌, ◌==◌, nat_lt, nat_le, ◌&&◌, if◌then◌else◌, List, [], ◌++◌, length, take, drop}
+use Rattle.std.specs.Prelude.{◌≡◌, ℕ, ◌<◌, ◌≤◌, ◌^◌, ◌==◌, nat_lt, nat_le, ◌&&◌, Bool, true, false, if◌then◌else◌, List, [], ◌++◌, length, take, drop}
 use Rattle.blk_ptr.specs.declared.ptr.Ptr.{Ptr}
 use Rattle.varint.specs.Number.{number_bytes, taken_bytes, taken_number}
 use Rattle.dbuf_state.specs.declared.event.CellEvent.{CellEvent}
@@ -25,16 +25,23 @@ patch_bytes from bytes = number_bytes from ++ number_bytes (length bytes) ++ byt
 abbrev pub ptr_bytes : Ptr → List ℕ
 ptr_bytes ptr = number_bytes ptr.key.offset ++ number_bytes ptr.key.size ++ number_bytes ptr.key.birth ++ ptr.digest.0
 
+-- a Load and a Synced have two kinds each: of those that keep a hold, and of those that don't
+abbrev pub load_kind : (held : Bool) → ℕ
+load_kind held = if held then 9 else 3
+
+abbrev pub synced_kind : (held : Bool) → ℕ
+synced_kind held = if held then 10 else 8
+
 abbrev pub event_bytes : CellEvent → List ℕ
 event_bytes (Get n at) = head_bytes 0 n at
 event_bytes (Pin n at) = head_bytes 1 n at
 event_bytes (Unpin n at) = head_bytes 2 n at
-event_bytes (Load n at) = head_bytes 3 n at
+event_bytes (Load n at held) = head_bytes (load_kind held) n at
 event_bytes (Evict n at) = head_bytes 4 n at
 event_bytes (End n) = head_bytes 5 n no_oid
 event_bytes (Put n at size fill) = head_bytes 6 n at ++ put_bytes size fill
 event_bytes (Patch n at from bytes) = head_bytes 7 n at ++ patch_bytes from bytes
-event_bytes (Synced n at ptr) = head_bytes 8 n at ++ ptr_bytes ptr
+event_bytes (Synced n at ptr held) = head_bytes (synced_kind held) n at ++ ptr_bytes ptr
 
 -- ---- reading
 
@@ -58,9 +65,10 @@ plain_event h =
     if h.kind == 0 then Get h.n h.at
     else (if h.kind == 1 then Pin h.n h.at
     else (if h.kind == 2 then Unpin h.n h.at
-    else (if h.kind == 3 then Load h.n h.at
+    else (if h.kind == 3 then Load h.n h.at false
+    else (if h.kind == 9 then Load h.n h.at true
     else (if h.kind == 4 then Evict h.n h.at
-    else End h.n))))
+    else End h.n)))))
 
 abbrev pub taken_put : Head → List ℕ → CellEvent × List ℕ
 taken_put h xs =
@@ -79,21 +87,22 @@ taken_patch h xs =
     let shown = taken_shown (narrow len.0) len.1 in
     (Patch h.n h.at (narrow from.0) shown.0, shown.1)
 
-abbrev pub taken_synced : Head → List ℕ → CellEvent × List ℕ
-taken_synced h xs =
+abbrev pub taken_synced : Head → (held : Bool) → List ℕ → CellEvent × List ℕ
+taken_synced h held xs =
     let offset = taken_number xs in
     let size = taken_number offset.1 in
     let birth = taken_number size.1 in
     let digest = taken_bytes birth.1 in
-    (Synced h.n h.at (record { key = record { offset = offset.0; size = size.0; birth = birth.0 }; digest = record { 0 = digest.0 } }), digest.1)
+    (Synced h.n h.at (record { key = record { offset = offset.0; size = size.0; birth = birth.0 }; digest = record { 0 = digest.0 } }) held, digest.1)
 
 -- the event of which the head was read, and what is left behind it
 abbrev pub taken_tail : Head → List ℕ → CellEvent × List ℕ
 taken_tail h xs =
     if h.kind == 6 then taken_put h xs
     else (if h.kind == 7 then taken_patch h xs
-    else (if h.kind == 8 then taken_synced h xs
-    else (plain_event h, xs)))
+    else (if h.kind == 8 then taken_synced h false xs
+    else (if h.kind == 10 then taken_synced h true xs
+    else (plain_event h, xs))))
 
 -- the event that stands at the front, and what is left behind it
 abbrev pub taken_event : List ℕ → CellEvent × List ℕ
@@ -117,9 +126,9 @@ abbrev pub IsPackable : CellEvent → Type 0
 IsPackable (Get n at) = HeadFits n at
 IsPackable (Pin n at) = HeadFits n at
 IsPackable (Unpin n at) = HeadFits n at
-IsPackable (Load n at) = HeadFits n at
+IsPackable (Load n at held) = HeadFits n at
 IsPackable (Evict n at) = HeadFits n at
 IsPackable (End n) = HeadFits n no_oid
 IsPackable (Put n at size fill) = HeadFits n at × ((size < 2 ^ 32) × (fill < 2 ^ 8))
 IsPackable (Patch n at from bytes) = HeadFits n at × ((from < 2 ^ 32) × (length bytes ≤ 64))
-IsPackable (Synced n at ptr) = HeadFits n at × PtrFits ptr
+IsPackable (Synced n at ptr held) = HeadFits n at × PtrFits ptr

@@ -1,5 +1,5 @@
 -- Laws of histories and of cells: what a cell's calls do is what its events say.
-use Rattle.std.specs.Prelude.{◌≡◌, ℕ, true, List, [], ◌∷◌, ◌++◌, replicate, map}
+use Rattle.std.specs.Prelude.{◌≡◌, ℕ, Bool, true, List, [], ◌∷◌, ◌++◌, replicate, map}
 use Rattle.blk_ptr.specs.declared.ptr.Ptr.{Ptr}
 use Rattle.dbuf_state.specs.declared.dbuf.Content.TheVariants.{Clean, Dirty}
 use Rattle.dbuf_state.specs.declared.dbuf.Dbuf.{Dbuf}
@@ -41,8 +41,8 @@ GetFollows H = (c : CellLog H) (n : ℕ) (at : Oid) → Follows [] c (Get n at) 
 
 -- what was brought is kept
 abbrev pub LoadFollows : Type 0 → Type 0
-LoadFollows H = (c : CellLog H) (n : ℕ) (at : Oid) (kept : H) → dbuf_is (is_clean_in is_reading) at c.dbufs ≡ true
-    → Follows [] c (Load n at) (with_dbuf at (cached_with kept) c.dbufs)
+LoadFollows H = (c : CellLog H) (n : ℕ) (at : Oid) (held : Bool) (kept : H) → dbuf_is (is_clean_in is_reading) at c.dbufs ≡ true
+    → Follows [] c (Load n at held) (with_dbuf at (cached_with kept) c.dbufs)
 
 -- what is evicted is taken out
 abbrev pub EvictFollows : Type 0 → Type 0
@@ -71,8 +71,8 @@ abbrev pub UnpinFollows : Type 0 → Type 0
 UnpinFollows H = (c : CellLog H) (n : ℕ) (at : Oid) → Follows [] c (Unpin n at) (with_dbuf at (unpinned_by n) c.dbufs)
 
 abbrev pub SyncedFollows : Type 0 → Type 0
-SyncedFollows H = (c : CellLog H) (n : ℕ) (at : Oid) (ptr : Ptr) (kept : H)
-    → Follows [] c (Synced n at ptr) (with_dbuf at (synced_to ptr kept) c.dbufs)
+SyncedFollows H = (c : CellLog H) (n : ℕ) (at : Oid) (ptr : Ptr) (held : Bool) (kept : H)
+    → Follows [] c (Synced n at ptr held) (with_dbuf at (synced_to ptr kept) c.dbufs)
 
 -- the end empties the dbufs, whatever was taken out of them for it
 abbrev pub EndFollows : Type 0 → Type 0

@@ -38,21 +38,24 @@ pub enum CellEvent {
         n: u32,
         at: Oid,
     },
-    /// `n` brought a clean block into its dbuf.
+    /// `n` brought a clean block into its dbuf, which keeps a hold on an entry of the cache where `held` says so.
     Load {
         n: u32,
         at: Oid,
+        held: bool,
     },
     /// `n` took a clean block out of its dbuf, since the cell keeps more than its limit.
     Evict {
         n: u32,
         at: Oid,
     },
-    /// `n` wrote a dirty block to the pool, where this pointer names it.
+    /// `n` wrote a dirty block to the pool, where this pointer names it. Its dbuf keeps a hold on an entry of the cache where
+    /// `held` says so.
     Synced {
         n: u32,
         at: Oid,
         ptr: Ptr,
+        held: bool,
     },
     /// `n` ended the cell: no dbuf keeps a block, and there are no pins.
     End {

@@ -1,8 +1,9 @@
 //! What a cell keeps of the cache, and what it shows of itself.
 ghost use Rattle.std.specs.Prelude.{◌≡◌, ℕ, List, map, if◌then◌else◌};
 ghost use Rattle.arc_core.specs.Keeps.{holds_on};
+ghost use Rattle.dbuf_state.specs.Held.{IsSoundCell};
 ghost use Rattle.dbuf_state.specs.Numbers.{claims_in, event_numbers, mapping_numbers, opening_numbers};
-ghost use Rattle.dbuf_state.specs.Soundness.{IsSound, hold_in, holds_in};
+ghost use Rattle.dbuf_state.specs.Soundness.{hold_in, holds_in};
 
 use crate::cell::Cell;
 use crate::dbuf::Dbuf;
@@ -28,7 +29,7 @@ impl<H: Shows + Drop> Keeps for Cell<H> {
 
     ghost claims = { λ c n. mapping_numbers (claims_in n c.dbufs) };
 
-    ghost sound = { IsSound };
+    ghost sound = { IsSoundCell H.is_held };
 
     fn keeps(&self, key: Key) -> u64 {
         self.holds_on(key)

@@ -1,5 +1,6 @@
 //! Laws of cells, each the contract of a function that does nothing.
 ghost use Rattle.dbuf_state.specs.Answers.{AnswersAlike};
+ghost use Rattle.dbuf_state.specs.Held.{MappedTells};
 ghost use Rattle.dbuf_state.specs.History.{EndsAlike};
 ghost use Rattle.dbuf_state.specs.InHand.{ClaimedIsRead, ClaimsChange, ClaimsStay, ClaimsStayByEnd, ClaimsStayByNew, ClaimsStayByNote, DirtyHidesUnkept, DirtyIsChange, EndHidesUnkept, EndRests, EndedKeepsNothing, EvictableIsCached, FirstKeptIsCached, FitKeeps, HoldsChange, HoldsStay, HoldsStayByEnd, HoldsStayByNew, HoldsStayByNote, PlainDbufIs, PlainStandingsAre, RekeptIsThere, RestLasts, RestLastsByUnkeep, RestStays, RestStaysByNew, RestStaysByNote};
 ghost use Rattle.dbuf_state.specs.Numbers.{AreEventsNumbered, AreEventsRead, AreMappingsRead};
@@ -82,13 +83,15 @@ pub fn what_is_out_for_a_while<H>(_kept: PhantomData<H>)
     ensures ended { EndHidesUnkept H }
 {}
 
-/// A law of cells: what a call, an event that is noted and an end change of the holds that the dbufs keep.
+/// A law of cells: what a call, an event that is noted and an end change of the holds that the dbufs keep, and that the history of a
+/// cell that only maps tells that it keeps none.
 pub fn holds_go_with_what_is_kept<H: Shows>(_kept: PhantomData<H>)
     ensures change { HoldsChange H.key_of H.bytes_of H.is_held }
     ensures stay { HoldsStay H.key_of H.bytes_of H.is_held }
     ensures note { HoldsStayByNote H.key_of H.bytes_of H.is_held }
     ensures end { HoldsStayByEnd H.key_of H.bytes_of H.is_held }
     ensures new { HoldsStayByNew H.key_of H.bytes_of H.is_held }
+    ensures told { MappedTells H.is_held }
 {}
 
 /// A law of cells: what a call, an event that is noted and an end change of what a number claims.

@@ -2,11 +2,7 @@
 use Rattle.std.proofs.Common.{◌≡◌, ℕ, zero, suc, List, [], ◌∷◌, ◌++◌, length, Option, None, Some, refl, sym, ap, ◌∙◌, subst, inl, inr, arith}
 use Rattle.std.specs.Prelude.{◌⊎◌, slice_get}
 use Rattle.std.proofs.lemmas.Option.{slice_get_within}
-use Rattle.blk_ptr.specs.declared.ptr.Ptr.{Ptr}
 use Rattle.arc_core.specs.Config.{IsConfig}
-use Rattle.arc_core.specs.declared.served.Served.{Served}
-use Rattle.arc_core.specs.declared.served.Served.TheVariants as served
-use Rattle.dbuf_cells.specs.Turns.{OnHeap}
 use Rattle.vdev_io.specs.Calls.{Call}
 use Rattle.vdev_io.specs.declared.device.CacheDev.{Ghosts as Devices}
 use Rattle.vdev_io.specs.declared.pool.Pool.{Ghosts}
@@ -21,13 +17,14 @@ use Rattle.trace_run.specs.Lines.{caller_of}
 use Rattle.trace_run.specs.RunWork.{FitsBy, IsSyncWork}
 use Rattle.trace_run.specs.callers.Together.{StopsAtSync}
 use Rattle.trace_run.specs.callers.WorkLines.{IsWorkOf}
-use Rattle.trace_run.specs.dbufs.Objects.{Brought, Line, Loaded, Nothing, Refused, ops_of}
+use Rattle.trace_run.specs.dbufs.Objects.{Line, ops_of}
 use Rattle.trace_run.specs.one_caller.Sequence.{BetweenLines, DoesAnyLine, DoesSync, EndsThere}
 use Rattle.trace_run.proofs.callers.GroupLists.{some-same}
-use Rattle.run_laws.specs.Alike.{AreAlikeSoFar, BeginAlike, ComeToTheSame, FailAlike, MayPart, OneRun, ReadsPast, answers_at_stop, at_stop, begun, past as may_past, pool_answers_to}
+use Rattle.run_laws.specs.Alike.{AreAlikeSoFar, BeginAlike, ComeToTheSame, FailAlike, MayPart, OneRun, answers_at_stop, at_stop, begun, pool_answers_to}
 use Rattle.run_laws.proofs.Begins.{start-same}
-use Rattle.run_laws.proofs.Closing.{EndAlike, close-alike, closed-same}
-use Rattle.run_laws.proofs.Facts.{AreCachedValid, AreSettled, GivesUpAll, OfEachLine}
+use Rattle.run_laws.proofs.Closing.{EndAlike, close-alike}
+use Rattle.run_laws.proofs.EndedOrder.{ended-same}
+use Rattle.run_laws.proofs.Facts.{AreCachedValid, AreSettled, OfEachLine}
 use Rattle.run_laws.proofs.LinesAlike.{Caps, ComeTo, Feeds, GoesFurther, Kind, Objects, Reads, StepsAlike, Syncs, Together, kind_of, one_further, other_further, parted, together}
 use Rattle.run_laws.proofs.Parting.{parts-may, replays-part, same-there}
 use Rattle.run_laws.proofs.Runs.{its-replies, many-replies, ops-front, runs-come, whole-lines}
@@ -36,45 +33,6 @@ use Rattle.run_laws.proofs.StepKinds.{caps-steps, feeds-steps, reads-steps, unfe
 use Rattle.run_laws.proofs.StopStep.{StopAlike, stop-step, stops-first}
 use Rattle.run_laws.proofs.SyncCells.{CollidesIn}
 use Rattle.run_laws.proofs.SyncStep.{sync-step}
-
--- ---- reads past the cache
-
--- the line read its block past the cache
-abbrev IsPast : Line → Type 0
-IsPast l = (ptr : Ptr) × (l.work.brought ≡ Loaded ptr served.Past)
-
-served-past : (ptr : Ptr) (from : Served) → ((q : Ptr) × (Loaded ptr from ≡ Loaded q served.Past)) ⊎ (((q : Ptr) × (Loaded ptr from ≡ Loaded q served.Past)) → ⊥)
-served-past ptr served.Past = inl (ptr, refl)
-served-past ptr served.Hit = inr (λ is. let same : Loaded ptr served.Hit ≡ Loaded is.0 served.Past = is.1 in cc)
-served-past ptr served.Pool = inr (λ is. let same : Loaded ptr served.Pool ≡ Loaded is.0 served.Past = is.1 in cc)
-served-past ptr served.L2 = inr (λ is. let same : Loaded ptr served.L2 ≡ Loaded is.0 served.Past = is.1 in cc)
-
-brought-past : (brought : Brought) → ((q : Ptr) × (brought ≡ Loaded q served.Past)) ⊎ (((q : Ptr) × (brought ≡ Loaded q served.Past)) → ⊥)
-brought-past (Loaded ptr from) = served-past ptr from
-brought-past Nothing = inr (λ is. let same : Nothing ≡ Loaded is.0 served.Past = is.1 in cc)
-brought-past (Refused ptr) = inr (λ is. let same : Refused ptr ≡ Loaded is.0 served.Past = is.1 in cc)
-
-past-behind : (l : Line) (ls : List Line) → ReadsPast ls → ReadsPast (l ∷ ls)
-past-behind l ls p = record { place = suc p.place; line = p.line; at = p.at; ptr = p.ptr; past = p.past }
-
--- behind a line that did not, one of those behind it did
-past-further : (l : Line) (ls : List Line) → (IsPast l → ⊥) → ReadsPast (l ∷ ls) → ReadsPast ls
-past-further l ls none p = go p.place p.at
-  where
-    go : (k : ℕ) → slice_get (l ∷ ls) k ≡ Some p.line → ReadsPast ls
-    go zero at = let same : l ≡ p.line = some-same l p.line at in absurd (none (p.ptr, ap (λ (x : Line). x.work.brought) same ∙ p.past))
-    go (suc k) at = record { place = k; line = p.line; at = at; ptr = p.ptr; past = p.past }
-
--- some line did, or none
-past-or-none : (ls : List Line) → ReadsPast ls ⊎ (ReadsPast ls → ⊥)
-past-or-none [] = inr (λ p. let clash : ◌≡◌ {A = Option Line} None (Some p.line) = p.at in cc)
-past-or-none (l ∷ ls) = elim (brought-past l.work.brought) [
-  | inl here ↦ inl (record { place = 0; line = l; at = refl; ptr = here.0; past = here.1 })
-  | inr none ↦ (elim (past-or-none ls) [
-    | inl more ↦ inl (past-behind l ls more)
-    | inr never ↦ inr (λ p. never (past-further l ls none p))
-  ])
-]
 
 -- ---- places of lines
 
@@ -102,14 +60,12 @@ IsSyncLine ops.Feed = ⊥
 IsSyncLine (ops.Cap c) = ⊥
 
 module _ {P D : Type 0} (pools : Ghosts P) (devices : Devices D) (trace : Trace) where
-  -- What is known of a line of one run by itself: its work fits it; no eviction is left over before it and behind it; each block that is cached has a valid key; for each that the line lets go it gives up a hold; and what was done to each
-  -- shard by then was legal.
+  -- What is known of a line of one run by itself: its work fits it; no eviction is left over before it and behind it; each block that is cached has a valid key; and what was done to each shard by then was legal.
   pub record IsKnown (l : Line) (from to : BetweenLines P D) : Type 0 where
     pub fits : FitsBy trace.config (caller_of l.op) l
     pub settled : AreSettled trace from.cells
     pub then_settled : AreSettled trace to.cells
     pub valid : AreCachedValid trace (pools.size from.outside.pool) from.cells
-    pub gives_up : GivesUpAll trace l from.cells
     pub own : (n : ℕ) → caller_of l.op ≡ Some n → IsWorkOf trace.config 0 l
     pub legal : AreLegalShards trace to.shards
 
@@ -119,16 +75,10 @@ module _ {P D : Type 0} (pools : Ghosts P) (devices : Devices D) (trace : Trace)
 
   -- ---- what others show
 
-  -- what cells give back as they end is one
-  abbrev pub DropsAlike : Type 0
-  DropsAlike = (one other : OneRun pools devices trace) (image : List ℕ) → pools.told one.before ≡ Some image → pools.told other.before ≡ Some image → (ReadsPast one.run.work.lines → ⊥) → (ReadsPast other.run.work.lines → ⊥)
-      → ((i : ℕ) (cell there : OnHeap) → slice_get one.closed.cells i ≡ Some cell → slice_get other.closed.cells i ≡ Some there → there.value.history ≡ cell.value.history) → other.run.work.ended ≡ one.run.work.ended
-
-  -- the step of lines on objects, what is known of each run by itself, and the order of the drops at the close
+  -- the step of lines on objects, and what is known of each run by itself
   pub record IsShown : Type 0 where
     pub objects : StepsAlike pools devices trace IsKnown Objects
-    pub known : (run : OneRun pools devices trace) (image : List ℕ) → pools.told run.before ≡ Some image → (ReadsPast run.run.work.lines → ⊥) → AllKnown run
-    pub drops : DropsAlike
+    pub known : (run : OneRun pools devices trace) (image : List ℕ) → pools.told run.before ≡ Some image → AllKnown run
 
 module _ {P D : Type 0} (pools : Ghosts P) (devices : Devices D) (pool_len : (p : P) (bytes : List ℕ) → pools.told p ≡ Some bytes → length bytes ≡ pools.size p) (trace : Trace) where
   -- ---- a sync is a step
@@ -204,7 +154,7 @@ module _ {P D : Type 0} (pools : Ghosts P) (devices : Devices D) (pool_len : (p 
     known-steps Syncs = syncs-steps formed.config
     known-steps Caps = caps-steps pools devices pool_len trace (IsKnown pools devices trace) formed.config (λ l from to known. known.legal) (λ l from to known. known.fits)
 
-    module _ (one other : OneRun pools devices trace) (begin : BeginAlike pools devices trace one other) (fail : FailAlike pools devices trace one other) (none : ReadsPast one.run.work.lines → ⊥) (other_none : ReadsPast other.run.work.lines → ⊥) where
+    module _ (one other : OneRun pools devices trace) (begin : BeginAlike pools devices trace one other) (fail : FailAlike pools devices trace one other) where
       abbrev SameOrParts : Type 0
       SameOrParts = ComeToTheSame pools devices trace one other ⊎ MayPart pools devices trace one other
 
@@ -227,19 +177,24 @@ module _ {P D : Type 0} (pools : Ghosts P) (devices : Devices D) (pool_len : (p 
         lines-many : length one.run.work.lines ≡ length other.run.work.lines
         lines-many = sym (many-replies pools devices trace one) ∙ (sym (ap (λ (rs : List Reply). length rs) replies-same) ∙ many-replies pools devices trace other)
 
-        last-same : StopsSame → EndAlike pools devices trace one other
-        last-same last = record {
+        last-same : StopsSame → other.run.work.ended ≡ one.run.work.ended → EndAlike pools devices trace one other
+        last-same last dropped = record {
           shards = last.shards;
           cells = last.cells;
           kept = last.kept;
           ending = last.ends;
           replies = replies-same;
-          dropped = shown.drops one other begin.image begin.told begin.other_told none other_none (closed-same pools devices trace one other last.cells);
+          dropped = dropped;
         }
+
+        close : StopsSame → SameOrParts
+        close last =
+            let dropped = ended-same pools devices trace formed.apart one other last.cells in
+            inl (close-alike pools devices trace one other (last-same last dropped) (start-same pools devices trace one other begin fail).found)
 
         come-together : SameOrParts
         come-together = elim stops-same [
-          | inl last ↦ inl (close-alike pools devices trace one other (last-same last) (start-same pools devices trace one other begin fail).found)
+          | inl last ↦ close last
           | inr x ↦ inr (replays-part pools devices trace one other (length one.run.work.lines) one.in_turn.reached.cells (same-there pools devices trace one other (length one.run.work.lines) one.in_turn.reached.cells t.there) t.there.did
               x.i x.in_range x.bases x.other_bases x.state x.other_state x.leads x.other_leads x.collide (at_stop refl lines-many x.writes))
         ]
@@ -251,14 +206,8 @@ module _ {P D : Type 0} (pools : Ghosts P) (devices : Devices D) (pool_len : (p 
       come (one_further g) = absurd (further-part other one (answers_at_stop one.ending one.run.work.stopped) g)
       come (parted p) = inr (parts-may pools devices trace one other formed.config p)
 
-      unpast : SameOrParts
-      unpast = come (runs-come pools devices pool_len trace one other begin fail (IsKnown pools devices trace) (shown.known one begin.image begin.told none) (shown.known other begin.image begin.other_told other_none) formed.config (λ l from to known. known.legal) (λ l from to known. known.fits) known-steps)
+      come-so : SameOrParts
+      come-so = come (runs-come pools devices pool_len trace one other begin fail (IsKnown pools devices trace) (shown.known one begin.image begin.told) (shown.known other begin.image begin.other_told) formed.config (λ l from to known. known.legal) (λ l from to known. known.fits) known-steps)
 
     pub runs-alike : (one other : OneRun pools devices trace) → BeginAlike pools devices trace one other → FailAlike pools devices trace one other → ComeToTheSame pools devices trace one other ⊎ MayPart pools devices trace one other
-    runs-alike one other begin fail = elim (past-or-none one.run.work.lines) [
-      | inl past ↦ inr (may_past (inl past))
-      | inr none ↦ (elim (past-or-none other.run.work.lines) [
-        | inl past ↦ inr (may_past (inr past))
-        | inr other_none ↦ unpast one other begin fail none other_none
-      ])
-    ]
+    runs-alike one other begin fail = come-so one other begin fail

@@ -14,12 +14,7 @@ pub mod FeedRanges
 pub mod FeedRows
 pub mod FeedStep
 pub mod FeedWrites
-pub mod FreshKeys
-pub mod GivenUp
 pub mod GotAlike
-pub mod HoldsCount
-pub mod HoldsLines
-pub mod HoldsRun
 pub mod Law
 pub mod LinePlaces
 pub mod LinesAlike

@@ -41,12 +41,12 @@ use Rattle.trace_text.specs.declared.reply.Reply.TheVariants as replies
 use Rattle.trace_run.specs.Deeds.{HasAct, act_of_event, acts_of_events, events_of_cell, events_there}
 use Rattle.trace_run.specs.dbufs.ObjectLines.{EndsInside, TellsBrought, WasToBring}
 use Rattle.trace_run.specs.dbufs.ObjectReplies.{ActsAt, ActsBy, AnswersObject, BringsAt, RefusesAt, RefusesPin, RefusesWhole}
-use Rattle.trace_run.specs.dbufs.Objects.{Brought, GoesTogether, IsAnswered, Loaded, Nothing, OwnEvent, Refused, Work, loads_of}
+use Rattle.trace_run.specs.dbufs.Objects.{Brought, GoesTogether, IsAnswered, Loaded, Nothing, OwnEvent, Refused, Work, gives_hold, loads_of}
 use Rattle.trace_run.proofs.deeds.NotedCells.{noted-here}
 use Rattle.trace_run.proofs.in_place.Mapped.{mapped-all}
 use Rattle.run_laws.proofs.BringAlike.{AsksSo, IsNothing, TellsRefusal, refusal_of}
 use Rattle.run_laws.proofs.Due.{parted}
-use Rattle.run_laws.proofs.Facts.{GivesUp, IsSettled}
+use Rattle.run_laws.proofs.Facts.{IsSettled}
 use Rattle.run_laws.proofs.MadeActs.{IsActing, acting, drops, inserts, releases, sole-is}
 
 -- ---- legal histories of a cell
@@ -103,7 +103,7 @@ bytes-there at o d is there ptr was = not-to-bring d.block ptr there (sym (mappe
 -- a Load changes nothing of the object map
 mapped-loads : (at : Oid) (o : Outline) (brought : Brought) → mapped_at at (after_all o (loads_of 0 at brought)) ≡ mapped_at at o
 mapped-loads at o Nothing = refl
-mapped-loads at o (Loaded ptr from) = mapped-all at o (events.Load 0 at ∷ [])
+mapped-loads at o (Loaded ptr from) = mapped-all at o (events.Load 0 at (gives_hold from) ∷ [])
 mapped-loads at o (Refused ptr) = refl
 
 -- ---- events that need a block's bytes
@@ -170,18 +170,17 @@ module _ (limit : ℕ) (opening : List Mapping) (front : List CellEvent) where
 -- ---- what is known of one line on an object
 
 -- What a line did, and what it was answered, by the front of its cell's history that it found; and the history goes on to where no eviction is due.
-pub record LooksSo (g : Config) (image : List ℕ) (limit : ℕ) (opening : List Mapping) (front : List CellEvent) (own : OwnEvent) (op : Op) (reply : Reply) (work : Work) : Type 0 where
+pub record LooksSo (g : Config) (image : List ℕ) (limit : ℕ) (opening : List Mapping) (front : List CellEvent) (AreHeld : (Oid → Bool) → Type 0) (own : OwnEvent) (op : Op) (reply : Reply) (work : Work) : Type 0 where
   pub brings : BringsAt (length image) own.at (outline_after limit opening front) work.brought
   pub range : TellsBrought (Some image) work.brought
-  pub acts : ActsBy g 0 own (outline_after limit opening front) work reply
-  pub gives : GivesUp own (outline_after limit opening front) work reply
+  pub acts : ActsBy g 0 AreHeld own (outline_after limit opening front) work reply
   pub answer : AnswersObject (length image) (Some image) limit opening front work.brought op reply
   pub together : GoesTogether op reply work.brought
   pub settled : IsSettled limit opening (front ++ events_of_cell (cell_of g.cells own.at) work.noted)
 
-module _ (g : Config) (image : List ℕ) (limit : ℕ) (opening : List Mapping) (front : List CellEvent) where
+module _ (g : Config) (image : List ℕ) (limit : ℕ) (opening : List Mapping) (front : List CellEvent) (AreHeld : (Oid → Bool) → Type 0) where
   -- what an answered line did stands in that history
-  own-settled : (own : OwnEvent) (work : Work) (acts : ActsAt g 0 own (outline_after limit opening front) work) → IsSettled limit opening (front ++ events_of_cell (cell_of g.cells own.at) work.noted)
+  own-settled : (own : OwnEvent) (work : Work) (acts : ActsAt g 0 AreHeld own (outline_after limit opening front) work) → IsSettled limit opening (front ++ events_of_cell (cell_of g.cells own.at) work.noted)
       → IsSettled limit opening (front ++ (loads_of 0 own.at work.brought ++ own.event ∷ map (events.Evict 0) acts.evictions))
   own-settled own work acts settled =
       let i : ℕ = cell_of g.cells own.at in
@@ -194,14 +193,14 @@ module _ (g : Config) (image : List ℕ) (limit : ℕ) (opening : List Mapping) 
   Asks at last brought reply = AsksSo image limit opening front at last brought (refusal_of reply) × TellsRefusal reply
 
   -- of an answered line
-  done-asks : (own : OwnEvent) (last : ℕ) (work : Work) → NeedsBytes own.event own.at last → IsAnswered work.brought → (acts : ActsAt g 0 own (outline_after limit opening front) work)
+  done-asks : (own : OwnEvent) (last : ℕ) (work : Work) → NeedsBytes own.event own.at last → IsAnswered work.brought → (acts : ActsAt g 0 AreHeld own (outline_after limit opening front) work)
       → IsSettled limit opening (front ++ events_of_cell (cell_of g.cells own.at) work.noted) → AsksSo image limit opening front own.at last work.brought None
   done-asks own last work needs answered acts settled =
       let its = own-settled own work acts settled in
       let rest : List CellEvent = map (events.Evict 0) acts.evictions in
       (answered, own-ends limit opening front own.at last work.brought own.event rest needs its, own-there limit opening front own.at last work.brought own.event rest needs its)
 
-  pub get-asks : (n t : ℕ) (at : Oid) (w : Window) (reply : Reply) (work : Work) → LooksSo g image limit opening front (record { at = at; event = events.Get n at }) (ops.Get n t at w) reply work → Asks at (w.at + w.len) work.brought reply
+  pub get-asks : (n t : ℕ) (at : Oid) (w : Window) (reply : Reply) (work : Work) → LooksSo g image limit opening front AreHeld (record { at = at; event = events.Get n at }) (ops.Get n t at w) reply work → Asks at (w.at + w.len) work.brought reply
   get-asks n t at w (replies.Got size shown) work looks =
       let own : OwnEvent = record { at = at; event = events.Get n at } in
       let its = own-settled own work looks.acts looks.settled in
@@ -216,7 +215,7 @@ module _ (g : Config) (image : List ℕ) (limit : ℕ) (opening : List Mapping) 
   get-asks n t at w (replies.Synced group blocks bytes) work looks = absurd looks.answer
   get-asks n t at w (replies.Capped c) work looks = absurd looks.answer
 
-  pub patch-asks : (n t : ℕ) (at : Oid) (from : ℕ) (bytes : List ℕ) (reply : Reply) (work : Work) → LooksSo g image limit opening front (record { at = at; event = events.Patch n at from bytes }) (ops.Patch n t at from bytes) reply work
+  pub patch-asks : (n t : ℕ) (at : Oid) (from : ℕ) (bytes : List ℕ) (reply : Reply) (work : Work) → LooksSo g image limit opening front AreHeld (record { at = at; event = events.Patch n at from bytes }) (ops.Patch n t at from bytes) reply work
       → Asks at (from + length bytes) work.brought reply
   patch-asks n t at from bytes replies.Done work looks =
       (done-asks (record { at = at; event = events.Patch n at from bytes }) (from + length bytes) work (patch-needs n at from bytes) looks.together looks.acts looks.settled, refl)
@@ -241,7 +240,7 @@ module _ (g : Config) (image : List ℕ) (limit : ℕ) (opening : List Mapping) 
   whole-refused brought at (refusals.NoPin named) refuses = absurd refuses
   whole-refused brought at refusals.NoMemory refuses = absurd refuses
 
-  pub pin-asks : (n t : ℕ) (at : Oid) (reply : Reply) (work : Work) → LooksSo g image limit opening front (record { at = at; event = events.Pin n at }) (ops.Pin n t at) reply work → Asks at 0 work.brought reply
+  pub pin-asks : (n t : ℕ) (at : Oid) (reply : Reply) (work : Work) → LooksSo g image limit opening front AreHeld (record { at = at; event = events.Pin n at }) (ops.Pin n t at) reply work → Asks at 0 work.brought reply
   pin-asks n t at replies.Done work looks = (done-asks (record { at = at; event = events.Pin n at }) 0 work (pin-needs n at) looks.together looks.acts looks.settled, refl)
   pin-asks n t at (replies.Refused refusal) work looks = ((looks.together, whole-refused work.brought at refusal looks.answer), refl)
   pin-asks n t at (replies.Got size shown) work looks = absurd looks.answer
@@ -256,7 +255,7 @@ module _ (g : Config) (image : List ℕ) (limit : ℕ) (opening : List Mapping) 
   -- ---- lines that ask for no bytes
 
   -- a whole write is never refused
-  pub put-done : (n t : ℕ) (at : Oid) (size fill : ℕ) (reply : Reply) (work : Work) → LooksSo g image limit opening front (record { at = at; event = events.Put n at size fill }) (ops.Put n t at size fill) reply work → reply ≡ replies.Done
+  pub put-done : (n t : ℕ) (at : Oid) (size fill : ℕ) (reply : Reply) (work : Work) → LooksSo g image limit opening front AreHeld (record { at = at; event = events.Put n at size fill }) (ops.Put n t at size fill) reply work → reply ≡ replies.Done
   put-done n t at size fill replies.Done work looks = refl
   put-done n t at size fill (replies.Refused refusal) work looks = absurd looks.answer
   put-done n t at size fill (replies.Got most shown) work looks = absurd looks.answer
@@ -290,7 +289,7 @@ module _ (g : Config) (image : List ℕ) (limit : ℕ) (opening : List Mapping) 
   pin-refused brought n at (refusals.NoHold block) refuses = absurd refuses
   pin-refused brought n at refusals.NoMemory refuses = absurd refuses
 
-  pub unpin-done : (n : ℕ) (at : Oid) (reply : Reply) (work : Work) → LooksSo g image limit opening front (record { at = at; event = events.Unpin n at }) (ops.Unpin n at) reply work
+  pub unpin-done : (n : ℕ) (at : Oid) (reply : Reply) (work : Work) → LooksSo g image limit opening front AreHeld (record { at = at; event = events.Unpin n at }) (ops.Unpin n at) reply work
       → reply ≡ unpin_reply (has_pin_at n at (outline_after limit opening front)) at
   unpin-done n at replies.Done work looks =
       let own : OwnEvent = record { at = at; event = events.Unpin n at } in

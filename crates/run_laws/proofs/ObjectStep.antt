@@ -1,6 +1,6 @@
 -- A line on an object of two runs that stand alike: it brings the same block, is answered the same, does the same to its cell and makes the same events, and they stand alike again; or a get shows two contents of one digest,
 -- or the cell has come to two states by one history (dbuf_hold, dbuf_read and dbuf_dirty of dbuf.c, for a single thread).
-use Rattle.std.proofs.Common.{◌≡◌, ◌⊎◌, ℕ, ◌+◌, ◌<◌, false, IsTrue, List, ◌++◌, length, Option, Some, None, inl, inr, refl, sym, ap, subst, ◌∙◌, append_assoc, arith}
+use Rattle.std.proofs.Common.{◌≡◌, ◌⊎◌, ℕ, ◌+◌, ◌<◌, Bool, IsTrue, List, ◌++◌, length, Option, Some, None, inl, inr, refl, sym, ap, subst, ◌∙◌, append_assoc, arith}
 use Rattle.blk_ptr.specs.Key.{IsValid}
 use Rattle.arc_core.specs.Config.{IsConfig}
 use Rattle.arc_core.specs.declared.config.Config.{Config}
@@ -30,6 +30,7 @@ use Rattle.trace_run.specs.Feeds.{FeedDone}
 use Rattle.trace_run.specs.Lines.{caller_of}
 use Rattle.trace_run.specs.Openings.{opening_map}
 use Rattle.trace_run.specs.callers.WorkLines.{IsWorkOf, effect_with}
+use Rattle.trace_run.specs.dbufs.Holders.{AreHolders}
 use Rattle.trace_run.specs.dbufs.ObjectLines.{TellsBrought, brought_there, events_of_bringing}
 use Rattle.trace_run.specs.dbufs.ObjectReplies.{ActsAt, ActsBy, AnswersDone, AnswersObject, AnswersWindow, BringsAt, RefusesAt, RefusesWhole}
 use Rattle.trace_run.specs.dbufs.Objects.{Brought, GoesTogether, NotesNothing, OwnEvent, Work}
@@ -39,7 +40,7 @@ use Rattle.run_laws.specs.Alike.{AreAlike, AreAlikeSoFar, AreDevicesAlike, devic
 use Rattle.run_laws.proofs.ActsAlike.{acts-alike}
 use Rattle.run_laws.proofs.Behind.{caller-then, goes-cell, goes-shard, same-shard}
 use Rattle.run_laws.proofs.BringAlike.{IsKeptValid, bringing_row, brought-alike, device-same, refusal_of}
-use Rattle.run_laws.proofs.Facts.{AreCachedValid, AreSettled, GivesUp, GivesUpAll, IsSettled, is_eviction, let_go}
+use Rattle.run_laws.proofs.Facts.{AreCachedValid, AreSettled, IsSettled}
 use Rattle.run_laws.proofs.GotAlike.{got-alike}
 use Rattle.run_laws.proofs.ObjectAlike.{AreLegalBehind, Asks, LooksSo, get-asks, made-one, patch-asks, pin-asks, put-done, unpin-done}
 use Rattle.run_laws.proofs.ReadStep.{line_of}
@@ -68,33 +69,35 @@ module _ (len : ℕ) (image : Option (List ℕ)) (limit : ℕ) (opening : List M
 
 -- ---- what an answered line did, and one that was refused
 
-abbrev pub ActsSo : (own : OwnEvent) → Outline → (g : Config) → Work → Option Refusal → Type 0
-ActsSo own o g work None = ActsAt g 0 own o work × (length work.acts ≡ let_go own o work)
-ActsSo own o g work (Some refusal) = NotesNothing work
+abbrev pub ActsSo : (AreHeld : (Oid → Bool) → Type 0) → (own : OwnEvent) → Outline → (g : Config) → Work → Option Refusal → Type 0
+ActsSo AreHeld own o g work None = ActsAt g 0 AreHeld own o work
+ActsSo AreHeld own o g work (Some refusal) = NotesNothing work
 
-acts-so : (g : Config) (own : OwnEvent) (o : Outline) (work : Work) (reply : Reply) → ActsBy g 0 own o work reply → GivesUp own o work reply → ActsSo own o g work (refusal_of reply)
-acts-so g own o work (replies.Got size shown) acts gives = (acts, gives)
-acts-so g own o work replies.Done acts gives = (acts, gives)
-acts-so g own o work (replies.Refused refusal) acts gives = acts
-acts-so g own o work (replies.Read from digest shown) acts gives = absurd acts
-acts-so g own o work (replies.Kept from) acts gives = absurd acts
-acts-so g own o work replies.Dropped acts gives = absurd acts
-acts-so g own o work (replies.Fed report) acts gives = absurd acts
-acts-so g own o work replies.FedNone acts gives = absurd acts
-acts-so g own o work (replies.Synced group blocks bytes) acts gives = absurd acts
-acts-so g own o work (replies.Capped c) acts gives = absurd acts
+acts-so : (g : Config) (AreHeld : (Oid → Bool) → Type 0) (own : OwnEvent) (o : Outline) (work : Work) (reply : Reply) → ActsBy g 0 AreHeld own o work reply → ActsSo AreHeld own o g work (refusal_of reply)
+acts-so g AreHeld own o work (replies.Got size shown) acts = acts
+acts-so g AreHeld own o work replies.Done acts = acts
+acts-so g AreHeld own o work (replies.Refused refusal) acts = acts
+acts-so g AreHeld own o work (replies.Read from digest shown) acts = absurd acts
+acts-so g AreHeld own o work (replies.Kept from) acts = absurd acts
+acts-so g AreHeld own o work replies.Dropped acts = absurd acts
+acts-so g AreHeld own o work (replies.Fed report) acts = absurd acts
+acts-so g AreHeld own o work replies.FedNone acts = absurd acts
+acts-so g AreHeld own o work (replies.Synced group blocks bytes) acts = absurd acts
+acts-so g AreHeld own o work (replies.Capped c) acts = absurd acts
 
--- behind the operation's own event evictions have to be made, and it is none
-pub record IsOwn (own : OwnEvent) : Type 0 where
-  pub makes : (x : Evicting) → evicting_after x own.event ≡ Must
-  pub stays : is_eviction own.event ≡ false
+-- behind the operation's own event evictions have to be made
+abbrev pub MustFollow : OwnEvent → Type 0
+MustFollow own = (x : Evicting) → evicting_after x own.event ≡ Must
 
 -- both lines noted the same of their cell, and made the same acts
-work-same : (g : Config) (limit : ℕ) (opening : List Mapping) (front : List CellEvent) (own : OwnEvent) (w v : Work) (refused : Option Refusal) → IsOwn own
+abbrev pub IsSameWork : Work → Work → Type 0
+IsSameWork w v = (v.noted ≡ w.noted) × (v.acts ≡ w.acts)
+
+work-same : (g : Config) (limit : ℕ) (opening : List Mapping) (front : List CellEvent) (own : OwnEvent) (w v : Work) (refused : Option Refusal) → MustFollow own
     → IsSettled limit opening (front ++ events_of_cell (cell_of g.cells own.at) w.noted) → IsSettled limit opening (front ++ events_of_cell (cell_of g.cells own.at) v.noted)
-    → ActsSo own (outline_after limit opening front) g w refused → ActsSo own (outline_after limit opening front) g v refused → v.brought ≡ w.brought → (v.noted ≡ w.noted) × (v.acts ≡ w.acts)
-work-same g limit opening front own w v None is rests other_rests so other_so brings = acts-alike g limit opening front own w v is.makes is.stays rests other_rests so.0 other_so.0 so.1 other_so.1 brings
-work-same g limit opening front own w v (Some refusal) is rests other_rests so other_so brings = (other_so.0 ∙ sym so.0, other_so.1 ∙ sym so.1)
+    → ActsSo (AreHolders front) own (outline_after limit opening front) g w refused → ActsSo (AreHolders front) own (outline_after limit opening front) g v refused → v.brought ≡ w.brought → IsSameWork w v
+work-same g limit opening front own w v None must rests other_rests so other_so brings = acts-alike g limit opening front own w v must rests other_rests so other_so brings
+work-same g limit opening front own w v (Some refusal) must rests other_rests so other_so brings = (other_so.0 ∙ sym so.0, other_so.1 ∙ sym so.1)
 
 -- the operation is on an object
 abbrev pub IsOnObject : Op → Type 0
@@ -124,11 +127,11 @@ module _ {P D : Type 0} (pools : Ghosts P) (devices : Devices D) (pool_len : (p 
   its_outline own from = outline_behind trace from.cells (cell_of trace.config.cells own.at)
 
   abbrev Looks : (image : List ℕ) → List CellEvent → OwnEvent → Op → Reply → Work → Type 0
-  Looks image front own op reply work = LooksSo trace.config image trace.config.dbuf_bytes (opening_map trace (cell_of trace.config.cells own.at)) front own op reply work
+  Looks image front own op reply work = LooksSo trace.config image trace.config.dbuf_bytes (opening_map trace (cell_of trace.config.cells own.at)) front (AreHolders front) own op reply work
 
   one-looks : (op : Op) (own : OwnEvent) (tick : ℕ) (r : Reply) (w : Work) (from to : BetweenLines P D) (image : List ℕ) → pools.told from.outside.pool ≡ Some image → DoesObject pools devices trace own.at tick (line_of op r w) from to
-      → ActsBy trace.config 0 own (its_outline own from) w r → GivesUp own (its_outline own from) w r → GoesTogether op r w.brought → AreSettled trace to.cells → Looks image (its_front own from) own op r w
-  one-looks op own tick r w from to image told did acts gives together settled =
+      → ActsBy trace.config 0 (AreHolders (its_front own from)) own (its_outline own from) w r → GoesTogether op r w.brought → AreSettled trace to.cells → Looks image (its_front own from) own op r w
+  one-looks op own tick r w from to image told did acts together settled =
       let i : ℕ = cell_of trace.config.cells own.at in
       let is_cell : IsCell trace.config i = cell-there trace.config valid own.at in
       let limit : ℕ = trace.config.dbuf_bytes in
@@ -138,7 +141,6 @@ module _ {P D : Type 0} (pools : Ghosts P) (devices : Devices D) (pool_len : (p 
         brings = subst (λ (n : ℕ). BringsAt n own.at (its_outline own from) w.brought) size did.brought;
         range = subst (λ (o : Option (List ℕ)). TellsBrought o w.brought) told did.range;
         acts = acts;
-        gives = gives;
         answer = subst (λ (x : ℕ × Option (List ℕ)). AnswersObject x.0 x.1 limit opening (its_front own from) w.brought op r) (λ h. (size h, told h)) did.answer;
         together = together;
         settled = subst (λ (es : List CellEvent). IsSettled limit opening es) (did.goes_on.cells i is_cell) (settled i is_cell);
@@ -148,7 +150,7 @@ module _ {P D : Type 0} (pools : Ghosts P) (devices : Devices D) (pool_len : (p 
 
   pub record BothOn (op : Op) (own : OwnEvent) (tick : ℕ) (r q : Reply) (w v : Work) (from to other other_to : BetweenLines P D) : Type 0 where
     pub alike : AreAlike pools devices trace from other
-    pub is_own : IsOwn own
+    pub must : MustFollow own
     pub did : DoesObject pools devices trace own.at tick (line_of op r w) from to
     pub other_did : DoesObject pools devices trace own.at tick (line_of op q v) other other_to
     pub looks : Looks alike.image (its_front own from) own op r w
@@ -162,8 +164,8 @@ module _ {P D : Type 0} (pools : Ghosts P) (devices : Devices D) (pool_len : (p 
 
   module _ (op : Op) (own : OwnEvent) (tick : ℕ) (r q : Reply) (w v : Work) (from to other other_to : BetweenLines P D) (both : BothOn op own tick r q w v from to other other_to) where
     -- one block is brought, or none, and both are answered or refused for one cause
-    asks-alike : (last : ℕ) → Asks trace.config both.alike.image trace.config.dbuf_bytes (opening_map trace (cell_of trace.config.cells own.at)) (its_front own from) own.at last w.brought r
-        → Asks trace.config both.alike.image trace.config.dbuf_bytes (opening_map trace (cell_of trace.config.cells own.at)) (its_front own from) own.at last v.brought q → (v.brought ≡ w.brought) × (refusal_of q ≡ refusal_of r)
+    asks-alike : (last : ℕ) → Asks trace.config both.alike.image trace.config.dbuf_bytes (opening_map trace (cell_of trace.config.cells own.at)) (its_front own from) (AreHolders (its_front own from)) own.at last w.brought r
+        → Asks trace.config both.alike.image trace.config.dbuf_bytes (opening_map trace (cell_of trace.config.cells own.at)) (its_front own from) (AreHolders (its_front own from)) own.at last v.brought q → (v.brought ≡ w.brought) × (refusal_of q ≡ refusal_of r)
     asks-alike last asks other_asks =
         brought-alike pools devices trace (shard_behind trace.config from.shards) (shard_behind trace.config other.shards) (same-shard pools devices trace from other both.alike)
         from.device to.device other.device other_to.device both.alike.device both.alike.image trace.config.dbuf_bytes (opening_map trace (cell_of trace.config.cells own.at)) (its_front own from) own.at last w.brought v.brought r q
@@ -175,12 +177,13 @@ module _ {P D : Type 0} (pools : Ghosts P) (devices : Devices D) (pool_len : (p 
 
     module _ (brings : v.brought ≡ w.brought) (same : q ≡ r) where
       -- both noted the same and made the same acts
-      works : (v.noted ≡ w.noted) × (v.acts ≡ w.acts)
+      works : IsSameWork w v
       works =
           let o : Outline = its_outline own from in
-          let mine = acts-so trace.config own o w r both.looks.acts both.looks.gives in
-          let its = subst (λ (k : Option Refusal). ActsSo own o trace.config v k) (ap refusal_of same) (acts-so trace.config own o v q both.other_looks.acts both.other_looks.gives) in
-          work-same trace.config trace.config.dbuf_bytes (opening_map trace (cell_of trace.config.cells own.at)) (its_front own from) own w v (refusal_of r) both.is_own both.looks.settled both.other_looks.settled mine its brings
+          let Held : (Oid → Bool) → Type 0 = AreHolders (its_front own from) in
+          let mine = acts-so trace.config Held own o w r both.looks.acts in
+          let its = subst (λ (z : Option Refusal). ActsSo Held own o trace.config v z) (λ h. refusal_of (same h)) (acts-so trace.config Held own o v q both.other_looks.acts) in
+          work-same trace.config trace.config.dbuf_bytes (opening_map trace (cell_of trace.config.cells own.at)) (its_front own from) own w v (refusal_of r) both.must both.looks.settled both.other_looks.settled mine its brings
 
       brings-same : (shard : ℕ) → brings_in v.brought other shard ≡ brings_in w.brought from shard
       brings-same shard = λ h. brought_there trace.config.shards shard (brings h)
@@ -204,15 +207,15 @@ module _ {P D : Type 0} (pools : Ghosts P) (devices : Devices D) (pool_len : (p 
           = both.other_did.goes_on.shards shard ∙ (moved ∙ sym (append_assoc (from.shards shard) (brings_in w.brought from shard) made)) in
           subst (λ (es : List Event). IsTrue (is_legal_history (opening_of trace.config) es)) goes (both.other_legal shard there)
 
-      -- and the same events
-      made-same : both.other_did.made ≡ both.did.made
-      made-same = made-one trace.config (opening_of trace.config) shards_there fronts both.did.made both.other_did.made both.did.kinds both.other_did.kinds
-          (sym both.other_did.are ∙ (works.1 ∙ both.did.are)) mine-legal its-legal
-
       device-then : (bringing_row pools devices trace (shard_behind trace.config other.shards) v.brought q other.device other_to.device both.other_did.asks
           ≡ bringing_row pools devices trace (shard_behind trace.config from.shards) w.brought r from.device to.device both.did.asks) × AreDevicesAlike pools devices trace (shard_behind trace.config from.shards) to.device other_to.device
       device-then = device-same pools devices trace (shard_behind trace.config from.shards) (shard_behind trace.config other.shards) (same-shard pools devices trace from other both.alike) from.device to.device other.device other_to.device both.alike.device
           w.brought v.brought r q brings same both.did.asks both.other_did.asks both.rows
+
+      -- and the same events
+      made-same : both.other_did.made ≡ both.did.made
+      made-same = made-one trace.config (opening_of trace.config) shards_there fronts both.did.made both.other_did.made both.did.kinds both.other_did.kinds
+          (sym both.other_did.are ∙ (works.1 ∙ both.did.are)) mine-legal its-legal
 
       -- so what stands behind the line is alike
       object-then : DoesLine pools devices trace (line_of op r w) from to → DoesLine pools devices trace (line_of op q v) other other_to → AreAlike pools devices trace to other_to
@@ -232,8 +235,7 @@ module _ {P D : Type 0} (pools : Ghosts P) (devices : Devices D) (pool_len : (p 
   ComesOn op r q w v here there from to other other_to did other_did =
       StepAlike pools devices trace (line_of op r w) (line_of op q v) here there from to other other_to did other_did ⊎ PartsAt pools devices trace from.cells (line_of op r w) (line_of op q v) here there
 
-  -- What is known of two lines of one operation: what stood before them was alike; each line's work fits its reply; each leaves its cell with no eviction due; a cached block's key is valid; each gave up a hold for each block that its cell
-  -- keeps no longer; the histories of shards behind them are legal; and of their calls the same failed.
+  -- What is known of two lines of one operation: what stood before them was alike; each line's work fits its reply; each leaves its cell with no eviction due; a cached block's key is valid; the histories of shards behind them are legal; and of their calls the same failed.
   pub record BothObjects (op : Op) (r q : Reply) (w v : Work) (here there : List FeedDone) (from to other other_to : BetweenLines P D) (did : DoesAnyLine pools devices trace (caller_of op) (line_of op r w) here from to)
       (other_did : DoesAnyLine pools devices trace (caller_of op) (line_of op q v) there other other_to) : Type 0 where
     pub alike : AreAlike pools devices trace from other
@@ -242,8 +244,6 @@ module _ {P D : Type 0} (pools : Ghosts P) (devices : Devices D) (pool_len : (p 
     pub settled : AreSettled trace to.cells
     pub other_settled : AreSettled trace other_to.cells
     pub cached : AreCachedValid trace (pools.size from.outside.pool) from.cells
-    pub gives : GivesUpAll trace (line_of op r w) from.cells
-    pub other_gives : GivesUpAll trace (line_of op q v) other.cells
     pub legal : AreLegalShards trace to.shards
     pub other_legal : AreLegalShards trace other_to.shards
     pub pool : AreAlikeSoFar (pool_answers_to (line_of op r w)) (pool_answers_to (line_of op q v))
@@ -252,25 +252,25 @@ module _ {P D : Type 0} (pools : Ghosts P) (devices : Devices D) (pool_len : (p 
   module _ (op : Op) (own : OwnEvent) (tick : ℕ) (r q : Reply) (w v : Work) (here there : List FeedDone) (from to other other_to : BetweenLines P D) (line : DoesAnyLine pools devices trace (caller_of op) (line_of op r w) here from to)
       (other_line : DoesAnyLine pools devices trace (caller_of op) (line_of op q v) there other other_to) (b : BothObjects op r q w v here there from to other other_to line other_line) where
     -- so both are known by one front of the cell's history
-    both-on : IsOwn own → (did : DoesObject pools devices trace own.at tick (line_of op r w) from to) (other_did : DoesObject pools devices trace own.at tick (line_of op q v) other other_to)
-        → ActsBy trace.config 0 own (its_outline own from) w r → ActsBy trace.config 0 own (its_outline own other) v q → GivesUp own (its_outline own from) w r → GivesUp own (its_outline own other) v q
+    both-on : MustFollow own → (did : DoesObject pools devices trace own.at tick (line_of op r w) from to) (other_did : DoesObject pools devices trace own.at tick (line_of op q v) other other_to)
+        → ActsBy trace.config 0 (AreHolders (its_front own from)) own (its_outline own from) w r → ActsBy trace.config 0 (AreHolders (its_front own other)) own (its_outline own other) v q
         → AreAlikeSoFar (bringing_row pools devices trace (shard_behind trace.config from.shards) w.brought r from.device to.device did.asks)
         (bringing_row pools devices trace (shard_behind trace.config other.shards) v.brought q other.device other_to.device other_did.asks)
         → BothOn op own tick r q w v from to other other_to
-    both-on is_own did other_did acts other_acts gives other_gives rows =
+    both-on must did other_did acts other_acts rows =
         let i : ℕ = cell_of trace.config.cells own.at in
         let is_cell : IsCell trace.config i = cell-there trace.config valid own.at in
         let alike = b.alike in
-        let mine : Looks alike.image (its_front own from) own op r w = one-looks op own tick r w from to alike.image alike.told did acts gives b.fits.together b.settled in
-        let its : Looks alike.image (its_front own other) own op q v = one-looks op own tick q v other other_to alike.image alike.other_told other_did other_acts other_gives b.other_fits.together b.other_settled in
+        let mine : Looks alike.image (its_front own from) own op r w = one-looks op own tick r w from to alike.image alike.told did acts b.fits.together b.settled in
+        let its : Looks alike.image (its_front own other) own op q v = one-looks op own tick q v other other_to alike.image alike.other_told other_did other_acts b.other_fits.together b.other_settled in
         let size : pools.size from.outside.pool ≡ length alike.image = sym (pool_len from.outside.pool alike.image alike.told) in
         record {
           alike = alike;
-          is_own = is_own;
+          must = must;
           did = did;
           other_did = other_did;
           looks = mine;
-          other_looks = subst (λ (front : List CellEvent). Looks alike.image front own op q v) (alike.cells i is_cell) its;
+          other_looks = subst (λ (z : List CellEvent). Looks alike.image z own op q v) (alike.cells i is_cell) its;
           kept = λ ptr cached mapped. subst (λ (n : ℕ). IsValid n ptr.key) size (b.cached i is_cell own.at ptr cached mapped);
           legal = b.legal;
           other_legal = b.other_legal;
@@ -279,10 +279,9 @@ module _ {P D : Type 0} (pools : Ghosts P) (devices : Devices D) (pool_len : (p 
         }
 
   -- both read the pool alike
-  pool-then : (op : Op) (own : OwnEvent) (tick : ℕ) (r q : Reply) (w v : Work) (from to other other_to : BetweenLines P D) → BothOn op own tick r q w v from to other other_to → v.brought ≡ w.brought → q ≡ r
+  pool-then : (op : Op) (r q : Reply) (w v : Work) → v.brought ≡ w.brought → q ≡ r → IsSameWork w v
       → pool_answers_to (line_of op q v) ≡ pool_answers_to (line_of op r w)
-  pool-then op own tick r q w v from to other other_to both brings same =
-      let did = works op own tick r q w v from to other other_to both brings same in
+  pool-then op r q w v brings same did =
       let one : v ≡ w = λ h. record { brought = brings h; noted = did.0 h; acts = did.1 h } in
       λ h. pool_answers_to (line_of op (same h) (one h))
 
@@ -312,16 +311,17 @@ module _ {P D : Type 0} (pools : Ghosts P) (devices : Devices D) (pool_len : (p 
       let own : OwnEvent = record { at = at; event = events.Get n at } in
       let did = line.1.did in
       let other_did = other_line.1.did in
-      let both : BothOn op own t r q w v from to other other_to = both-on op own t r q w v here there from to other other_to line other_line b (record { makes = λ x. refl; stays = refl }) did other_did did.acts other_did.acts b.gives b.other_gives b.device in
+      let both : BothOn op own t r q w v from to other other_to = both-on op own t r q w v here there from to other other_to line other_line b (λ x. refl) did other_did did.acts other_did.acts b.device in
+      let held : (Oid → Bool) → Type 0 = AreHolders (its_front own from) in
       let limit : ℕ = trace.config.dbuf_bytes in
       let opening : List Mapping = opening_map trace (cell_of trace.config.cells at) in
       let came = asks-alike op own t r q w v from to other other_to both (window.at + window.len)
-      (get-asks trace.config both.alike.image limit opening (its_front own from) n t at window r w both.looks) (get-asks trace.config both.alike.image limit opening (its_front own from) n t at window q v both.other_looks) in
+      (get-asks trace.config both.alike.image limit opening (its_front own from) held n t at window r w both.looks) (get-asks trace.config both.alike.image limit opening (its_front own from) held n t at window q v both.other_looks) in
       elim (get-reply from.cells n t at window both.alike.image r q w v here there both.looks.answer both.other_looks.answer came.1) [
         | inl same ↦ inl (record {
           then = object-then op own t r q w v from to other other_to both came.0 same line.1 other_line.1;
           reply = same;
-          pool = pool-then op own t r q w v from to other other_to both came.0 same;
+          pool = pool-then op r q w v came.0 same (works op own t r q w v from to other other_to both came.0 same);
           device = (device-then op own t r q w v from to other other_to both came.0 same).0;
           many = ap (λ (fs : List FeedDone). length fs) (other_line.0 ∙ sym line.0);
         })
@@ -332,17 +332,18 @@ module _ {P D : Type 0} (pools : Ghosts P) (devices : Devices D) (pool_len : (p 
       let own : OwnEvent = record { at = at; event = events.Patch n at start bytes } in
       let did = line.1.did in
       let other_did = other_line.1.did in
-      let both : BothOn op own t r q w v from to other other_to = both-on op own t r q w v here there from to other other_to line other_line b (record { makes = λ x. refl; stays = refl }) did other_did did.acts other_did.acts b.gives b.other_gives b.device in
+      let both : BothOn op own t r q w v from to other other_to = both-on op own t r q w v here there from to other other_to line other_line b (λ x. refl) did other_did did.acts other_did.acts b.device in
+      let held : (Oid → Bool) → Type 0 = AreHolders (its_front own from) in
       let limit : ℕ = trace.config.dbuf_bytes in
       let opening : List Mapping = opening_map trace (cell_of trace.config.cells at) in
       let came = asks-alike op own t r q w v from to other other_to both (start + length bytes)
-      (patch-asks trace.config both.alike.image limit opening (its_front own from) n t at start bytes r w both.looks) (patch-asks trace.config both.alike.image limit opening (its_front own from) n t at start bytes q v both.other_looks) in
+      (patch-asks trace.config both.alike.image limit opening (its_front own from) held n t at start bytes r w both.looks) (patch-asks trace.config both.alike.image limit opening (its_front own from) held n t at start bytes q v both.other_looks) in
       let why : Brought → Refusal → Type 0 = λ brought. RefusesAt (length both.alike.image) (Some both.alike.image) limit opening (its_front own from) brought at (start + length bytes) in
       let same : q ≡ r = done-reply (length both.alike.image) (Some both.alike.image) limit opening (its_front own from) w.brought v.brought (why w.brought) (why v.brought) r q both.looks.answer both.other_looks.answer came.1 in
       inl (record {
         then = object-then op own t r q w v from to other other_to both came.0 same line.1 other_line.1;
         reply = same;
-        pool = pool-then op own t r q w v from to other other_to both came.0 same;
+        pool = pool-then op r q w v came.0 same (works op own t r q w v from to other other_to both came.0 same);
         device = (device-then op own t r q w v from to other other_to both came.0 same).0;
         many = ap (λ (fs : List FeedDone). length fs) (other_line.0 ∙ sym line.0);
       })
@@ -351,17 +352,18 @@ module _ {P D : Type 0} (pools : Ghosts P) (devices : Devices D) (pool_len : (p 
       let own : OwnEvent = record { at = at; event = events.Pin n at } in
       let did = line.1.did in
       let other_did = other_line.1.did in
-      let both : BothOn op own t r q w v from to other other_to = both-on op own t r q w v here there from to other other_to line other_line b (record { makes = λ x. refl; stays = refl }) did other_did did.acts other_did.acts b.gives b.other_gives b.device in
+      let both : BothOn op own t r q w v from to other other_to = both-on op own t r q w v here there from to other other_to line other_line b (λ x. refl) did other_did did.acts other_did.acts b.device in
+      let held : (Oid → Bool) → Type 0 = AreHolders (its_front own from) in
       let limit : ℕ = trace.config.dbuf_bytes in
       let opening : List Mapping = opening_map trace (cell_of trace.config.cells at) in
       let came = asks-alike op own t r q w v from to other other_to both 0
-      (pin-asks trace.config both.alike.image limit opening (its_front own from) n t at r w both.looks) (pin-asks trace.config both.alike.image limit opening (its_front own from) n t at q v both.other_looks) in
+      (pin-asks trace.config both.alike.image limit opening (its_front own from) held n t at r w both.looks) (pin-asks trace.config both.alike.image limit opening (its_front own from) held n t at q v both.other_looks) in
       let why : Brought → Refusal → Type 0 = λ brought. RefusesWhole (length both.alike.image) (Some both.alike.image) limit opening (its_front own from) brought at in
       let same : q ≡ r = done-reply (length both.alike.image) (Some both.alike.image) limit opening (its_front own from) w.brought v.brought (why w.brought) (why v.brought) r q both.looks.answer both.other_looks.answer came.1 in
       inl (record {
         then = object-then op own t r q w v from to other other_to both came.0 same line.1 other_line.1;
         reply = same;
-        pool = pool-then op own t r q w v from to other other_to both came.0 same;
+        pool = pool-then op r q w v came.0 same (works op own t r q w v from to other other_to both came.0 same);
         device = (device-then op own t r q w v from to other other_to both came.0 same).0;
         many = ap (λ (fs : List FeedDone). length fs) (other_line.0 ∙ sym line.0);
       })
@@ -370,15 +372,16 @@ module _ {P D : Type 0} (pools : Ghosts P) (devices : Devices D) (pool_len : (p 
       let own : OwnEvent = record { at = at; event = events.Put n at size fill } in
       let did = line.1.did in
       let other_did = other_line.1.did in
-      let both : BothOn op own 0 r q w v from to other other_to = both-on op own 0 r q w v here there from to other other_to line other_line b (record { makes = λ x. refl; stays = refl }) did other_did did.acts other_did.acts b.gives b.other_gives b.device in
+      let both : BothOn op own 0 r q w v from to other other_to = both-on op own 0 r q w v here there from to other other_to line other_line b (λ x. refl) did other_did did.acts other_did.acts b.device in
+      let held : (Oid → Bool) → Type 0 = AreHolders (its_front own from) in
       let limit : ℕ = trace.config.dbuf_bytes in
       let opening : List Mapping = opening_map trace (cell_of trace.config.cells at) in
       let brings : v.brought ≡ w.brought = both.other_looks.together ∙ sym both.looks.together in
-      let same : q ≡ r = put-done trace.config both.alike.image limit opening (its_front own from) n t at size fill q v both.other_looks ∙ sym (put-done trace.config both.alike.image limit opening (its_front own from) n t at size fill r w both.looks) in
+      let same : q ≡ r = put-done trace.config both.alike.image limit opening (its_front own from) held n t at size fill q v both.other_looks ∙ sym (put-done trace.config both.alike.image limit opening (its_front own from) held n t at size fill r w both.looks) in
       inl (record {
         then = object-then op own 0 r q w v from to other other_to both brings same line.1 other_line.1;
         reply = same;
-        pool = pool-then op own 0 r q w v from to other other_to both brings same;
+        pool = pool-then op r q w v brings same (works op own 0 r q w v from to other other_to both brings same);
         device = (device-then op own 0 r q w v from to other other_to both brings same).0;
         many = ap (λ (fs : List FeedDone). length fs) (other_line.0 ∙ sym line.0);
       })
@@ -387,15 +390,16 @@ module _ {P D : Type 0} (pools : Ghosts P) (devices : Devices D) (pool_len : (p 
       let own : OwnEvent = record { at = at; event = events.Unpin n at } in
       let did = line.1.did in
       let other_did = other_line.1.did in
-      let both : BothOn op own 0 r q w v from to other other_to = both-on op own 0 r q w v here there from to other other_to line other_line b (record { makes = λ x. refl; stays = refl }) did other_did did.acts other_did.acts b.gives b.other_gives b.device in
+      let both : BothOn op own 0 r q w v from to other other_to = both-on op own 0 r q w v here there from to other other_to line other_line b (λ x. refl) did other_did did.acts other_did.acts b.device in
+      let held : (Oid → Bool) → Type 0 = AreHolders (its_front own from) in
       let limit : ℕ = trace.config.dbuf_bytes in
       let opening : List Mapping = opening_map trace (cell_of trace.config.cells at) in
       let brings : v.brought ≡ w.brought = both.other_looks.together ∙ sym both.looks.together in
-      let same : q ≡ r = unpin-done trace.config both.alike.image limit opening (its_front own from) n at q v both.other_looks ∙ sym (unpin-done trace.config both.alike.image limit opening (its_front own from) n at r w both.looks) in
+      let same : q ≡ r = unpin-done trace.config both.alike.image limit opening (its_front own from) held n at q v both.other_looks ∙ sym (unpin-done trace.config both.alike.image limit opening (its_front own from) held n at r w both.looks) in
       inl (record {
         then = object-then op own 0 r q w v from to other other_to both brings same line.1 other_line.1;
         reply = same;
-        pool = pool-then op own 0 r q w v from to other other_to both brings same;
+        pool = pool-then op r q w v brings same (works op own 0 r q w v from to other other_to both brings same);
         device = (device-then op own 0 r q w v from to other other_to both brings same).0;
         many = ap (λ (fs : List FeedDone). length fs) (other_line.0 ∙ sym line.0);
       })

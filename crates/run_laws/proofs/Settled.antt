@@ -1,5 +1,5 @@
 -- Between two lines of a run of one caller no eviction is due in any cell: each cell's history goes on from there with an event that is no eviction, and is legal. And each of the caller's lines has its own work.
-use Rattle.std.proofs.Common.{◌≡◌, ℕ, zero, suc, ◌==◌, true, false, not, List, [], ◌∷◌, ◌++◌, length, map, take, Option, Some, None, inl, inr, refl, sym, ap, subst, ◌∙◌, arith, append_assoc}
+use Rattle.std.proofs.Common.{◌≡◌, ℕ, zero, suc, ◌==◌, Bool, true, false, not, List, [], ◌∷◌, ◌++◌, length, map, take, Option, Some, None, inl, inr, refl, sym, ap, subst, ◌∙◌, arith, append_assoc}
 use Rattle.std.proofs.lemmas.List.{append-nil}
 use Rattle.std.specs.List.{AllByRecursion}
 use Rattle.std.specs.Prelude.{slice_get}
@@ -56,9 +56,9 @@ not-due c (events.Put n at size fill) un legal = legal
 not-due c (events.Patch n at from bytes) un legal = (and-parts (not (is_due c)) _ legal).0
 not-due c (events.Pin n at) un legal = (and-parts (not (is_due c)) _ legal).0
 not-due c (events.Unpin n at) un legal = (and-parts (not (is_due c)) _ legal).0
-not-due c (events.Load n at) un legal = (and-parts (not (is_due c)) _ legal).0
+not-due c (events.Load n at keeps) un legal = (and-parts (not (is_due c)) _ legal).0
 not-due c (events.Evict n at) un legal = absurd (let clash : true ≡ false = un in cc)
-not-due c (events.Synced n at ptr) un legal = legal.0
+not-due c (events.Synced n at ptr keeps) un legal = legal.0
 not-due c (events.End n) un legal = legal
 
 -- these events are the front of a legal history, which goes on with one that is no eviction
@@ -340,11 +340,11 @@ done_on n own brought evictions = loads_of n own.at brought ++ own.event ∷ map
 
 -- The same of two lines in sequence, which found the block's cell with one history and left none due: what they noted is the same.
 pub notes-alike : (trace : Trace) (op : Op) (own : OwnEvent) → own_event op ≡ Some own → (n : ℕ) (o q : Outline) (work there : Work)
-    → (acts : ActsAt trace.config n own o work) (other : ActsAt trace.config n own q there) → there.brought ≡ work.brought
+    → (AreHeld OtherHeld : (Oid → Bool) → Type 0) (acts : ActsAt trace.config n AreHeld own o work) (other : ActsAt trace.config n OtherHeld own q there) → there.brought ≡ work.brought
     → (was now then : List CellEvent) → now ≡ was ++ events_of_cell (cell_of trace.config.cells own.at) work.noted → then ≡ was ++ events_of_cell (cell_of trace.config.cells own.at) there.noted
     → IsSettled trace.config.dbuf_bytes (opening_map trace (cell_of trace.config.cells own.at)) now → IsSettled trace.config.dbuf_bytes (opening_map trace (cell_of trace.config.cells own.at)) then
     → (other.evictions ≡ acts.evictions) × (there.noted ≡ work.noted)
-notes-alike trace op own is n o q work there acts other brings was now then goes other_goes rests other_rests =
+notes-alike trace op own is n o q work there AreHeld OtherHeld acts other brings was now then goes other_goes rests other_rests =
     let i : ℕ = cell_of trace.config.cells own.at in
     let mine : now ≡ was ++ done_on n own work.brought acts.evictions =
     goes ∙ ap (λ (l : List CellEvent). was ++ l) (ap (events_of_cell i) acts.noted ∙ noted-here i (done_on n own work.brought acts.evictions)) in

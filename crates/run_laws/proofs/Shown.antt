@@ -12,11 +12,9 @@ use Rattle.trace_run.specs.Lines.{caller_of}
 use Rattle.trace_run.specs.RunWork.{AllFit}
 use Rattle.trace_run.specs.dbufs.Objects.{Line, Work}
 use Rattle.trace_run.specs.one_caller.Sequence.{AreInSequence, BetweenLines, DoesAnyLine}
-use Rattle.run_laws.specs.Alike.{OneRun, ReadsPast, RunsAreAlike, begun}
-use Rattle.run_laws.proofs.EndedOrder.{ended-runs}
-use Rattle.run_laws.proofs.Facts.{GivesUpAll, OfEachLine}
-use Rattle.run_laws.proofs.HoldsRun.{ends-exactly, gives-up-lines}
-use Rattle.run_laws.proofs.Law.{AllKnown, DropsAlike, IsKnown, IsShown, runs-alike}
+use Rattle.run_laws.specs.Alike.{OneRun, RunsAreAlike, begun}
+use Rattle.run_laws.proofs.Facts.{OfEachLine}
+use Rattle.run_laws.proofs.Law.{AllKnown, IsKnown, IsShown, runs-alike}
 use Rattle.run_laws.proofs.LinesAlike.{Caps, Feeds, Objects, Reads, StepsAlike, Syncs, kind_of}
 use Rattle.run_laws.proofs.ObjectStep.{IsOnObject, object-step}
 use Rattle.run_laws.proofs.ReadStep.{line_of}
@@ -51,12 +49,12 @@ module _ {P D : Type 0} (pools : Ghosts P) (devices : Devices D) (pool_len : (p 
   -- the facts of each line
   all-known : (ls : List Line) (feeds : List FeedDone) (from to : BetweenLines P D) (did : AreInSequence pools devices trace ls feeds from to) → AllFit trace.config ls
       → OfEachLine pools devices trace (StandsSettled trace) ls feeds from to did → OfEachLine pools devices trace (FindsValid pools trace) ls feeds from to did
-      → OfEachLine pools devices trace (λ l from to. GivesUpAll trace l from.cells) ls feeds from to did → OfEachLine pools devices trace (FitsOwn trace) ls feeds from to did
+      → OfEachLine pools devices trace (FitsOwn trace) ls feeds from to did
       → OfEachLine pools devices trace (StandsLegal trace) ls feeds from to did → OfEachLine pools devices trace (IsKnown pools devices trace) ls feeds from to did
-  all-known [] feeds from to did fits settled valid gives own legal = tt
-  all-known (l ∷ ls) feeds from to did fits settled valid gives own legal = (
-    record { fits = fits.0; settled = settled.0.0; then_settled = settled.0.1; valid = valid.0; gives_up = gives.0; own = own.0; legal = legal.0.1 },
-    all-known ls did.2 did.0 to did.5 fits.1 settled.1 valid.1 gives.1 own.1 legal.1,
+  all-known [] feeds from to did fits settled valid own legal = tt
+  all-known (l ∷ ls) feeds from to did fits settled valid own legal = (
+    record { fits = fits.0; settled = settled.0.0; then_settled = settled.0.1; valid = valid.0; own = own.0; legal = legal.0.1 },
+    all-known ls did.2 did.0 to did.5 fits.1 settled.1 valid.1 own.1 legal.1,
   )
 
   -- a caller's line makes no feed
@@ -66,10 +64,10 @@ module _ {P D : Type 0} (pools : Ghosts P) (devices : Devices D) (pool_len : (p 
       does.0
 
   module _ (formed : IsFormed trace) (one_caller : trace.config.callers ≡ 1) where
-    known : (run : OneRun pools devices trace) (image : List ℕ) → pools.told run.before ≡ Some image → (ReadsPast run.run.work.lines → ⊥) → AllKnown pools devices trace run
-    known run image tells unpast =
+    known : (run : OneRun pools devices trace) (image : List ℕ) → pools.told run.before ≡ Some image → AllKnown pools devices trace run
+    known run image tells =
         all-known run.run.work.lines run.run.work.feeds (begun pools devices trace run) run.in_turn.reached run.in_turn.lines run.run.did.fits (settled-lines pools devices trace run)
-        (valid-lines pools devices pool_len trace run image tells) (gives-up-lines pools devices pool_len trace run image tells formed one_caller unpast) (fits-lines pools devices trace run formed one_caller)
+        (valid-lines pools devices pool_len trace run image tells) (fits-lines pools devices trace run formed one_caller)
         (legal-lines pools devices trace run)
 
     objects-steps : StepsAlike pools devices trace (IsKnown pools devices trace) Objects
@@ -83,8 +81,6 @@ module _ {P D : Type 0} (pools : Ghosts P) (devices : Devices D) (pool_len : (p 
           settled = both.holds.then_settled;
           other_settled = both.other_holds.then_settled;
           cached = both.holds.valid;
-          gives = both.holds.gives_up;
-          other_gives = both.other_holds.gives_up;
           legal = both.holds.legal;
           other_legal = both.other_holds.legal;
           pool = both.pool;
@@ -94,12 +90,8 @@ module _ {P D : Type 0} (pools : Ghosts P) (devices : Devices D) (pool_len : (p 
           | inr parts ↦ inr parts
         ]
 
-    drops-alike : DropsAlike pools devices trace
-    drops-alike one other image tells other_tells none other_none histories =
-        ended-runs pools devices trace one other formed (ends-exactly pools devices pool_len trace one image tells formed one_caller none) (ends-exactly pools devices pool_len trace other image other_tells formed one_caller other_none) histories
-
     pub shown : IsShown pools devices trace
-    shown = record { objects = objects-steps; known = known; drops = drops-alike }
+    shown = record { objects = objects-steps; known = known }
 
 -- Two runs of one trace by one caller, over the same bytes, of which the same calls failed, come to the same, or they may part.
 pub law-holds : {P D : Type 0} (pools : Ghosts P) (devices : Devices D) → ((p : P) (bytes : List ℕ) → pools.told p ≡ Some bytes → length bytes ≡ pools.size p) → RunsAreAlike pools devices

@@ -1,5 +1,5 @@
 -- Between two lines of a run of one caller each clean block that a cell keeps has a key that names one of the pool: it was loaded by a pointer with such a key, or a sync wrote it.
-use Rattle.std.proofs.Common.{◌≡◌, ℕ, ◌+◌, ◌%◌, ◌≤◌, ◌==◌, true, false, List, [], ◌∷◌, ◌++◌, length, map, Option, Some, None, inl, inr, refl, sym, ap, subst, ◌∙◌, arith}
+use Rattle.std.proofs.Common.{◌≡◌, ℕ, ◌+◌, ◌%◌, ◌≤◌, ◌==◌, Bool, true, false, List, [], ◌∷◌, ◌++◌, length, map, Option, Some, None, inl, inr, refl, sym, ap, subst, ◌∙◌, arith}
 use Rattle.std.proofs.lemmas.Bool.{cases_Bool, false≢true}
 use Rattle.std.specs.List.{AllByRecursion}
 use Rattle.std.specs.Option.{option_map, option_map_or}
@@ -36,7 +36,7 @@ use Rattle.trace_run.specs.Openings.{opening_map}
 use Rattle.trace_run.specs.RunWork.{AllFit, FitsBy, FitsFeeder, IsSyncedNote}
 use Rattle.trace_run.specs.dbufs.ObjectLines.{OnObject, on_object}
 use Rattle.trace_run.specs.dbufs.ObjectReplies.{ActsAt, ActsBy, ActsFor, BringsAt}
-use Rattle.trace_run.specs.dbufs.Objects.{Brought, Line, Loaded, Nothing, OwnEvent, Refused, Work, loads_of, no_work, own_event}
+use Rattle.trace_run.specs.dbufs.Objects.{Brought, Line, Loaded, Nothing, OwnEvent, Refused, Work, gives_hold, loads_of, no_work, own_event}
 use Rattle.trace_run.specs.one_caller.Sequence.{AreInSequence, BetweenLines, DoesAnyLine, DoesOther, DoesOwn, outline_behind}
 use Rattle.trace_run.proofs.deeds.NotedCells.{noted-else, noted-here}
 use Rattle.trace_run.proofs.in_place.AloneStands.{IsToldUpTo, StandsFine, line-fine}
@@ -91,8 +91,8 @@ module _ (len : ℕ) where
 
   -- what the event makes the cell keep has a valid key
   abbrev pub IsValidNote : Outline → CellEvent → Type 0
-  IsValidNote o (events.Load n at) = (ptr : Ptr) → mapped_at at o ≡ Some (Clean ptr) → IsValid len ptr.key
-  IsValidNote o (events.Synced n at ptr) = IsValid len ptr.key
+  IsValidNote o (events.Load n at keeps) = (ptr : Ptr) → mapped_at at o ≡ Some (Clean ptr) → IsValid len ptr.key
+  IsValidNote o (events.Synced n at ptr keeps) = IsValid len ptr.key
   IsValidNote o (events.Get n at) = Unit {0}
   IsValidNote o (events.Put n at size fill) = Unit {0}
   IsValidNote o (events.Patch n at from bytes) = Unit {0}
@@ -117,10 +117,10 @@ module _ (len : ℕ) where
   effect-valid o (events.Patch n at from bytes) note all = changed-all IsKeptValid at (λ d. dirtied (mapped_size d.mapped) d) o.dbufs (λ d found v. keeps-none (dirtied (mapped_size d.mapped) d) refl) all
   effect-valid o (events.Pin n at) note all = changed-all IsKeptValid at (with_pins (pinned n)) o.dbufs (λ d found v. record { valid = v.valid }) all
   effect-valid o (events.Unpin n at) note all = changed-all IsKeptValid at (with_pins (unpinned n)) o.dbufs (λ d found v. record { valid = v.valid }) all
-  effect-valid o (events.Load n at) note all = changed-all IsKeptValid at (λ d. record d { cached = is_clean d.mapped }) o.dbufs
+  effect-valid o (events.Load n at keeps) note all = changed-all IsKeptValid at (λ d. record d { cached = is_clean d.mapped }) o.dbufs
       (λ d found v. record { valid = λ kept ptr is. note ptr (ap (option_map (λ (x : OutlineDbuf). x.mapped)) found ∙ ap (λ (m : Mapped). Some m) is) }) all
   effect-valid o (events.Evict n at) note all = changed-all IsKeptValid at (λ d. record d { cached = false }) o.dbufs (λ d found v. keeps-none (record d { cached = false }) refl) all
-  effect-valid o (events.Synced n at ptr) note all = changed-all IsKeptValid at (λ d. record d { mapped = Clean ptr; cached = true }) o.dbufs
+  effect-valid o (events.Synced n at ptr keeps) note all = changed-all IsKeptValid at (λ d. record d { mapped = Clean ptr; cached = true }) o.dbufs
       (λ d found v. record { valid = λ kept other is. subst (λ (p : Ptr). IsValid len p.key) (same-pointer ptr other is) note }) all
   effect-valid o (events.End n) note all = mapped-all IsKeptValid ended o.dbufs (λ d. keeps-none (ended d) refl)
 
@@ -164,7 +164,7 @@ module _ (len : ℕ) where
   line-noted n at Nothing e xs o own brings = (own o, evicts-noted n xs (after o e))
   line-noted n at (Loaded ptr from) e xs o own brings = (
     (λ other is. subst (λ (p : Ptr). IsValid len p.key) (same-pointer ptr other (same-mapped (Clean ptr) (Clean other) (sym brings.0.pointer ∙ is))) brings.1),
-    (own (after o (events.Load n at)), evicts-noted n xs (after (after o (events.Load n at)) e)),
+    (own (after o (events.Load n at (gives_hold from))), evicts-noted n xs (after (after o (events.Load n at (gives_hold from))) e)),
   )
   line-noted n at (Refused ptr) e xs o own brings = (own o, evicts-noted n xs (after o e))
 
@@ -177,60 +177,60 @@ module _ (len : ℕ) where
       (λ same. subst (λ (k : ℕ). AreValidNotes (outlines k) (events_of_cell k (noted_in i es))) same (subst (AreValidNotes (outlines i)) (sym (noted-here i es)) notes))
       (λ differs. subst (AreValidNotes (outlines j)) (sym (noted-else i j es differs)) tt)
 
-  acts-noted : (g : Config) (n : ℕ) (own : OwnEvent) (outlines : ℕ → Outline) (work : Work) → ((q : Outline) → IsValidNote q own.event) → BringsAt len own.at (outlines (cell_of g.cells own.at)) work.brought
-      → ActsAt g n own (outlines (cell_of g.cells own.at)) work → AreNotedHere outlines work.noted
-  acts-noted g n own outlines work plain brings acts =
+  acts-noted : (g : Config) (n : ℕ) (AreHeld : (Oid → Bool) → Type 0) (own : OwnEvent) (outlines : ℕ → Outline) (work : Work) → ((q : Outline) → IsValidNote q own.event) → BringsAt len own.at (outlines (cell_of g.cells own.at)) work.brought
+      → ActsAt g n AreHeld own (outlines (cell_of g.cells own.at)) work → AreNotedHere outlines work.noted
+  acts-noted g n AreHeld own outlines work plain brings acts =
       subst (AreNotedHere outlines) (sym acts.noted)
       (in-noted outlines (cell_of g.cells own.at) _ (line-noted n own.at work.brought own.event acts.evictions (outlines (cell_of g.cells own.at)) plain brings))
 
   none-noted : (outlines : ℕ → Outline) (work : Work) → work.noted ≡ [] → AreNotedHere outlines work.noted
   none-noted outlines work none = subst (AreNotedHere outlines) (sym none) (λ i. tt)
 
-  reply-noted : (g : Config) (n : ℕ) (own : OwnEvent) (outlines : ℕ → Outline) (work : Work) (reply : Reply) → ((q : Outline) → IsValidNote q own.event) → BringsAt len own.at (outlines (cell_of g.cells own.at)) work.brought
-      → ActsBy g n own (outlines (cell_of g.cells own.at)) work reply → AreNotedHere outlines work.noted
-  reply-noted g n own outlines work (replies.Got size shown) plain brings acts = acts-noted g n own outlines work plain brings acts
-  reply-noted g n own outlines work replies.Done plain brings acts = acts-noted g n own outlines work plain brings acts
-  reply-noted g n own outlines work (replies.Refused refusal) plain brings acts = none-noted outlines work acts.0
-  reply-noted g n own outlines work (replies.Read served digest shown) plain brings acts = absurd acts
-  reply-noted g n own outlines work (replies.Kept served) plain brings acts = absurd acts
-  reply-noted g n own outlines work replies.Dropped plain brings acts = absurd acts
-  reply-noted g n own outlines work (replies.Fed report) plain brings acts = absurd acts
-  reply-noted g n own outlines work replies.FedNone plain brings acts = absurd acts
-  reply-noted g n own outlines work (replies.Synced group blocks bytes) plain brings acts = absurd acts
-  reply-noted g n own outlines work (replies.Capped c) plain brings acts = absurd acts
+  reply-noted : (g : Config) (n : ℕ) (AreHeld : (Oid → Bool) → Type 0) (own : OwnEvent) (outlines : ℕ → Outline) (work : Work) (reply : Reply) → ((q : Outline) → IsValidNote q own.event) → BringsAt len own.at (outlines (cell_of g.cells own.at)) work.brought
+      → ActsBy g n AreHeld own (outlines (cell_of g.cells own.at)) work reply → AreNotedHere outlines work.noted
+  reply-noted g n AreHeld own outlines work (replies.Got size shown) plain brings acts = acts-noted g n AreHeld own outlines work plain brings acts
+  reply-noted g n AreHeld own outlines work replies.Done plain brings acts = acts-noted g n AreHeld own outlines work plain brings acts
+  reply-noted g n AreHeld own outlines work (replies.Refused refusal) plain brings acts = none-noted outlines work acts.0
+  reply-noted g n AreHeld own outlines work (replies.Read served digest shown) plain brings acts = absurd acts
+  reply-noted g n AreHeld own outlines work (replies.Kept served) plain brings acts = absurd acts
+  reply-noted g n AreHeld own outlines work replies.Dropped plain brings acts = absurd acts
+  reply-noted g n AreHeld own outlines work (replies.Fed report) plain brings acts = absurd acts
+  reply-noted g n AreHeld own outlines work replies.FedNone plain brings acts = absurd acts
+  reply-noted g n AreHeld own outlines work (replies.Synced group blocks bytes) plain brings acts = absurd acts
+  reply-noted g n AreHeld own outlines work (replies.Capped c) plain brings acts = absurd acts
 
   plain-noted : (outlines : ℕ → Outline) (work : Work) → work ≡ no_work → AreNotedHere outlines work.noted
   plain-noted outlines work none = none-noted outlines work (ap (λ (w : Work). w.noted) none)
 
   -- the line's block is that of its operation
-  on-noted : (g : Config) (op : Op) (on : OnObject) (outlines : ℕ → Outline) (work : Work) (reply : Reply) → on_object op ≡ Some on → BringsAt len on.at (outlines (cell_of g.cells on.at)) work.brought
-      → ActsFor g 0 (own_event op) (outlines (cell_of g.cells on.at)) work reply → AreNotedHere outlines work.noted
-  on-noted g (ops.Get m t at w) on outlines work reply is brings acts =
+  on-noted : (g : Config) (AreHeld : (Oid → Bool) → Type 0) (op : Op) (on : OnObject) (outlines : ℕ → Outline) (work : Work) (reply : Reply) → on_object op ≡ Some on → BringsAt len on.at (outlines (cell_of g.cells on.at)) work.brought
+      → ActsFor g 0 AreHeld (own_event op) (outlines (cell_of g.cells on.at)) work reply → AreNotedHere outlines work.noted
+  on-noted g AreHeld (ops.Get m t at w) on outlines work reply is brings acts =
       let same : on.at ≡ at = same-on _ on is in
-      reply-noted g 0 (record { at = at; event = events.Get m at }) outlines work reply (λ q. tt) (subst (λ (b : Oid). BringsAt len b (outlines (cell_of g.cells b)) work.brought) same brings)
-      (subst (λ (b : Oid). ActsBy g 0 (record { at = at; event = events.Get m at }) (outlines (cell_of g.cells b)) work reply) same acts)
-  on-noted g (ops.Put m t at size fill) on outlines work reply is brings acts =
+      reply-noted g 0 AreHeld (record { at = at; event = events.Get m at }) outlines work reply (λ q. tt) (subst (λ (b : Oid). BringsAt len b (outlines (cell_of g.cells b)) work.brought) same brings)
+      (subst (λ (b : Oid). ActsBy g 0 AreHeld (record { at = at; event = events.Get m at }) (outlines (cell_of g.cells b)) work reply) same acts)
+  on-noted g AreHeld (ops.Put m t at size fill) on outlines work reply is brings acts =
       let same : on.at ≡ at = same-on _ on is in
-      reply-noted g 0 (record { at = at; event = events.Put m at size fill }) outlines work reply (λ q. tt) (subst (λ (b : Oid). BringsAt len b (outlines (cell_of g.cells b)) work.brought) same brings)
-      (subst (λ (b : Oid). ActsBy g 0 (record { at = at; event = events.Put m at size fill }) (outlines (cell_of g.cells b)) work reply) same acts)
-  on-noted g (ops.Patch m t at from bytes) on outlines work reply is brings acts =
+      reply-noted g 0 AreHeld (record { at = at; event = events.Put m at size fill }) outlines work reply (λ q. tt) (subst (λ (b : Oid). BringsAt len b (outlines (cell_of g.cells b)) work.brought) same brings)
+      (subst (λ (b : Oid). ActsBy g 0 AreHeld (record { at = at; event = events.Put m at size fill }) (outlines (cell_of g.cells b)) work reply) same acts)
+  on-noted g AreHeld (ops.Patch m t at from bytes) on outlines work reply is brings acts =
       let same : on.at ≡ at = same-on _ on is in
-      reply-noted g 0 (record { at = at; event = events.Patch m at from bytes }) outlines work reply (λ q. tt) (subst (λ (b : Oid). BringsAt len b (outlines (cell_of g.cells b)) work.brought) same brings)
-      (subst (λ (b : Oid). ActsBy g 0 (record { at = at; event = events.Patch m at from bytes }) (outlines (cell_of g.cells b)) work reply) same acts)
-  on-noted g (ops.Pin m t at) on outlines work reply is brings acts =
+      reply-noted g 0 AreHeld (record { at = at; event = events.Patch m at from bytes }) outlines work reply (λ q. tt) (subst (λ (b : Oid). BringsAt len b (outlines (cell_of g.cells b)) work.brought) same brings)
+      (subst (λ (b : Oid). ActsBy g 0 AreHeld (record { at = at; event = events.Patch m at from bytes }) (outlines (cell_of g.cells b)) work reply) same acts)
+  on-noted g AreHeld (ops.Pin m t at) on outlines work reply is brings acts =
       let same : on.at ≡ at = same-on _ on is in
-      reply-noted g 0 (record { at = at; event = events.Pin m at }) outlines work reply (λ q. tt) (subst (λ (b : Oid). BringsAt len b (outlines (cell_of g.cells b)) work.brought) same brings)
-      (subst (λ (b : Oid). ActsBy g 0 (record { at = at; event = events.Pin m at }) (outlines (cell_of g.cells b)) work reply) same acts)
-  on-noted g (ops.Unpin m at) on outlines work reply is brings acts =
+      reply-noted g 0 AreHeld (record { at = at; event = events.Pin m at }) outlines work reply (λ q. tt) (subst (λ (b : Oid). BringsAt len b (outlines (cell_of g.cells b)) work.brought) same brings)
+      (subst (λ (b : Oid). ActsBy g 0 AreHeld (record { at = at; event = events.Pin m at }) (outlines (cell_of g.cells b)) work reply) same acts)
+  on-noted g AreHeld (ops.Unpin m at) on outlines work reply is brings acts =
       let same : on.at ≡ at = same-on _ on is in
-      reply-noted g 0 (record { at = at; event = events.Unpin m at }) outlines work reply (λ q. tt) (subst (λ (b : Oid). BringsAt len b (outlines (cell_of g.cells b)) work.brought) same brings)
-      (subst (λ (b : Oid). ActsBy g 0 (record { at = at; event = events.Unpin m at }) (outlines (cell_of g.cells b)) work reply) same acts)
-  on-noted g (ops.Read m t x window) on outlines work reply is brings acts = plain-noted outlines work acts
-  on-noted g (ops.Hold m t x) on outlines work reply is brings acts = plain-noted outlines work acts
-  on-noted g (ops.Drop m x) on outlines work reply is brings acts = plain-noted outlines work acts
-  on-noted g ops.Feed on outlines work reply is brings acts = plain-noted outlines work acts
-  on-noted g (ops.Txg t) on outlines work reply is brings acts = plain-noted outlines work acts
-  on-noted g (ops.Cap c) on outlines work reply is brings acts = plain-noted outlines work acts
+      reply-noted g 0 AreHeld (record { at = at; event = events.Unpin m at }) outlines work reply (λ q. tt) (subst (λ (b : Oid). BringsAt len b (outlines (cell_of g.cells b)) work.brought) same brings)
+      (subst (λ (b : Oid). ActsBy g 0 AreHeld (record { at = at; event = events.Unpin m at }) (outlines (cell_of g.cells b)) work reply) same acts)
+  on-noted g AreHeld (ops.Read m t x window) on outlines work reply is brings acts = plain-noted outlines work acts
+  on-noted g AreHeld (ops.Hold m t x) on outlines work reply is brings acts = plain-noted outlines work acts
+  on-noted g AreHeld (ops.Drop m x) on outlines work reply is brings acts = plain-noted outlines work acts
+  on-noted g AreHeld ops.Feed on outlines work reply is brings acts = plain-noted outlines work acts
+  on-noted g AreHeld (ops.Txg t) on outlines work reply is brings acts = plain-noted outlines work acts
+  on-noted g AreHeld (ops.Cap c) on outlines work reply is brings acts = plain-noted outlines work acts
 
   -- ---- a sync
 
@@ -276,7 +276,7 @@ module _ {P D : Type 0} (pools : Ghosts P) (devices : Devices D) (told_len : (p 
       → (i : ℕ) → AreValidNotes len (outline_behind trace from.cells i) (events_of_cell i l.work.noted)
   own-noted None l from to is size does = plain-noted len (outline_behind trace from.cells) l.work does.work
   own-noted (Some on) l from to is size does =
-      on-noted len trace.config l.op on (outline_behind trace from.cells) l.work l.reply is
+      on-noted len trace.config _ l.op on (outline_behind trace from.cells) l.work l.reply is
       (subst (λ (s : ℕ). BringsAt s on.at (outline_behind trace from.cells (cell_of trace.config.cells on.at)) l.work.brought) size does.brought) does.acts
 
   other-noted : (op : Op) (reply : Reply) (work : Work) (feeds : List FeedDone) (from to : BetweenLines P D) → FitsFeeder trace.config op work → DoesOther pools devices trace op reply work feeds from to → StandsTold to

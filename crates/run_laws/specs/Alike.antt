@@ -1,5 +1,5 @@
 -- Two runs of one trace by one caller, over the same bytes, of which the same calls failed: they come to the same (arc_read, dmu_read, dmu_write, spa_sync and l2arc_feed_thread, for a single thread).
-use Rattle.std.specs.Prelude.{◌≡◌, ◌≢◌, ◌⊎◌, ◌<◌, ◌≤◌, ℕ, zero, suc, true, false, List, [], ◌∷◌, ◌++◌, length, map, take, Option, None, Some, IfSome, slice_get}
+use Rattle.std.specs.Prelude.{◌≡◌, ◌≢◌, ◌⊎◌, ◌<◌, ◌≤◌, ℕ, Bool, zero, suc, true, false, List, [], ◌∷◌, ◌++◌, length, map, take, Option, None, Some, IfSome, slice_get}
 use Rattle.blk_ptr.specs.Hash.{shard_of}
 use Rattle.blk_ptr.specs.declared.key.Key.{Key}
 use Rattle.blk_ptr.specs.declared.ptr.Ptr.{Ptr}
@@ -273,8 +273,9 @@ pub record WroteFrom (i : ℕ) (state : PlainCell) (at : Oid) (bytes : List ℕ)
   pub dirty : dbuf.block ≡ Dirty bytes
   pub n : ℕ
   pub ptr : Ptr
+  pub held : Bool
   pub of : IsOf bytes ptr
-  pub note : slice_get noted k ≡ Some (record { cell = i; event = WasSynced n at ptr })
+  pub note : slice_get noted k ≡ Some (record { cell = i; event = WasSynced n at ptr held })
 
 -- of one Oid two syncs wrote bytes that differ, which two states of its cell have
 pub record WritesTwo (i : ℕ) (state other_state : PlainCell) (noted other_noted : List Noted) : Type 0 where
@@ -337,14 +338,6 @@ pub record WantsMemory (feeds : List FeedDone) : Type 0 where
   pub feed : FeedDone
   pub at : slice_get feeds place ≡ Some feed
   pub wants : (feed.report.end ≡ stop.NoMemory) ⊎ (¬ NoneRefused feed.acts)
-
--- the block of one of these lines on objects was read past the cache
-pub record ReadsPast (lines : List Line) : Type 0 where
-  pub place : ℕ
-  pub line : Line
-  pub at : slice_get lines place ≡ Some line
-  pub ptr : Ptr
-  pub past : line.work.brought ≡ Loaded ptr served.Past
 
 -- ---- the law
 
@@ -418,13 +411,12 @@ module _ {P D : Type 0} (pools : Ghosts P) (devices : Devices D) (trace : Trace)
     pub ending : other.ending ≡ one.ending
     pub cells : (i : ℕ) (cell there : OnHeap) → slice_get one.closed.cells i ≡ Some cell → slice_get other.closed.cells i ≡ Some there → there.value.history ≡ cell.value.history
 
-  -- At a line before which both came to the same, two contents of one digest are in hand, which a reply shows, a patch began from or a feed picked; or a feed wanted memory there. Or a line on an object was read past the cache.
+  -- At a line before which both came to the same, two contents of one digest are in hand, which a reply shows, a patch began from or a feed picked; or a feed wanted memory there.
   pub data MayPart : Type 0 where
     shows : ShowsTwo trace one.run.work.lines other.run.work.lines → MayPart
     replays : ReplaysTwo trace one.run.work.lines other.run.work.lines one.run.work.stopped other.run.work.stopped → MayPart
     picks : PicksThere → MayPart
     memory : WantsMemoryThere → MayPart
-    past : ReadsPast one.run.work.lines ⊎ ReadsPast other.run.work.lines → MayPart
 
 -- Two runs of one trace with one caller, over a pool and a device that tell the same bytes, of which the same calls failed, come to the same; but for these cases.
 abbrev pub RunsAreAlike : {P D : Type 0} → Ghosts P → Devices D → Type 0

@@ -57,7 +57,7 @@ use Rattle.arc_table.proofs.reads.ReadMoments.{own-none, own-single-by}
 use Rattle.arc_table.proofs.feeder.PicksAfter.{same_picks}
 use Rattle.arc_table.proofs.Reached.{SameButNotes, Took, loses_same, took_is}
 use Rattle.dbuf_cells.specs.Ending.{DropsEach, EndsCell, EndsFrom}
-use Rattle.dbuf_cells.specs.Turns.{CellTurn, DropsAtMost, LooksTimes, MakesAll, OnHeap, PartyPlace, dbuf_meanings, outline_in}
+use Rattle.dbuf_cells.specs.Turns.{CellTurn, LooksTimes, MakesAll, OnHeap, PartyPlace, dbuf_meanings, drops_if, held_in, outline_in}
 use Rattle.dbuf_state.specs.History.{Leads}
 use Rattle.dbuf_state.specs.Numbers.{event_numbers}
 use Rattle.dbuf_state.specs.Objects.{PlainCell, PlainDbuf, opened, opening_cell}
@@ -65,6 +65,7 @@ use Rattle.dbuf_state.specs.Outline.{OutlineDbuf, outline_dbuf}
 use Rattle.dbuf_state.specs.Soundness.{IsSound, plain_cell}
 use Rattle.dbuf_state.specs.declared.event.CellEvent.{CellEvent}
 use Rattle.dbuf_state.specs.declared.event.CellEvent.TheVariants.{End}
+use Rattle.dbuf_state.specs.declared.oid.Oid.{Oid}
 use Rattle.dbuf_state.specs.declared.state.Mapping.{Mapping}
 use Rattle.trace_run.specs.dbufs.CellEnds.{IsCellDrop, SeesEnd, SeesEnds, end_entry, noted_ends}
 use Rattle.trace_run.specs.dbufs.DbufTurns.{CellsDone}
@@ -160,13 +161,15 @@ pub all-then : (P : Event → Type 0) (xs ys : List Event) → AllByRecursion P 
 all-then P [] ys a b = b
 all-then P (x ∷ xs) ys a b = (a.0, all-then P xs ys a.1 b)
 
-at-most : (c : ℕ) (k : Key) (es : List Event) → DropsAtMost c k es → AreDropsOf c es
-at-most c k es (inl none) = subst (AreDropsOf c) (sym none) tt
-at-most c k es (inr one) = subst (AreDropsOf c) (sym one) ((k, refl), tt)
+drop-of : (c : ℕ) (k : Key) (held : Bool) → AreDropsOf c (drops_if held c k)
+drop-of c k true = ((k, refl), tt)
+drop-of c k false = tt
 
-drops-each : (c : ℕ) (ds : List OutlineDbuf) (es : List Event) → DropsEach c ds es → AreDropsOf c es
-drops-each c [] es none = subst (AreDropsOf c) (sym none) tt
-drops-each c (d ∷ ds) es each = subst (AreDropsOf c) (sym each.4) (all-then (λ e. (k : Key) × (e ≡ Drop c k)) each.1 each.2 (at-most c each.0.key each.1 each.5) (drops-each c ds each.2 each.6))
+drops-each : (c : ℕ) (held : Oid → Bool) (ds : List OutlineDbuf) (es : List Event) → DropsEach c held ds es → AreDropsOf c es
+drops-each c held [] es none = subst (AreDropsOf c) (sym none) tt
+drops-each c held (d ∷ ds) es each =
+    let dropped : AreDropsOf c each.1 = subst (AreDropsOf c) (sym each.5) (drop-of c each.0.key (held d.at)) in
+    subst (AreDropsOf c) (sym each.4) (all-then (λ e. (k : Key) × (e ≡ Drop c k)) each.1 each.2 dropped (drops-each c held ds each.2 each.6))
 
 drops-cells : (g : Config) (i : ℕ) (es : List Event) → AreDropsOf (cell_number g i) es → AreCellDrops g es
 drops-cells g i [] all = tt
@@ -377,7 +380,7 @@ module _ (g : Config) (valid : IsConfig g) (i : ℕ) (in_range : IsCell g i) (p 
       subst (λ (c : Config). p.number < parties_of c) settled (subst (λ (n : ℕ). p.number < n) f.held.attached.parties (within f.board.views p.number t.takes.knew f.stands.shows.0))
 
   are-drops : AreDropsOf (cell_number g i) e.drops
-  are-drops = drops-each (cell_number g i) e.kept e.drops e.dropped
+  are-drops = drops-each (cell_number g i) (held_in e.before) e.kept e.drops e.dropped
 
   taken-config : t.taken.own.about.config ≡ g
   taken-config = ap (λ (a : About). a.config) took.about ∙ config
@@ -503,6 +506,8 @@ module _ (g : Config) (valid : IsConfig g) (i : ℕ) (in_range : IsCell g i) (p 
         opening = found.opening;
         last = cell-end.1;
         kept = record {
+          held = held_in e.before;
+          are_held = t.tells;
           kept = e.kept;
           all = record { rising = e.all.rising; all = subst (λ (ds : List OutlineDbuf). IsPermutation (filter (λ (d : OutlineDbuf). d.cached) ds) e.kept) (dbufs-so e.before found.sound) e.all.all };
           dropped = e.dropped;
@@ -523,7 +528,7 @@ module _ (g : Config) (valid : IsConfig g) (i : ℕ) (in_range : IsCell g i) (p 
     no-drops : e.drops ≡ []
     no-drops = go e.kept (nothing-from _ e.kept (none-cached e.before t.sound no-history) e.all.all) e.dropped
       where
-        go : (ds : List OutlineDbuf) → ds ≡ [] → DropsEach (cell_number g i) ds e.drops → e.drops ≡ []
+        go : (ds : List OutlineDbuf) → ds ≡ [] → DropsEach (cell_number g i) (held_in e.before) ds e.drops → e.drops ≡ []
         go [] is dropped = dropped
         go (d ∷ ds) is dropped = cc
 

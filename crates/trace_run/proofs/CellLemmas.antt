@@ -200,7 +200,7 @@ module _ (cache : Cache) (ps : List PartyPlace) (e : Ended OnHeap) (ends : Ends 
 
     -- behind its end it keeps nothing
     pub keeps-nothing : (front : List CellEvent) (n : ℕ) → c.value.history ≡ front ++ End n ∷ [] → dbuf_meanings.holds c ≡ []
-    keeps-nothing front n ended = ended-keeps-nothing _ _ _ c.value front n sound.0 ended
+    keeps-nothing front n ended = ended-keeps-nothing _ _ _ c.value front n sound.0.sound ended
 
     -- a party that was there knows how the cell began
     pub opened-so : (n : ℕ) (w : Known OnHeap) → get_elem? ends.views n ≡ some w → opening_numbers c.value.limit c.value.opening ≡ slice_index_or w.about.openings i []

@@ -1,5 +1,5 @@
 -- What a run did beside its replies: what each line did, and what the feeder did to cells and with their numbers.
-use Rattle.std.specs.Prelude.{◌≡◌, ℕ, false, true, zero, suc, ◌<◌, ◌==◌, nat_le, if◌then◌else◌, List, [], ◌∷◌, ◌++◌, Option, Some, None, filter, length, slice_get}
+use Rattle.std.specs.Prelude.{◌≡◌, ℕ, Bool, false, true, zero, suc, ◌<◌, ◌==◌, nat_le, if◌then◌else◌, List, [], ◌∷◌, ◌++◌, Option, Some, None, filter, length, slice_get}
 use Rattle.std.specs.List.{AllByRecursion}
 use Rattle.std.specs.Option.{option_map_or}
 use Rattle.blk_ptr.specs.declared.ptr.Ptr.{Ptr}
@@ -48,7 +48,8 @@ plain_work ops replies = record { lines = plain_lines ops replies; stopped = no_
 pub record IsSyncedNote (g : Config) (note : Noted) : Type 0 where
   pub at : Oid
   pub ptr : Ptr
-  pub is : note.event ≡ Synced g.callers at ptr
+  pub held : Bool
+  pub is : note.event ≡ Synced g.callers at ptr held
   pub cell : IsCell g note.cell
 
 -- a block of a cell was inserted

@@ -56,14 +56,14 @@ inserts_in g tick (x ∷ xs) shard history =
 
 -- the same by what was noted: of each block that n wrote
 abbrev pub insert_noted : Config → (tick cell shard : ℕ) → (history : List Event) → CellEvent → List Event
-insert_noted g tick i shard history (WasSynced n at ptr) =
+insert_noted g tick i shard history (WasSynced n at ptr held) =
     if shard_of g.shards ptr.key == shard && is_new_here ptr.key (replay (opening_of g) history) then (Insert (cell_number g i) ptr.key ptr.digest tick ∷ []) else []
 insert_noted g tick i shard history (Get n at) = []
 insert_noted g tick i shard history (Put n at size fill) = []
 insert_noted g tick i shard history (Patch n at from bytes) = []
 insert_noted g tick i shard history (Pin n at) = []
 insert_noted g tick i shard history (Unpin n at) = []
-insert_noted g tick i shard history (Load n at) = []
+insert_noted g tick i shard history (Load n at held) = []
 insert_noted g tick i shard history (Evict n at) = []
 insert_noted g tick i shard history (End n) = []
 
@@ -72,9 +72,27 @@ inserts_noted g tick [] shard history = []
 inserts_noted g tick (note ∷ noted) shard history =
     insert_noted g tick note.cell shard history note.event ++ inserts_noted g tick noted shard (history ++ insert_noted g tick note.cell shard history note.event)
 
+-- in a shard with this history, a dbuf keeps a hold of its block where the block's key is new there
+abbrev pub IsHeldNew : Config → (shard : ℕ) → (history : List Event) → CellEvent → Type 0
+IsHeldNew g shard history (WasSynced n at ptr held) = shard_of g.shards ptr.key ≡ shard → held ≡ is_new_here ptr.key (replay (opening_of g) history)
+IsHeldNew g shard history (Get n at) = Unit {0}
+IsHeldNew g shard history (Put n at size fill) = Unit {0}
+IsHeldNew g shard history (Patch n at from bytes) = Unit {0}
+IsHeldNew g shard history (Pin n at) = Unit {0}
+IsHeldNew g shard history (Unpin n at) = Unit {0}
+IsHeldNew g shard history (Load n at held) = Unit {0}
+IsHeldNew g shard history (Evict n at) = Unit {0}
+IsHeldNew g shard history (End n) = Unit {0}
+
+-- so it is of each that was noted, as it was written
+abbrev pub AreHeldNew : Config → (tick : ℕ) → List Noted → (shard : ℕ) → (history : List Event) → Type 0
+AreHeldNew g tick [] shard history = Unit {0}
+AreHeldNew g tick (note ∷ noted) shard history =
+    IsHeldNew g shard history note.event × AreHeldNew g tick noted shard (history ++ insert_noted g tick note.cell shard history note.event)
+
 -- that these blocks were written, as n notes it of each in its cell
 abbrev pub noted_of : (n : ℕ) → List SyncItem → List Noted
-noted_of n xs = map (λ (x : SyncItem). record { cell = x.due.cell; event = WasSynced n x.due.at x.ptr }) xs
+noted_of n xs = map (λ (x : SyncItem). record { cell = x.due.cell; event = WasSynced n x.due.at x.ptr x.held }) xs
 
 -- these entries of a cell, as a party sees them
 abbrev pub lines_of : List CellEvent → List Line
@@ -97,6 +115,7 @@ pub record SyncsJoined (cache : Cache) (tick : ℕ) (p : PartyPlace) (olds : Lis
   -- the Inserts stand behind all that anybody had done in a shard
   pub front : ℕ → List Event
   pub seen : (shard : ℕ) → seen_of cache.config shard q ≡ front shard ++ inserts_in cache.config tick xs shard (front shard)
+  pub held : (shard : ℕ) → AreHeldNew cache.config tick (noted_of p.number xs) shard (front shard)
   -- the front has of each just what it had done
   pub own : (shard : ℕ) → own_moments p.number (moments (opening_of cache.config) (front shard)) ≡ own_moments p.number (moments (opening_of cache.config) (seen_of cache.config shard p))
   pub others : (shard : ℕ)

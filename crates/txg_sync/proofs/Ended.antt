@@ -59,7 +59,7 @@ module _ (cache : Cache) (tick : ℕ) (befores nows : List OnHeap) (p q : PartyP
 module _ {P : Type 0} (pool : Ghosts P) (group next : ℕ) (before now : P) (g : Config) (One Two : List OnHeap → List SyncItem → (PartyPlace → PartyPlace → Type 0) → Type 0)
     (goes : (cells : List OnHeap) (xs : List SyncItem) (Besides : PartyPlace → PartyPlace → Type 0) → One cells xs Besides → Two cells xs Besides) where
   stops-so : (Told : SyncItem → Option (List ℕ) → Type 0) (Besides : SyncItem → PartyPlace → PartyPlace → Type 0) → StopsAt pool group next before now g One Told Besides → StopsAt pool group next before now g Two Told Besides
-  stops-so Told Besides s = record { cells = s.cells; done = s.done; due = s.due; rest = s.rest; dirty = s.dirty; fits = s.fits; turns = goes s.cells _ _ s.turns; told = s.told }
+  stops-so Told Besides s = record { cells = s.cells; done = s.done; due = s.due; rest = s.rest; dirty = s.dirty; fits = s.fits; held = s.held; turns = goes s.cells _ _ s.turns; told = s.told }
 
   pub answers-so : (result : Result Synced SyncFault) → AnswersWith pool group next before now g One result → AnswersWith pool group next before now g Two result
   unfolding stops-so
@@ -69,6 +69,7 @@ module _ {P : Type 0} (pool : Ghosts P) (group next : ℕ) (before now : P) (g :
     dirty = a.dirty;
     sized = a.sized;
     fits = a.fits;
+    held = a.held;
     turns = goes a.cells _ _ a.turns;
     told = a.told;
     outside = a.outside;
@@ -122,6 +123,7 @@ module _ {P : Type 0} (pool : Ghosts P) (cache : Cache) (group tick next : ℕ) 
       rest = s.rest;
       dirty = subst (AreAllDirty cells) s.whole dirty;
       fits = subst (λ (ds : List Due). need_of cells ds ≤ pool.size before - next) s.whole fits;
+      held = s.held;
       turns = (refl, s.sync);
       told = s.told;
     }
@@ -135,6 +137,7 @@ module _ {P : Type 0} (pool : Ghosts P) (cache : Cache) (group tick next : ℕ) 
       dirty = dirty;
       sized = sized;
       fits = fits;
+      held = a.held;
       turns = (refl, a.sync);
       told = a.told;
       outside = a.outside;

@@ -1,7 +1,7 @@
 -- The dirty blocks of all cells: how they are gathered, and what is so of each of them.
 use Rattle.std.proofs.Common.{◌≡◌, ◌==◌, ℕ, zero, suc, ◌+◌, ◌<◌, Bool, true, false, cond, List, [], ◌∷◌, ◌++◌, length, drop, take, count_by, IsPermutation, slice_index_or, map, Result, Ok, Err, OnOk, refl, sym, ap, ◌∙◌, subst, inl, inr, eq-eqb, arith}
 use Rattle.std.specs.List.{AllByRecursion}
-use Rattle.std.proofs.lemmas.List.Sums.{sum_by-cons}
+use Rattle.std.proofs.lemmas.List.Sums.{sum_by-cons, sum_by-append}
 use Rattle.std.proofs.lemmas.List.{append_assoc}
 use Rattle.std.proofs.lemmas.List.Sorted.{IsPermutation-append_left, IsPermutation-append_right, IsPermutation-map, IsPermutation-trans}
 use Rattle.dbuf_state.specs.Dbufs.{dirty_oids}
@@ -18,7 +18,7 @@ use Rattle.txg_sync.specs.declared.due.Due.{Due}
 pub oid-same : (at : Oid) → oid_eq at at ≡ true
 oid-same at = and-both (at.object == at.object) (at.block == at.block) (eq-eqb at.object at.object refl) (eq-eqb at.block at.block refl)
 
-due-same : (due : Due) → due_eq due due ≡ true
+pub due-same : (due : Due) → due_eq due due ≡ true
 due-same due = and-both (oid_eq due.at due.at) (due.cell == due.cell) (oid-same due.at) (eq-eqb due.cell due.cell refl)
 
 -- the first of those that are left
@@ -49,6 +49,22 @@ count-cons {X} p x xs = sum_by-cons (λ (y : X). cond (p y) 1 0) x xs
 -- of those that are left the first is apart from the others
 pub apart-first : (due : Due) (dues : List Due) → AreApart (due ∷ dues) → AllByRecursion (λ other. due_eq due other ≡ false) dues
 apart-first due dues apart = go dues (let a = apart due in let b = count-cons (due_eq due) due dues in let same : cond {A = ℕ} (due_eq due due) 1 0 ≡ 1 = ap (λ (c : Bool). cond c 1 0) (due-same due) in omega arith)
+  where
+    go : (os : List Due) → count_by (due_eq due) os ≡ 0 → AllByRecursion (λ other. due_eq due other ≡ false) os
+    go [] none = tt
+    go (o ∷ os) none = elim (bool_cases (due_eq due o)) [
+      | inl is ↦ let a = count-cons (due_eq due) o os in let one : cond {A = ℕ} (due_eq due o) 1 0 ≡ 1 = ap (λ (c : Bool). cond c 1 0) is in absurd (omega arith)
+      | inr far ↦ (far, go os (let a = count-cons (due_eq due) o os in omega arith))
+    ]
+
+-- and apart from those before it
+pub apart-before : (due : Due) (front rest : List Due) → AreApart (front ++ due ∷ rest) → AllByRecursion (λ other. due_eq due other ≡ false) front
+apart-before due front rest apart = go front
+    (let a = apart due in
+    let b : count_by (due_eq due) (front ++ due ∷ rest) ≡ count_by (due_eq due) front + count_by (due_eq due) (due ∷ rest) = sum_by-append (λ (y : Due). cond {A = ℕ} (due_eq due y) 1 0) front (due ∷ rest) in
+    let c = count-cons (due_eq due) due rest in
+    let same : cond {A = ℕ} (due_eq due due) 1 0 ≡ 1 = ap (λ (c : Bool). cond c 1 0) (due-same due) in
+    omega (arith, a, b, c, same))
   where
     go : (os : List Due) → count_by (due_eq due) os ≡ 0 → AllByRecursion (λ other. due_eq due other ≡ false) os
     go [] none = tt

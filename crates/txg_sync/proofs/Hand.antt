@@ -117,7 +117,7 @@ in-hand-else q i before xs x now far h = record {
 
 -- a block of it was: the party has listed what the cell keeps now, and the cell has noted it
 module _ (q r : PartyPlace) (before : OnHeap) (xs : List SyncItem) (x : SyncItem) (old new : CellLog Kept) (kept : Kept) (h : IsInHand x.due.cell before xs old q) (stays : Remains q r)
-    (fit : AllByRecursion (IsFit key_of bytes_of) old.dbufs) (dirty : dbuf_is is_dirty x.due.at old.dbufs ≡ true) (bytes : x.bytes ≡ dirty_bytes_at x.due.at old.dbufs) (of : IsOf x.bytes x.ptr) where
+    (fit : AllByRecursion (IsFit key_of bytes_of) old.dbufs) (dirty : dbuf_is is_dirty x.due.at old.dbufs ≡ true) (bytes : x.bytes ≡ dirty_bytes_at x.due.at old.dbufs) (of : IsOf x.bytes x.ptr) (says : x.held ≡ is_held kept) where
   has : DbufHas (λ d. d.content ≡ Dirty x.bytes) (dbuf_at x.due.at old.dbufs)
   has = subst (λ (l : List ℕ). DbufHas (λ d. d.content ≡ Dirty l) (dbuf_at x.due.at old.dbufs)) (sym bytes) (is-dirty-with x.due.at old.dbufs dirty)
 
@@ -128,20 +128,20 @@ module _ (q r : PartyPlace) (before : OnHeap) (xs : List SyncItem) (x : SyncItem
       let none : d.dbuf.kept ≡ None = dirty-keeps-nothing d.dbuf x.bytes (has-of (IsFit key_of bytes_of) (dbuf_at at old.dbufs) d.dbuf (all-found (IsFit key_of bytes_of) is_dirty at old.dbufs fit dirty) d.there) d.has in
       let roomy : CellLog Kept = record old { dbuf_room = s.roomy.dbuf_room; event_room = s.roomy.event_room } in
       let n = q.number in
-      let is : new ≡ noted (Synced n at x.ptr) (record roomy { dbufs = with_dbuf at (synced_to x.ptr kept) roomy.dbufs }) =
-      s.noted_is ∙ ap (λ (c : CellLog Kept). noted (Synced n at x.ptr) (record c { dbufs = with_dbuf at (synced_to x.ptr kept) c.dbufs })) s.made in
+      let is : new ≡ noted (Synced n at x.ptr (is_held kept)) (record roomy { dbufs = with_dbuf at (synced_to x.ptr kept) roomy.dbufs }) =
+      s.noted_is ∙ ap (λ (c : CellLog Kept). noted (Synced n at x.ptr (is_held kept)) (record c { dbufs = with_dbuf at (synced_to x.ptr kept) c.dbufs })) s.made in
       let done = done-synced n before.value roomy h.evicting (synced_in n x.due.cell xs) (done-roomier n before.value old h.evicting (synced_in n x.due.cell xs) h.done s.roomy.dbuf_room s.roomy.event_room) h.settled at x.ptr kept x.bytes has of in
-      let news : synced_in n x.due.cell xs ++ Synced n at x.ptr ∷ [] ≡ synced_in n x.due.cell (xs ++ x ∷ []) =
-      sym (synced-more n x.due.cell xs x ∙ ap (λ (l : List CellEvent). synced_in n x.due.cell xs ++ l) (synced-here n x)) in
+      let news : synced_in n x.due.cell xs ++ Synced n at x.ptr (is_held kept) ∷ [] ≡ synced_in n x.due.cell (xs ++ x ∷ []) =
+      sym (synced-more n x.due.cell xs x ∙ ap (λ (l : List CellEvent). synced_in n x.due.cell xs ++ l) (synced-here n x ∙ ap (λ (h : Bool). Synced n x.due.at x.ptr h ∷ []) says)) in
       subst (λ (c : CellLog Kept). IsInHand x.due.cell before (xs ++ x ∷ []) c r) (sym is) record {
         recorded = g.recorded ∙ h.recorded;
         evicting = Never;
-        done = subst (λ (m : ℕ). HasDone m before.value Never (synced_in m x.due.cell (xs ++ x ∷ [])) (noted (Synced n at x.ptr) (record roomy { dbufs = with_dbuf at (synced_to x.ptr kept) roomy.dbufs }))) (sym stays.stays.number)
-            (subst (λ (es : List CellEvent). HasDone n before.value Never es (noted (Synced n at x.ptr) (record roomy { dbufs = with_dbuf at (synced_to x.ptr kept) roomy.dbufs }))) news done);
+        done = subst (λ (m : ℕ). HasDone m before.value Never (synced_in m x.due.cell (xs ++ x ∷ [])) (noted (Synced n at x.ptr (is_held kept)) (record roomy { dbufs = with_dbuf at (synced_to x.ptr kept) roomy.dbufs }))) (sym stays.stays.number)
+            (subst (λ (es : List CellEvent). HasDone n before.value Never es (noted (Synced n at x.ptr (is_held kept)) (record roomy { dbufs = with_dbuf at (synced_to x.ptr kept) roomy.dbufs }))) news done);
         settled = refl;
         holds = subst (AreHolds (holds_in key_of bytes_of is_held (with_dbuf at (synced_to x.ptr kept) old.dbufs))) (sym g.listed)
             (synced-holds at old.dbufs d.dbuf d.there none (list_at x.due.cell q.own.listed) h.holds x.ptr kept 0);
-        claimed = still-claimed q r x.due.cell old (noted (Synced n at x.ptr) (record roomy { dbufs = with_dbuf at (synced_to x.ptr kept) roomy.dbufs })) stays
+        claimed = still-claimed q r x.due.cell old (noted (Synced n at x.ptr (is_held kept)) (record roomy { dbufs = with_dbuf at (synced_to x.ptr kept) roomy.dbufs })) stays
             (synced-claims n before.value roomy h.evicting (synced_in n x.due.cell xs) (done-roomier n before.value old h.evicting (synced_in n x.due.cell xs) h.done s.roomy.dbuf_room s.roomy.event_room) h.settled at x.ptr kept x.bytes has of) h.claimed;
         owned = stays.owned ∙ (h.owned ∙ sym stays.stays.number);
       }
@@ -186,9 +186,9 @@ module _ (cache : Cache) (tick : ℕ) (p : PartyPlace) (count : ℕ) (q r : Part
   keeps-stays (Held h) k = inserted-stays cache p count q r hold x.ptr.key (Insert (cell_number cache.config x.due.cell) x.ptr.key x.ptr.digest tick) k.0
   keeps-stays (Loose key block) k = looked-stays cache p count q r hold x.ptr.key k.0
 
-  pub keeps-inserts : (kept : Kept) → KeepsItem cache.config tick x kept q r → InsertsItem cache.config tick x q r
-  keeps-inserts (Held h) k = inserted k.0
-  keeps-inserts (Loose key block) k = there k.1.0 k.0 k.1.1
+  pub keeps-inserts : (kept : Kept) → x.held ≡ is_held kept → KeepsItem cache.config tick x kept q r → InsertsItem cache.config tick x q r
+  keeps-inserts (Held h) says k = inserted says k.0
+  keeps-inserts (Loose key block) says k = there says k.1.0 k.0 k.1.1
 
   module _ (j : ℕ) (in_range : IsCell cache.config j) (among : IsAmong j q.held) where
     -- the block's own cell
@@ -230,19 +230,19 @@ module _ (cache : Cache) (tick : ℕ) (befores nows news : List OnHeap) (p q r :
   old-hand d = subst (λ (c : OnHeap). IsInHand i (slice_index_or befores i d) xs c.value q) (old-is d) (h.cells i d within)
 
   -- one block more was written
-  pub sync-more : (group place : ℕ) (at : Oid) (told now : Option (List ℕ)) (size : ℕ) → WritesBlock cache.config group tick place i at old cell.value told now q r size
-      → dbuf_is is_dirty at old.dbufs ≡ true → InSync cache tick befores news p r (xs ++ item_in group place i at old ∷ []) Same
+  pub sync-more : (group place : ℕ) (at : Oid) (told now : Option (List ℕ)) (size : ℕ) (w : WritesBlock cache.config group tick place i at old cell.value told now q r size)
+      → dbuf_is is_dirty at old.dbufs ≡ true → InSync cache tick befores news p r (xs ++ item_in group place i at old (is_held w.kept) ∷ []) Same
   sync-more group place at told now size w dirty =
-      let x = item_in group place i at old in
+      let x = item_in group place i at old (is_held w.kept) in
       let stays = keeps-stays cache tick p (length befores) q r h.holding x refl w.kept w.keeps in
       record {
         reached = r;
-        inserts = inserts-more cache.config tick xs x p h.reached r h.inserts (subst (λ (z : PartyPlace). InsertsItem cache.config tick x z r) (reached-here cache tick befores nows news p q r xs h all) (keeps-inserts cache tick p (length befores) q r h.holding x refl w.kept w.keeps));
+        inserts = inserts-more cache.config tick xs x p h.reached r h.inserts (subst (λ (z : PartyPlace). InsertsItem cache.config tick x z r) (reached-here cache tick befores nows news p q r xs h all) (keeps-inserts cache tick p (length befores) q r h.holding x refl w.kept refl w.keeps));
         besides = refl;
         holding = holding-stays cache p (length befores) q r h.holding stays;
         count = count-now cache tick befores nows news p q r xs h all i cell within news_are;
         cells = cells-now cache tick befores nows news p q r xs h all i cell within news_are (xs ++ x ∷ [])
-            (λ d. in-hand-synced q r (slice_index_or befores i d) xs x old cell.value w.kept (old-hand d) stays w.fit dirty refl record { size = refl; digest = refl }
+            (λ d. in-hand-synced q r (slice_index_or befores i d) xs x old cell.value w.kept (old-hand d) stays w.fit dirty refl record { size = refl; digest = refl } refl
             (keeps-here cache tick p (length befores) q r h.holding x refl i (is-cell cache tick befores nows news p q r xs h all i within) (is-among cache tick befores nows news p q r xs h all i within) w.kept w.keeps refl) w.synced)
             (λ j d j-within far.
             let g = keeps-else cache tick p (length befores) q r h.holding x refl j (is-cell cache tick befores nows news p q r xs h all j j-within) (is-among cache tick befores nows news p q r xs h all j j-within) w.kept w.keeps (λ e. far (sym e)) in

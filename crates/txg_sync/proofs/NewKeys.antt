@@ -146,22 +146,23 @@ module _ (g : Config) (valid : IsConfig g) (tick : ℕ) (x : SyncItem) (place : 
 -- it was inserted, and those behind it are
 one-more : (g : Config) → IsConfig g → (tick : ℕ) (x : SyncItem) (place last : ℕ) (xs : List SyncItem) (p r q : PartyPlace) → x.ptr.key.offset ≡ place → 0 < x.ptr.key.size → SeesAlone g p → EndsBelow g place p
     → InsertsItem g tick x p r → (SeesAlone g r → EndsBelow g (place + x.ptr.key.size) r → EndsInserted g tick last xs r q) → EndsInserted g tick last (x ∷ xs) p q
-one-more g valid tick x place last xs p r q at some alone below (inserted d) rest =
+one-more g valid tick x place last xs p r q at some alone below (inserted held d) rest =
     let t = rest (now-alone g valid tick x place p r at alone below d) (now-below g valid tick x place p r at alone below d) in
-    record { each = (r, d, t.each); below = t.below; alone = t.alone }
-one-more g valid tick x place last xs p r q at some alone below (there front d tells) rest = absurd (not-there g valid tick x place p r at alone below front d tells some)
+    record { each = (r, d, t.each); held = (held, t.held); below = t.below; alone = t.alone }
+one-more g valid tick x place last xs p r q at some alone below (there loose front d tells) rest = absurd (not-there g valid tick x place p r at alone below front d tells some)
 
 -- ---- all blocks
 
 pub none-there : NoneIsThere
-none-there g group tick next cells [] p q valid alone sized below all = record {
+none-there g held group tick next cells [] p q valid alone sized below all = record {
   each = all;
+  held = tt;
   below = λ shard k h. let b = subst (EndsBelow g next) (sym all) below shard k h in omega arith;
   alone = subst (SeesAlone g) (sym all) alone;
 }
-none-there g group tick next cells (due ∷ dues) p q valid alone sized below all =
+none-there g held group tick next cells (due ∷ dues) p q valid alone sized below all =
     let size = length (bytes_of_due cells due) in
     let sum : (next + size) + need_of cells dues ≡ next + need_of cells (due ∷ dues) = omega arith in
-    subst (λ (n : ℕ). EndsInserted g tick n (items_from group next cells (due ∷ dues)) p q) sum
-    (one-more g valid tick (at_place group next cells due) next ((next + size) + need_of cells dues) (items_from group (next + size) cells dues) p all.0 q refl sized.0 alone below all.1
-    (λ a b. none-there g group tick (next + size) cells dues all.0 q valid a sized.1 b all.2))
+    subst (λ (n : ℕ). EndsInserted g tick n (items_from held group next cells (due ∷ dues)) p q) sum
+    (one-more g valid tick (at_place held group next cells due) next ((next + size) + need_of cells dues) (items_from held group (next + size) cells dues) p all.0 q refl sized.0 alone below all.1
+    (λ a b. none-there g held group tick (next + size) cells dues all.0 q valid a sized.1 b all.2))

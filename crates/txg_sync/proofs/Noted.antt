@@ -33,6 +33,7 @@ use Rattle.dbuf_cells.proofs.CellSteps.{done-more}
 use Rattle.dbuf_cells.proofs.Evictions.{has-of}
 use Rattle.dbuf_cells.proofs.HoldLists.{first-or-later, one-more}
 use Rattle.dbuf_cells.proofs.Loads.{put-among, put-count}
+use Rattle.dbuf_state.proofs.HeldLemmas.{held-set}
 
 nothing : (x : Ptr) → IsOneOf x [] → ⊥
 nothing x one = some-ne-none x (sym one.1)
@@ -71,17 +72,18 @@ module _ (at : Oid) (ds : List (Dbuf Kept)) (d : Dbuf Kept) (found : dbuf_at at 
 
 module _ (n : ℕ) (before old : CellLog Kept) (evicting : Evicting) (news : List CellEvent) (h : HasDone n before evicting news old) (settled : IsTrue (not (is_due (plain_cell evicting old))))
     (at : Oid) (ptr : Ptr) (k : Kept) (bytes : List ℕ) (dirty : DbufHas (λ d. d.content ≡ Dirty bytes) (dbuf_at at old.dbufs)) (of : IsOf bytes ptr) where
-  written : IsLegal (plain_cell evicting old) (Synced n at ptr)
+  written : IsLegal (plain_cell evicting old) (Synced n at ptr (is_held k))
   written = (settled, subst (IsWrittenAt ptr) (sym (plain-dbuf-is evicting old at)) (go (dbuf_at at old.dbufs) dirty))
     where
       go : (o : Option (Dbuf Kept)) → DbufHas (λ d. d.content ≡ Dirty bytes) o → IsWrittenAt ptr (option_map plain_dbuf o)
       go None b = absurd b
       go (Some d) b = subst (λ (c : Content). IsWritten ptr (plain_block c d.state)) (sym b) of
 
-  pub done-synced : HasDone n before Never (news ++ Synced n at ptr ∷ []) (noted (Synced n at ptr) (record old { dbufs = with_dbuf at (synced_to ptr k) old.dbufs }))
-  done-synced = done-more n before old evicting news h (Synced n at ptr) [] (with_dbuf at (synced_to ptr k) old.dbufs) written tt (synced-follows old n at ptr k) refl
+  pub done-synced : HasDone n before Never (news ++ Synced n at ptr (is_held k) ∷ []) (noted (Synced n at ptr (is_held k)) (record old { dbufs = with_dbuf at (synced_to ptr k) old.dbufs }))
+  done-synced = done-more n before old evicting news h (Synced n at ptr (is_held k)) [] (with_dbuf at (synced_to ptr k) old.dbufs) written tt (synced-follows old n at ptr (is_held k) k) refl
       (rest-stays at (synced_to ptr k) old.dbufs (λ d found. refl) h.rest)
       (λ m other. claims-stay at (synced_to ptr k) m old.dbufs (λ d found. sym (ap (λ (c : Content). claim_in m d.at c d.state) (has-of (λ x. x.content ≡ Dirty bytes) (dbuf_at at old.dbufs) d dirty found))))
+      (held-set is_held at (synced_to ptr k) (λ d. refl) (is_held k) (λ d. refl) (λ d. d.content ≡ Dirty bytes) old.dbufs dirty)
 
   -- what is claimed of the cell stays
   pub synced-claims : (m : ℕ) → claims_in m (with_dbuf at (synced_to ptr k) old.dbufs) ≡ claims_in m old.dbufs

@@ -23,8 +23,8 @@ put-behind front bytes part rest same =
     λ z. (first z ++ bytes) ++ last z
 
 pub in-a-row : BlocksStandInARow
-in-a-row group next cells [] front part rest at_front sized = ap (λ (l : List ℕ). (front ++ l) ++ rest) (none-left part sized)
-in-a-row group next cells (due ∷ dues) front part rest at_front sized =
+in-a-row held group next cells [] front part rest at_front sized = ap (λ (l : List ℕ). (front ++ l) ++ rest) (none-left part sized)
+in-a-row held group next cells (due ∷ dues) front part rest at_front sized =
     let b : List ℕ = bytes_of_due cells due in
     let one : List ℕ = take (length b) part in
     let left : List ℕ = drop (length b) part in
@@ -36,15 +36,15 @@ in-a-row group next cells (due ∷ dues) front part rest at_front sized =
     let wrote : put next b ((front ++ part) ++ rest) ≡ ((front ++ b) ++ left) ++ rest =
     ap (put next b) image ∙ (ap (λ (n : ℕ). put n b ((front ++ one) ++ (left ++ rest))) (sym at_front) ∙ (put-behind front b one (left ++ rest) len-one ∙ sym (append_assoc (front ++ b) left rest))) in
     let front-len : length (front ++ b) ≡ next + length b = let a = length-append front b in omega arith in
-    ap (written_over (items_from group (next + length b) cells dues)) wrote
-    ∙ (in-a-row group (next + length b) cells dues (front ++ b) left rest front-len len-left ∙ ap (λ (l : List ℕ). l ++ rest) (append_assoc front b (all_bytes cells dues)))
+    ap (written_over (items_from held group (next + length b) cells dues)) wrote
+    ∙ (in-a-row held group (next + length b) cells dues (front ++ b) left rest front-len len-left ∙ ap (λ (l : List ℕ). l ++ rest) (append_assoc front b (all_bytes cells dues)))
 
 pub add-up : PlacesAddUp
-add-up group next cells [] due left =
+add-up held group next cells [] due left =
     let e : next + 0 ≡ next = omega arith in
-    λ z. at_place group (sym e z) cells due ∷ items_from group (sym e z + length (bytes_of_due cells due)) cells left
-add-up group next cells (d ∷ done) due left =
+    λ z. at_place held group (sym e z) cells due ∷ items_from held group (sym e z + length (bytes_of_due cells due)) cells left
+add-up held group next cells (d ∷ done) due left =
     let n = length (bytes_of_due cells d) in
     let e : next + n + need_of cells done ≡ next + (n + need_of cells done) = omega arith in
-    ap (λ xs. at_place group next cells d ∷ xs) (add-up group (next + n) cells done due left
-    ∙ (λ z. items_from group (next + n) cells done ++ at_place group (e z) cells due ∷ items_from group (e z + length (bytes_of_due cells due)) cells left))
+    ap (λ xs. at_place held group next cells d ∷ xs) (add-up held group (next + n) cells done due left
+    ∙ (λ z. items_from held group (next + n) cells done ++ at_place held group (e z) cells due ∷ items_from held group (e z + length (bytes_of_due cells due)) cells left))

@@ -39,11 +39,11 @@ use Rattle.hash_chain.specs.Chain.{Chain}
 pub synced-more : (n i : ℕ) (xs : List SyncItem) (x : SyncItem) → synced_in n i (xs ++ x ∷ []) ≡ synced_in n i xs ++ synced_in n i (x ∷ [])
 synced-more n i [] x = refl
 synced-more n i (y ∷ ys) x = elim (bool_cases (y.due.cell == i)) [
-  | inl here ↦ rw here (ap (λ (l : List CellEvent). Synced n y.due.at y.ptr ∷ l) (synced-more n i ys x))
+  | inl here ↦ rw here (ap (λ (l : List CellEvent). Synced n y.due.at y.ptr y.held ∷ l) (synced-more n i ys x))
   | inr far ↦ rw far (synced-more n i ys x)
 ]
 
-pub synced-here : (n : ℕ) (x : SyncItem) → synced_in n x.due.cell (x ∷ []) ≡ Synced n x.due.at x.ptr ∷ []
+pub synced-here : (n : ℕ) (x : SyncItem) → synced_in n x.due.cell (x ∷ []) ≡ Synced n x.due.at x.ptr x.held ∷ []
 synced-here n x = let here : (x.due.cell == x.due.cell) ≡ true = eq-eqb x.due.cell x.due.cell refl in rw here refl
 
 pub synced-else : (n i : ℕ) (x : SyncItem) → x.due.cell ≢ i → synced_in n i (x ∷ []) ≡ []

@@ -19,7 +19,7 @@ use Rattle.dbuf_state.specs.Numbers.{event_numbers, mapping_numbers, opening_num
 use Rattle.dbuf_state.proofs.HandLemmas.{fit-keeps}
 use Rattle.dbuf_cells.specs.InHand.{AsTaken, HasDone}
 use Rattle.dbuf_cells.specs.Kept.{bytes_of, key_of}
-use Rattle.dbuf_cells.specs.Turns.{OnHeap, PartyPlace, dbuf_meanings, holds_of, KeepsClaims}
+use Rattle.dbuf_cells.specs.Turns.{HoldsStand, OnHeap, PartyPlace, dbuf_meanings, holds_of, KeepsClaims}
 use Rattle.dbuf_state.proofs.IndexLemmas.{bool_cases}
 use Rattle.dbuf_cells.specs.declared.kept.Kept.{Kept}
 use Rattle.dbuf_cells.proofs.CellSteps.{done-sound, entries-own}
@@ -37,9 +37,9 @@ takes-more i [] c p q r all one =
 takes-more i (x ∷ xs) c p q r all one =
     (all.0, all.1, takes-more (suc i) xs c all.0 q r all.2 (subst (λ (n : ℕ). Takes dbuf_meanings n (item.Cell c) q r) (let e : i + suc (length xs) ≡ suc i + length xs = omega arith in e) one))
 
-module _ (cache : Cache) (p q r : PartyPlace) (cells : List OnHeap) (c : OnHeap) (in_range : IsCell cache.config (length cells)) (h : IsHolding cache p (length cells) q) (t : Takes dbuf_meanings (length cells) (item.Cell c) q r) where
+module _ (cache : Cache) (p q r : PartyPlace) (cells : List OnHeap) (c : OnHeap) (in_range : IsCell cache.config (length cells)) (h : IsHolding cache p (length cells) q) (stands : HoldsStand c) (t : Takes dbuf_meanings (length cells) (item.Cell c) q r) where
   as-taken : AsTaken cache (length cells) q c c.value r
-  as-taken = begins cache (length cells) h.valid in_range c q r h.party h.look t
+  as-taken = begins cache (length cells) h.valid in_range c q r h.party h.look stands t
 
   took : Took dbuf_meanings (length cells) (item.Cell c) q r
   took = took_is dbuf_meanings (length cells) (item.Cell c) q r t
@@ -128,7 +128,7 @@ module _ (cache : Cache) (q r : PartyPlace) (left : List OnHeap) (c : OnHeap) (h
   last-given = let k = last-hand in record {
     taken = before;
     recorded = k.recorded;
-    sound = done-sound q.number before.value c.value k.evicting (synced_in q.number (length left) h.xs) k.done k.settled (fit-keeps key_of bytes_of (λ x. true) c.value.dbufs known.fit);
+    sound = record { sound = done-sound q.number before.value c.value k.evicting (synced_in q.number (length left) h.xs) k.done k.settled (fit-keeps key_of bytes_of (λ x. true) c.value.dbufs known.fit); tells = k.done.tells };
     holds = k.holds;
     more = map event_numbers (synced_in q.number (length left) h.xs);
     entries = ap (map event_numbers) k.done.history ∙ map-append event_numbers before.value.history (synced_in q.number (length left) h.xs);

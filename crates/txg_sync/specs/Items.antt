@@ -1,5 +1,5 @@
 -- The dirty blocks of all cells, and where a sync writes them.
-use Rattle.std.specs.Prelude.{ℕ, suc, ◌+◌, ◌≤◌, ◌==◌, Bool, ◌&&◌, ◌||◌, nat_lt, List, [], ◌∷◌, ◌++◌, length, map, count_by, slice_get, Option}
+use Rattle.std.specs.Prelude.{ℕ, suc, ◌+◌, ◌≤◌, ◌==◌, Bool, ◌&&◌, ◌||◌, nat_lt, false, List, [], ◌∷◌, ◌++◌, length, map, count_by, slice_get, Option}
 use Rattle.std.specs.Option.{option_map, option_map_or}
 use Rattle.blk_ptr.specs.Ptr.{sha256_of}
 use Rattle.blk_ptr.specs.declared.ptr.Ptr.{Ptr}
@@ -54,24 +54,25 @@ need_of cells (due ∷ dues) = length (bytes_of_due cells due) + need_of cells d
 
 -- ---- where they are written
 
--- a block as a sync writes it: which one, its bytes, and the pointer that names it then
+-- a block as a sync writes it: which one, its bytes, the pointer that names it then, and whether its dbuf keeps a hold
 pub record SyncItem : Type 0 where
   pub due : Due
   pub bytes : List ℕ
   pub ptr : Ptr
+  pub held : Bool
 
 -- the pointer of these bytes, written at a place in a transaction group
 abbrev pub ptr_at : (group place : ℕ) → List ℕ → Ptr
 ptr_at group place bytes = record { key = record { offset = place; size = length bytes; birth = group }; digest = sha256_of bytes }
 
--- the block of these cells, written at a place
-abbrev pub at_place : (group place : ℕ) → List OnHeap → Due → SyncItem
-at_place group place cells due = record { due = due; bytes = bytes_of_due cells due; ptr = ptr_at group place (bytes_of_due cells due) }
+-- the block of these cells, written at a place; whether its dbuf keeps a hold is told by a function
+abbrev pub at_place : (held : Due → Bool) → (group place : ℕ) → List OnHeap → Due → SyncItem
+at_place held group place cells due = record { due = due; bytes = bytes_of_due cells due; ptr = ptr_at group place (bytes_of_due cells due); held = held due }
 
 -- these blocks, one behind the other from a place on
-abbrev pub items_from : (group place : ℕ) → List OnHeap → List Due → List SyncItem
-items_from group place cells [] = []
-items_from group place cells (due ∷ dues) = at_place group place cells due ∷ items_from group (place + length (bytes_of_due cells due)) cells dues
+abbrev pub items_from : (held : Due → Bool) → (group place : ℕ) → List OnHeap → List Due → List SyncItem
+items_from held group place cells [] = []
+items_from held group place cells (due ∷ dues) = at_place held group place cells due ∷ items_from held group (place + length (bytes_of_due cells due)) cells dues
 
 -- the bytes that a pool tells once they are written, and no other byte is changed
 abbrev pub written_over : List SyncItem → List ℕ → List ℕ
@@ -80,6 +81,10 @@ written_over (x ∷ xs) image = written_over xs (put x.ptr.key.offset x.bytes im
 
 abbrev pub tells_written : List SyncItem → Option (List ℕ) → Option (List ℕ)
 tells_written xs told = option_map (written_over xs) told
+
+-- the dbuf keeps no hold of a block that was not written
+abbrev pub none_held : Due → Bool
+none_held due = false
 
 -- ---- apart
 

@@ -1,5 +1,5 @@
 -- Laws of a sync: where it writes, and that its keys are new to the cache.
-use Rattle.std.specs.Prelude.{◌≡◌, ℕ, ◌+◌, ◌<◌, ◌≤◌, IsTrue, List, [], ◌∷◌, ◌++◌, length}
+use Rattle.std.specs.Prelude.{◌≡◌, ℕ, ◌+◌, ◌<◌, ◌≤◌, IsTrue, List, [], ◌∷◌, ◌++◌, length, Bool, true}
 use Rattle.std.specs.List.{AllByRecursion, list_any}
 use Rattle.blk_ptr.specs.Key.{key_end}
 use Rattle.blk_ptr.specs.declared.key.Key.{Key}
@@ -23,14 +23,14 @@ all_bytes cells (due ∷ dues) = bytes_of_due cells due ++ all_bytes cells dues
 -- The image has a front up to the first place, a part of as many bytes as the blocks have, and a rest. Once they are written, the front and the rest
 -- are as before, and between them stand the blocks' bytes.
 abbrev pub BlocksStandInARow : Type 0
-BlocksStandInARow = (group next : ℕ) (cells : List OnHeap) (dues : List Due) (front part rest : List ℕ) → length front ≡ next → length part ≡ need_of cells dues
-    → written_over (items_from group next cells dues) ((front ++ part) ++ rest) ≡ (front ++ all_bytes cells dues) ++ rest
+BlocksStandInARow = (held : Due → Bool) (group next : ℕ) (cells : List OnHeap) (dues : List Due) (front part rest : List ℕ) → length front ≡ next → length part ≡ need_of cells dues
+    → written_over (items_from held group next cells dues) ((front ++ part) ++ rest) ≡ (front ++ all_bytes cells dues) ++ rest
 
 -- each block stands as many bytes behind the first place as those before it have
 abbrev pub PlacesAddUp : Type 0
-PlacesAddUp = (group next : ℕ) (cells : List OnHeap) (done : List Due) (due : Due) (left : List Due)
-    → items_from group next cells (done ++ due ∷ left)
-    ≡ items_from group next cells done ++ at_place group (next + need_of cells done) cells due ∷ items_from group (next + need_of cells done + length (bytes_of_due cells due)) cells left
+PlacesAddUp = (held : Due → Bool) (group next : ℕ) (cells : List OnHeap) (done : List Due) (due : Due) (left : List Due)
+    → items_from held group next cells (done ++ due ∷ left)
+    ≡ items_from held group next cells done ++ at_place held group (next + need_of cells done) cells due ∷ items_from held group (next + need_of cells done + length (bytes_of_due cells due)) cells left
 
 -- ---- no key of a sync is in the cache already
 
@@ -52,11 +52,12 @@ InsertsEach g tick (x ∷ xs) p q = (r : PartyPlace) × DoesRoomy dbuf_meanings 
 -- what is so once they were
 pub record EndsInserted (g : Config) (tick place : ℕ) (xs : List SyncItem) (p q : PartyPlace) : Type 0 where
   pub each : InsertsEach g tick xs p q
+  pub held : AllByRecursion (λ x. x.held ≡ true) xs
   pub below : EndsBelow g place q
   pub alone : SeesAlone g q
 
 -- A party that has every number syncs from a place on, and no key reaches past that place which it has seen taken in. Then each block is inserted,
 -- and no such key reaches past the place behind them.
 abbrev pub NoneIsThere : Type 0
-NoneIsThere = (g : Config) (group tick next : ℕ) (cells : List OnHeap) (dues : List Due) (p q : PartyPlace) → IsConfig g → SeesAlone g p → AllByRecursion (λ due. 0 < length (bytes_of_due cells due)) dues
-    → EndsBelow g next p → InsertsAll g tick (items_from group next cells dues) p q → EndsInserted g tick (next + need_of cells dues) (items_from group next cells dues) p q
+NoneIsThere = (g : Config) (held : Due → Bool) (group tick next : ℕ) (cells : List OnHeap) (dues : List Due) (p q : PartyPlace) → IsConfig g → SeesAlone g p → AllByRecursion (λ due. 0 < length (bytes_of_due cells due)) dues
+    → EndsBelow g next p → InsertsAll g tick (items_from held group next cells dues) p q → EndsInserted g tick (next + need_of cells dues) (items_from held group next cells dues) p q

@@ -1,5 +1,5 @@
 -- What `sync` answers.
-use Rattle.std.specs.Prelude.{◌≡◌, ◌⊎◌, ℕ, suc, ◌+◌, ◌-◌, ◌<◌, ◌≤◌, List, [], ◌∷◌, ◌++◌, length, Option, None, Some, Result, Ok, Err, IsPermutation, IsSortedBy}
+use Rattle.std.specs.Prelude.{◌≡◌, ◌⊎◌, ℕ, suc, ◌+◌, ◌-◌, ◌<◌, ◌≤◌, List, [], ◌∷◌, ◌++◌, length, Option, None, Some, Result, Ok, Err, IsPermutation, IsSortedBy, Bool}
 use Rattle.std.specs.List.{AllByRecursion}
 use Rattle.blk_ptr.specs.Size.{IsBlockSize}
 use Rattle.vdev_io.specs.Device.{IsTorn}
@@ -8,7 +8,7 @@ use Rattle.vdev_io.specs.declared.pool.Pool.{Ghosts}
 use Rattle.arc_core.specs.declared.config.Config.{Config}
 use Rattle.arc_table.specs.Both.{Does}
 use Rattle.dbuf_cells.specs.Turns.{OnHeap, PartyPlace, dbuf_meanings}
-use Rattle.txg_sync.specs.Items.{SyncItem, at_place, bytes_of_due, due_lt, dues_from, items_from, need_of, tells_written}
+use Rattle.txg_sync.specs.Items.{SyncItem, at_place, bytes_of_due, due_lt, dues_from, items_from, need_of, tells_written, none_held}
 use Rattle.txg_sync.specs.Turns.{SyncsCells}
 use Rattle.txg_sync.specs.declared.due.Due.{Due}
 use Rattle.txg_sync.specs.declared.syncing.SyncFault.{SyncFault}
@@ -62,8 +62,10 @@ module _ {P : Type 0} (pool : Ghosts P) (group next : ℕ) (before now : P) (g :
     -- each has a size that a block may have
     pub sized : AreSized cells dues
     pub fits : need_of cells dues ≤ pool.size before - next
-    pub turns : Turns cells (items_from group next cells dues) Same
-    pub told : pool.told now ≡ tells_written (items_from group next cells dues) (pool.told before)
+    -- these blocks' dbufs keep a hold, and the others' none, since their keys were there already
+    pub held : Due → Bool
+    pub turns : Turns cells (items_from held group next cells dues) Same
+    pub told : pool.told now ≡ tells_written (items_from held group next cells dues) (pool.told before)
     pub outside : IsUnharmed pool before now
     -- it was asked for a write of each, and for nothing else
     pub others : pool.other_calls now ≡ counted_more (length dues) (pool.other_calls before)
@@ -93,8 +95,9 @@ module _ {P : Type 0} (pool : Ghosts P) (group next : ℕ) (before now : P) (g :
     pub rest : List Due
     pub dirty : AreAllDirty cells (done ++ due ∷ rest)
     pub fits : need_of cells (done ++ due ∷ rest) ≤ pool.size before - next
-    pub turns : Turns cells (items_from group next cells done) (Besides (at_place group (next + need_of cells done) cells due))
-    pub told : Told (at_place group (next + need_of cells done) cells due) (tells_written (items_from group next cells done) (pool.told before))
+    pub held : Due → Bool
+    pub turns : Turns cells (items_from held group next cells done) (Besides (at_place none_held group (next + need_of cells done) cells due))
+    pub told : Told (at_place none_held group (next + need_of cells done) cells due) (tells_written (items_from held group next cells done) (pool.told before))
 
   -- PoolFault: its write failed, once
   pub record FailsAt : Type 0 where

@@ -1,5 +1,5 @@
 -- A party takes all cells, has blocks of them inserted into the cache under their numbers, and gives all cells back.
-use Rattle.std.specs.Prelude.{◌≡◌, ℕ, suc, ◌<◌, ◌==◌, if◌then◌else◌, false, List, [], ◌∷◌, ◌++◌, length, slice_index_or}
+use Rattle.std.specs.Prelude.{◌≡◌, ℕ, suc, ◌<◌, ◌==◌, if◌then◌else◌, false, List, [], ◌∷◌, ◌++◌, length, slice_index_or, true}
 use Rattle.arc_core.specs.Step.{is_new_here}
 use Rattle.arc_core.specs.declared.config.Config.{Config}
 use Rattle.arc_core.specs.declared.event.Event.TheVariants.{Insert}
@@ -34,10 +34,11 @@ GivesFrom i (c ∷ cs) p q = (r : PartyPlace) × GivesFrom (suc i) cs p r × IsG
 
 -- ---- the shards
 
--- The block was inserted under its cell's number, behind the passes of the scan for room. Or its key was there already, and there is no event.
+-- The block was inserted under its cell's number, behind the passes of the scan for room, and its dbuf keeps the hold. Or its key was there already, and there
+-- is no event.
 pub data InsertsItem (g : Config) (tick : ℕ) (x : SyncItem) (p q : PartyPlace) : Type 0 where
-  inserted : DoesRoomy dbuf_meanings g x.ptr.key (Insert (cell_number g x.due.cell) x.ptr.key x.ptr.digest tick) p q → InsertsItem g tick x p q
-  there : (front : Front) → Does dbuf_meanings g x.ptr.key [] p q → Tells (λ s. is_new_here x.ptr.key s ≡ false) g x.ptr.key p q front → InsertsItem g tick x p q
+  inserted : x.held ≡ true → DoesRoomy dbuf_meanings g x.ptr.key (Insert (cell_number g x.due.cell) x.ptr.key x.ptr.digest tick) p q → InsertsItem g tick x p q
+  there : x.held ≡ false → (front : Front) → Does dbuf_meanings g x.ptr.key [] p q → Tells (λ s. is_new_here x.ptr.key s ≡ false) g x.ptr.key p q front → InsertsItem g tick x p q
 
 -- these blocks were, one after another, and nothing else was done to a shard
 abbrev pub InsertsAll : Config → (tick : ℕ) → List SyncItem → PartyPlace → PartyPlace → Type 0
@@ -46,10 +47,10 @@ InsertsAll g tick (x ∷ xs) p q = (r : PartyPlace) × InsertsItem g tick x p r 
 
 -- ---- the cells
 
--- what n noted in a cell: of each of its blocks, in the order of writing, that it was written, and the pointer that names it
+-- what n noted in a cell: of each of its blocks, in the order of writing, that it was written, the pointer that names it, and whether its dbuf keeps a hold
 abbrev pub synced_in : (n i : ℕ) → List SyncItem → List CellEvent
 synced_in n i [] = []
-synced_in n i (x ∷ xs) = if x.due.cell == i then (Synced n x.due.at x.ptr ∷ synced_in n i xs) else synced_in n i xs
+synced_in n i (x ∷ xs) = if x.due.cell == i then (Synced n x.due.at x.ptr x.held ∷ synced_in n i xs) else synced_in n i xs
 
 -- The cell was sound, and those are its new entries. They lead from what it was to what it is: each of the blocks is clean, and nothing else is
 -- changed.

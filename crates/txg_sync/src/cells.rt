@@ -59,6 +59,7 @@ pub(crate) fn take_all(
     let mut cells = Vec::with_capacity(alloc, count as usize)?;
     for i in 0..count {
         let cell = arcs.take_cell(rt, party, i);
+        told(&cell);
         append(&mut cells, cell);
     }
     Ok(cells)

@@ -18,7 +18,7 @@ ghost use Rattle.txg_sync.specs.Writing.{AltersCell, AnswersBlock, IsSealed, Kee
 use crate::cells::told;
 use crate::due::Due;
 use arc_table::{Inserted, Party};
-use blk_ptr::{Block, Key, NoMemory, Ptr};
+use blk_ptr::{Block, Key, NoMemory, Ptr, Shows};
 use dbuf_cells::{Cells, HeapCell, Kept};
 use dbuf_state::{Cell, CellEvent, Oid};
 use std::alloc::Global;
@@ -114,8 +114,9 @@ fn write_block<P: Pool>(
     let Ok(kept) = keep(arcs, rt, party, i, key, block, shared, tick) else {
         return Err(IoFault::NoMemory);
     };
+    let held = kept.held();
     cell.synced(at, ptr, kept);
-    cell.note(CellEvent::Synced { n, at, ptr });
+    cell.note(CellEvent::Synced { n, at, ptr, held });
     Ok(size)
 }
 

@@ -49,7 +49,8 @@ fn plain_event(head: Head) -> CellEvent
         0 => CellEvent::Get { n, at },
         1 => CellEvent::Pin { n, at },
         2 => CellEvent::Unpin { n, at },
-        3 => CellEvent::Load { n, at },
+        3 => CellEvent::Load { n, at, held: false },
+        9 => CellEvent::Load { n, at, held: true },
         4 => CellEvent::Evict { n, at },
         _ => CellEvent::End { n },
     }
@@ -98,9 +99,9 @@ fn take_patch(head: Head, bytes: &[u8]) -> (CellEvent, &[u8])
     (event, rest)
 }
 
-fn take_synced(head: Head, bytes: &[u8]) -> (CellEvent, &[u8])
-    ensures event { result.0 ≡ (taken_synced head bytes.now).0 }
-    ensures rest { result.1.now ≡ (taken_synced head bytes.now).1 }
+fn take_synced(head: Head, held: bool, bytes: &[u8]) -> (CellEvent, &[u8])
+    ensures event { result.0 ≡ (taken_synced head held bytes.now).0 }
+    ensures rest { result.1.now ≡ (taken_synced head held bytes.now).1 }
 {
     let (offset, rest) = take_number(bytes);
     let (size, rest) = take_number(rest);
@@ -118,6 +119,7 @@ fn take_synced(head: Head, bytes: &[u8]) -> (CellEvent, &[u8])
         n: head.n,
         at: head.at,
         ptr,
+        held,
     };
     (event, rest)
 }
@@ -131,7 +133,8 @@ pub(crate) fn take_event(bytes: &[u8]) -> (CellEvent, &[u8])
     match head.kind {
         6 => take_put(head, rest),
         7 => take_patch(head, rest),
-        8 => take_synced(head, rest),
+        8 => take_synced(head, false, rest),
+        10 => take_synced(head, true, rest),
         _ => (plain_event(head), rest),
     }
 }

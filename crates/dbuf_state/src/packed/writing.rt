@@ -1,6 +1,6 @@
 //! Appending an event as bytes to a list that has room.
 ghost use Rattle.std.specs.Prelude.{◌≡◌, ◌+◌, ◌<◌, ◌≤◌, ◌^◌, ◌++◌, length, vec_len, vec_capacity};
-ghost use Rattle.dbuf_state.specs.Packed.{HeadFits, IsPackable, PtrFits, event_bytes, head_bytes, patch_bytes, ptr_bytes, put_bytes};
+ghost use Rattle.dbuf_state.specs.Packed.{HeadFits, IsPackable, PtrFits, event_bytes, head_bytes, load_kind, patch_bytes, ptr_bytes, put_bytes, synced_kind};
 
 use crate::event::CellEvent;
 use crate::oid::Oid;
@@ -21,6 +21,20 @@ const NO_OID: Oid = Oid {
     object: 0,
     block: 0,
 };
+
+// The kind of a Load: two kinds, since a hold is kept or not.
+fn load_kind(held: bool) -> u64
+    ensures { result ≡ load_kind held }
+{
+    if held { 9 } else { 3 }
+}
+
+// The kind of a Synced, likewise.
+fn synced_kind(held: bool) -> u64
+    ensures { result ≡ synced_kind held }
+{
+    if held { 10 } else { 8 }
+}
 
 // Appends what each event begins with.
 fn write_head(out: &mut Vec<u8>, kind: u64, n: u32, at: Oid)
@@ -90,7 +104,7 @@ pub(crate) fn write_event(out: &mut Vec<u8>, event: &CellEvent)
         CellEvent::Get { n, at } => write_head(out, 0, *n, *at),
         CellEvent::Pin { n, at } => write_head(out, 1, *n, *at),
         CellEvent::Unpin { n, at } => write_head(out, 2, *n, *at),
-        CellEvent::Load { n, at } => write_head(out, 3, *n, *at),
+        CellEvent::Load { n, at, held } => write_head(out, load_kind(*held), *n, *at),
         CellEvent::Evict { n, at } => write_head(out, 4, *n, *at),
         CellEvent::End { n } => write_head(out, 5, *n, NO_OID),
         CellEvent::Put { n, at, size, fill } => {
@@ -101,8 +115,8 @@ pub(crate) fn write_event(out: &mut Vec<u8>, event: &CellEvent)
             write_head(out, 7, *n, *at);
             write_patch(out, *from, bytes);
         }
-        CellEvent::Synced { n, at, ptr } => {
-            write_head(out, 8, *n, *at);
+        CellEvent::Synced { n, at, ptr, held } => {
+            write_head(out, synced_kind(*held), *n, *at);
             write_ptr(out, ptr);
         }
     }

@@ -336,6 +336,10 @@ module _ {P D : Type 0} (g : Config) (valid : IsConfig g) (pools : PoolGhosts P)
   lists-of : (result : Result Read ReadFault) → AnswersRead dbuf_meanings pools devices g ptr t before now p q result → ListsAnswer ptr p q result
   lists-of result answer = read-lists dbuf_meanings g valid pools devices ptr t before now p q result config answer
 
+  -- a hold is of no read past the cache
+  pub held-source : (hold : Hold) (from : Served) → AnswersRead dbuf_meanings pools devices g ptr t before now p q (Ok (gave.Held hold from)) → from ≢ served.Past
+  held-source hold from answer = (lists-of (Ok (gave.Held hold from)) answer).2
+
   pub read-brings : (got : Read) → AnswersRead dbuf_meanings pools devices g ptr t before now p q (Ok got) → BringDone g t c (Loaded ptr (source_of_read got)) (handed p.number c got) p q
   read-brings (gave.Held hold from) answer =
       let lists = lists-of (Ok (gave.Held hold from)) answer in

@@ -1,10 +1,11 @@
 -- What the calls on dbufs answer, as what a caller's line on an object came to.
-use Rattle.std.proofs.Common.{◌≡◌, ℕ, ◌+◌, ◌<◌, ◌≤◌, false, List, [], ◌∷◌, ◌++◌, length, map, Some, Result, Ok, Err, refl, sym, ap, ◌∙◌, subst, arith, append-nil, append_assoc}
+use Rattle.std.proofs.Common.{◌≡◌, ◌≢◌, ℕ, ◌+◌, ◌<◌, ◌≤◌, Bool, true, false, List, [], ◌∷◌, ◌++◌, length, map, Some, Result, Ok, Err, refl, sym, ap, ◌∙◌, subst, arith, append-nil, append_assoc}
 use Rattle.std.specs.List.{AllByRecursion}
 use Rattle.blk_ptr.specs.declared.digest.Digest.{Digest}
 use Rattle.blk_ptr.specs.declared.key.KeyFault.{KeyFault}
 use Rattle.blk_ptr.specs.declared.ptr.Ptr.{Ptr}
 use Rattle.blk_ptr.specs.Hash.{shard_of}
+use Rattle.blk_ptr.specs.declared.key.Key.{Key}
 use Rattle.blk_ptr.specs.Key.{IsFirstKeyFault, IsValid}
 use Rattle.vdev_io.specs.declared.device.CacheDev.{Ghosts as DeviceGhosts}
 use Rattle.vdev_io.specs.declared.pool.Pool.{Ghosts as PoolGhosts}
@@ -12,12 +13,16 @@ use Rattle.vdev_io.specs.Calls.{Failed, Gave}
 use Rattle.arc_core.specs.Config.{IsConfig}
 use Rattle.arc_core.specs.declared.config.Config.{Config}
 use Rattle.arc_core.specs.declared.event.Event.{Event}
+use Rattle.arc_core.specs.PlainShard.{PlainShard}
 use Rattle.arc_core.specs.declared.served.ReadFault.{ReadFault}
+use Rattle.arc_core.specs.declared.served.Served.{Served}
+use Rattle.arc_core.specs.declared.served.Served.TheVariants as served
 use Rattle.arc_core.specs.declared.served.ReadFault.TheVariants as fault
 use Rattle.arc_core.specs.Replay.{replay}
 use Rattle.turn_table.specs.declared.standing.Kept.{Kept as Joined}
 use Rattle.turn_table.specs.Places.{Apart, Place}
 use Rattle.arc_table.specs.declared.about.About.{About}
+use Rattle.arc_table.specs.declared.hold.Hold.{Hold}
 use Rattle.arc_table.specs.declared.read.Read.{Read}
 use Rattle.arc_table.specs.declared.read.Read.TheVariants as gave
 use Rattle.arc_table.specs.declared.view.Known.{Known}
@@ -33,11 +38,11 @@ use Rattle.arc_table.specs.Telling.{opening_of}
 use Rattle.dbuf_cells.specs.Accessing as dbufs
 use Rattle.dbuf_cells.specs.Accessing.{Acts, AnswersGet, AnswersHold, EndsPast as RangeEndsPast, HasNoBlock, NotAccessed, no_bytes, no_key, no_room, not_loaded}
 use Rattle.dbuf_cells.specs.Bringing as bringing
-use Rattle.dbuf_cells.specs.Bringing.{Brings, Reads, handed, here, loaded}
+use Rattle.dbuf_cells.specs.Bringing.{Brings, Reads, handed, held_behind, here, loaded}
 use Rattle.dbuf_cells.specs.Patching.{AnswersPatch, Patches}
 use Rattle.dbuf_cells.specs.Places.{cell_of}
-use Rattle.dbuf_cells.specs.Putting.{AnswersPut, ReleasesAtMost}
-use Rattle.dbuf_cells.specs.Turns.{AreEvictions, CellTurn, KeepsClaims, OnHeap, OnceAtRest, Operates, PartyPlace, dbuf_meanings, outline_in}
+use Rattle.dbuf_cells.specs.Putting.{AnswersPut, Releases}
+use Rattle.dbuf_cells.specs.Turns.{AreEvictions, CellTurn, KeepsClaims, OnHeap, OnceAtRest, Operates, PartyPlace, dbuf_meanings, held_in, outline_in}
 use Rattle.dbuf_cells.specs.Unholding.{AnswersUnhold}
 use Rattle.dbuf_state.specs.Answers.{IsAnswer, IsAnswerAfter}
 use Rattle.dbuf_state.specs.Faults.{fault_of}
@@ -61,13 +66,13 @@ use Rattle.trace_run.specs.Deeds.{lines_of_cell, noted_in}
 use Rattle.trace_run.specs.Effects.{Answered, PoolRefused}
 use Rattle.trace_run.specs.KeptBlocks.{AllQuiet, IsOwnedBy, Stands, times}
 use Rattle.trace_run.specs.dbufs.ObjectLines.{Brings as BringsLine, Did, DidGet, DidNot, DidPatch, DidPin, DidPut, DidUnpin, DidWork, EndsInside, FailsToBring, FindsCell, IsBrought, RefusesBlock, RefusesBytes, ReleasesFor, SpentOn, SpentOnRead, TellsFault, WasToBring, cell_lines}
-use Rattle.trace_run.specs.dbufs.Objects.{Brought, Nothing, Loaded, Refused, loads_of}
+use Rattle.trace_run.specs.dbufs.Objects.{Brought, Nothing, Loaded, Refused, gives_hold, held_once, loads_of}
 use Rattle.trace_run.specs.Reads.{IsRefused, now_of}
 use Rattle.trace_run.proofs.DeviceReadLemmas.{DeviceDid}
 use Rattle.trace_run.proofs.DeviceReadLemmas as device
 use Rattle.trace_run.proofs.GetLemmas.{PoolDid, block-told, fault-calls, fault-cause, held-calls, held-told, ok-valid, pool-did}
 use Rattle.trace_run.proofs.one_caller.AskingLemmas as asking
-use Rattle.trace_run.proofs.deeds.BringDone.{BringDone, bring-then, bytes-refuse, nothing-brought, pool-refuses, read-brings, source_of_read}
+use Rattle.trace_run.proofs.deeds.BringDone.{BringDone, bring-then, bytes-refuse, held-source, nothing-brought, pool-refuses, read-brings, source_of_read}
 use Rattle.trace_run.proofs.deeds.CellFound.{LeavesSeen, found-before, found-behind, seen-done, turn-finds, turn-placed}
 use Rattle.trace_run.proofs.deeds.CellsDone.{done-then, turn-done, turn-low, waits-done}
 use Rattle.trace_run.proofs.deeds.OperatesDone.{AreOfCell, all-both, both-of, cell-there, evictions-of, operates-done, release-of}
@@ -121,10 +126,10 @@ module _ {C P D : Type 0} (m : Meanings C) (pools : PoolGhosts P) (devices : Dev
 -- ---- evictions
 
 -- they are evictions by n of some blocks
-pub evicts : (n c : ℕ) (o : Outline) (evs : List CellEvent) (es : List Event) → AreEvictions n c o evs es → (oids : List Oid) × (evs ≡ map (events.Evict n) oids)
-evicts n c o [] es none = ([], refl)
-evicts n c o (e ∷ evs) es a =
-    let rest = evicts n c (after o e) evs a.3 a.8 in
+pub evicts : (n c : ℕ) (held : Oid → Bool) (o : Outline) (evs : List CellEvent) (es : List Event) → AreEvictions n c held o evs es → (oids : List Oid) × (evs ≡ map (events.Evict n) oids)
+evicts n c held o [] es none = ([], refl)
+evicts n c held o (e ∷ evs) es a =
+    let rest = evicts n c held (after o e) evs a.3 a.9 in
     (a.0 ∷ rest.0, λ i. a.4 i ∷ rest.1 i)
 
 -- ---- the calls
@@ -165,8 +170,8 @@ module _ (g : Config) (valid : IsConfig g) (at : Oid) (t : ℕ) (p q : PartyPlac
 
   -- ---- the operation's own turn
 
-  module _ (brought : Brought) (back : PartyPlace) (hands : List Event) (b : BringDone g t c brought hands p back) (handing : AreHands p.number c hands) (mid : OnHeap) (own : CellEvent) (released : List Event)
-      (of : AreOfCell c released) (o : Operates g i mid (loads_of p.number at brought ++ own ∷ []) (hands ++ released) back q) where
+  module _ (brought : Brought) (back : PartyPlace) (hands : List Event) (b : BringDone g t c brought hands p back) (handing : AreHands p.number c hands) (mid : OnHeap) (held : Oid → Bool) (own : CellEvent) (released : List Event)
+      (of : AreOfCell c released) (o : Operates g i mid held (loads_of p.number at brought ++ own ∷ []) (hands ++ released) back q) where
     abbrev own_loads : List CellEvent
     own_loads = loads_of p.number at brought
 
@@ -177,10 +182,10 @@ module _ (g : Config) (valid : IsConfig g) (at : Oid) (t : ℕ) (p q : PartyPlac
     kinds = subst (λ (n : ℕ). AreTurnEvents n c (hands ++ released)) (sym b.seen.number) (all-both (IsTurnEvent p.number c) hands released (hand-kinds p.number c hands handing) (of-kinds p.number c released of))
 
     all_of : AreOfCell c (released ++ o.drops)
-    all_of = both-of c released o.drops of (evictions-of back.number c _ o.evictions o.drops o.evicted)
+    all_of = both-of c released o.drops of (evictions-of back.number c held _ o.evictions o.drops o.evicted)
 
     abbrev evicted-are : (found : List Oid) × (o.evictions ≡ map (events.Evict back.number) found)
-    evicted-are = evicts back.number c _ o.evictions o.drops o.evicted
+    evicted-are = evicts back.number c held _ o.evictions o.drops o.evicted
 
     abbrev pub oids : List Oid
     oids = evicted-are.0
@@ -189,7 +194,7 @@ module _ (g : Config) (valid : IsConfig g) (at : Oid) (t : ℕ) (p q : PartyPlac
     are-oids = evicted-are.1 ∙ ap (λ (n : ℕ). map (events.Evict n) oids) b.seen.number
 
     turn-kinds-all : AreTurnEvents back.number c ((hands ++ released) ++ o.drops)
-    turn-kinds-all = all-both (IsTurnEvent back.number c) (hands ++ released) o.drops kinds (of-kinds back.number c o.drops (evictions-of back.number c _ o.evictions o.drops o.evicted))
+    turn-kinds-all = all-both (IsTurnEvent back.number c) (hands ++ released) o.drops kinds (of-kinds back.number c o.drops (evictions-of back.number c held _ o.evictions o.drops o.evicted))
 
     low : p.number < parties_of g
     low = subst (λ (n : ℕ). n < parties_of g) b.seen.number
@@ -198,7 +203,7 @@ module _ (g : Config) (valid : IsConfig g) (at : Oid) (t : ℕ) (p q : PartyPlac
     own-done : CellsDone g (noted_in i (own_loads ++ own ∷ map (events.Evict p.number) oids)) (hands ++ (released ++ o.drops)) back q
     own-done = subst (λ (x : List CellEvent × List Event). CellsDone g (noted_in i x.0) x.1 back q)
         (λ k. ((append_assoc own_loads (own ∷ []) o.evictions ∙ ap (λ (l : List CellEvent). own_loads ++ own ∷ l) are-oids) k, append_assoc hands released o.drops k))
-        (operates-done g valid i in_range mid (own_loads ++ own ∷ []) (hands ++ released) back q back-config b.sees kinds o)
+        (operates-done g valid i in_range mid held (own_loads ++ own ∷ []) (hands ++ released) back q back-config b.sees kinds o)
 
     pub own-work : DidWork g t c brought (released ++ o.drops) (noted_in i (own_loads ++ own ∷ map (events.Evict p.number) oids)) p q
     own-work = work-done g t c above brought hands (released ++ o.drops) _ p back q low b handing all_of own-done
@@ -223,8 +228,8 @@ module _ (g : Config) (valid : IsConfig g) (at : Oid) (t : ℕ) (p q : PartyPlac
           ∙ sym (append-nil (cell_lines mid ++ lines_of_cell i (noted_in i (own_loads ++ own ∷ map (events.Evict p.number) oids)))),
     )
 
-    pub own-evicted : AreEvictions p.number c (after_all (outline_in mid) (own_loads ++ own ∷ [])) (map (events.Evict p.number) oids) o.drops
-    own-evicted = subst (λ (x : ℕ × List CellEvent). AreEvictions x.0 c (after_all (outline_in mid) (own_loads ++ own ∷ [])) x.1 o.drops) (λ k. (b.seen.number k, are-oids k)) o.evicted
+    pub own-evicted : AreEvictions p.number c held (after_all (outline_in mid) (own_loads ++ own ∷ [])) (map (events.Evict p.number) oids) o.drops
+    own-evicted = subst (λ (x : ℕ × List CellEvent). AreEvictions x.0 c held (after_all (outline_in mid) (own_loads ++ own ∷ [])) x.1 o.drops) (λ k. (b.seen.number k, are-oids k)) o.evicted
 
   -- ---- what was not done
 
@@ -260,24 +265,25 @@ module _ (g : Config) (valid : IsConfig g) (at : Oid) (t : ℕ) (p q : PartyPlac
 
   module _ (ready : PartyPlace) (w : CellsDone g [] [] p ready) (cell : OnHeap) where
     -- an operation that asks for no block's bytes
-    pub operated : (own : CellEvent) (es : List Event) → AreOfCell c es → ReleasesFor c own (outline_in cell) es → Operates g i cell (own ∷ []) es ready q
+    pub operated : (own : CellEvent) (es : List Event) → AreOfCell c es → ReleasesFor c (held_in cell) own (outline_in cell) es → Operates g i cell (held_in cell) (own ∷ []) es ready q
         → Did g at t p q own Nothing (λ x. Unit {0}) × KeepsStanding g p q
     operated own es of rel o =
         let b = nothing-brought g t c p ready w in (
           record {
             cell = cell;
-            found = own-found Nothing ready [] b tt cell own es of o;
+            found = own-found Nothing ready [] b tt cell (held_in cell) own es of o;
             fits = tt;
             brings = tt;
             released = es;
             releases = rel;
-            evicted = oids Nothing ready [] b tt cell own es of o;
+            evicted = oids Nothing ready [] b tt cell (held_in cell) own es of o;
             drops = o.drops;
-            evictions = own-evicted Nothing ready [] b tt cell own es of o;
-            placed = own-placed Nothing ready [] b tt cell own es of o;
-            work = own-work Nothing ready [] b tt cell own es of o;
+            evictions = own-evicted Nothing ready [] b tt cell (held_in cell) own es of o;
+            placed = own-placed Nothing ready [] b tt cell (held_in cell) own es of o;
+            holders = o.turn.tells;
+            work = own-work Nothing ready [] b tt cell (held_in cell) own es of o;
           },
-          own-keeps Nothing ready [] b tt cell own es of o,
+          own-keeps Nothing ready [] b tt cell (held_in cell) own es of o,
         )
 
     pub unpinned-none : (named : Oid) → named ≡ at → has_pin_at ready.number at (outline_in cell) ≡ false → CellTurn g i cell [] [] ready q
@@ -356,7 +362,8 @@ module _ (g : Config) (valid : IsConfig g) (at : Oid) (t : ℕ) (p q : PartyPlac
       pub done : BringDone g t c brought hands p back
       pub loads_are : loads ≡ loads_of p.number at brought
       pub handing : AreHands p.number c hands
-      pub brings : (own : CellEvent) (es : List Event) → Operates g i mid (loads ++ own ∷ []) es back q → IsBrought at (outline_in mid) brought
+      pub held_is : held_behind at loads hands (held_in mid) ≡ held_once at brought (held_in mid)
+      pub brings : (held : Oid → Bool) (own : CellEvent) (es : List Event) → Operates g i mid held (loads ++ own ∷ []) es back q → IsBrought at (outline_in mid) brought
       pub spent : (reply : Reply) → SpentOn pools devices g p before now brought reply
 
     module _ (ready : PartyPlace) (w : CellsDone g [] [] p ready) (cell : OnHeap) where
@@ -381,7 +388,8 @@ module _ (g : Config) (valid : IsConfig g) (at : Oid) (t : ℕ) (p q : PartyPlac
           done = subst (λ (x : PartyPlace × List Event). BringDone g t c Nothing x.1 p x.0) (λ k. (sym same k, sym nothing k)) (nothing-brought g t c p ready w);
           loads_are = none;
           handing = subst (AreHands p.number c) (sym nothing) tt;
-          brings = λ own es o. tt;
+          held_is = λ z. held_behind at (none z) (nothing z) (held_in mid);
+          brings = λ held own es o. tt;
           spent = λ reply. unchanged;
         },
       )
@@ -390,15 +398,19 @@ module _ (g : Config) (valid : IsConfig g) (at : Oid) (t : ℕ) (p q : PartyPlac
           let number : ready.number ≡ p.number = w.number in
           let same : handed reads.marked.number c got ≡ hands = ap (λ (n : ℕ). handed n c got) (d.number ∙ sym number) ∙ sym handed_are in
           let b : BringDone g t c (Loaded ptr (source_of_read got)) hands reads.marked back = subst (λ (l : List Event). BringDone g t c (Loaded ptr (source_of_read got)) l reads.marked back) same
-          (read-brings g valid pools devices ptr t c before now reads.marked back (marked-low ptr back (Ok got) reads) (marked-config ptr back (Ok got) reads) d.sees got reads.answered) in (
+          (read-brings g valid pools devices ptr t c before now reads.marked back (marked-low ptr back (Ok got) reads) (marked-config ptr back (Ok got) reads) d.sees got reads.answered) in
+          let source : (hold : Hold) (from : Served) → got ≡ gave.Held hold from → from ≢ served.Past = λ hold from is.
+          held-source g valid pools devices ptr t c before now reads.marked back (marked-low ptr back (Ok got) reads) (marked-config ptr back (Ok got) reads) d.sees hold from
+          (subst (λ (x : Read). AnswersRead dbuf_meanings pools devices g ptr t before now reads.marked back (Ok x)) is reads.answered) in (
             Loaded ptr (source_of_read got),
             record {
               done = bring-then g t c (Loaded ptr (source_of_read got)) hands p reads.marked back d b;
-              loads_are = are ∙ ap (λ (n : ℕ). events.Load n at ∷ []) number;
+              loads_are = are ∙ (ap (λ (n : ℕ). events.Load n at (bringing.gives_hold got) ∷ []) number ∙ ap (λ (b : Bool). events.Load p.number at b ∷ []) (gives-so got source));
               handing = subst (AreHands p.number c) (sym (handed_are ∙ ap (λ (n : ℕ). handed n c got) number)) (are-hands p.number got);
-              brings = λ own es o.
-                  let with_load : Operates g i mid (events.Load ready.number at ∷ own ∷ []) es back q = subst (λ (l : List CellEvent). Operates g i mid (l ++ own ∷ []) es back q) are o in
-                  record { pointer = pointer; uncached = uncached-there at mid with_load.turn.sound.evicting ready.number with_load.turn.leads.0 };
+              held_is = (λ z. held_behind at (are z) (handed_are z) (held_in mid)) ∙ held-by ready.number got source;
+              brings = λ held own es o.
+                  let with_load : Operates g i mid held (events.Load ready.number at (bringing.gives_hold got) ∷ own ∷ []) es back q = subst (λ (l : List CellEvent). Operates g i mid held (l ++ own ∷ []) es back q) are o in
+                  record { pointer = pointer; uncached = uncached-there at mid with_load.turn.sound.evicting ready.number (bringing.gives_hold got) with_load.turn.leads.0 };
               spent = λ reply. spent-loaded ptr reads.marked back d got reads.answered;
             },
           )
@@ -406,6 +418,22 @@ module _ (g : Config) (valid : IsConfig g) (at : Oid) (t : ℕ) (p q : PartyPlac
           are-hands : (n : ℕ) (x : Read) → AreHands n c (handed n c x)
           are-hands n (gave.Held hold from) = ((hold.key, refl), tt)
           are-hands n (gave.Past block kept) = tt
+
+          -- a hold is not of a read past the cache
+          gives-so : (x : Read) → ((hold : Hold) (from : Served) → x ≡ gave.Held hold from → from ≢ served.Past) → bringing.gives_hold x ≡ gives_hold (source_of_read x)
+          gives-so (gave.Held hold served.Hit) un = refl
+          gives-so (gave.Held hold served.Pool) un = refl
+          gives-so (gave.Held hold served.L2) un = refl
+          gives-so (gave.Held hold served.Past) un = absurd (un hold served.Past refl refl)
+          gives-so (gave.Past block kept) un = refl
+
+          -- nor is one that was handed on
+          held-by : (n : ℕ) (x : Read) → ((hold : Hold) (from : Served) → x ≡ gave.Held hold from → from ≢ served.Past) → held_behind at (events.Load n at (bringing.gives_hold x) ∷ []) (handed n c x) (held_in mid) ≡ held_once at (Loaded ptr (source_of_read x)) (held_in mid)
+          held-by n (gave.Held hold served.Hit) un = refl
+          held-by n (gave.Held hold served.Pool) un = refl
+          held-by n (gave.Held hold served.L2) un = refl
+          held-by n (gave.Held hold served.Past) un = absurd (un hold served.Past refl refl)
+          held-by n (gave.Past block kept) un = refl
 
     -- the read behind the mark was refused, and the mark taken back
     module _ (ready : PartyPlace) (w : CellsDone g [] [] p ready) (cell : OnHeap) (last : ℕ) (inside : EndsInside at last (outline_in cell)) (ptr : Ptr) (back : PartyPlace) (mid : OnHeap) (turn : CellTurn g i mid [] [] back q) where
@@ -540,30 +568,32 @@ module _ (g : Config) (valid : IsConfig g) (at : Oid) (t : ℕ) (p q : PartyPlac
       is-inside last h = record { mapped = h.mapped; there = h.there; inside = h.inside }
 
       -- an operation that brings the block's bytes and lets nothing go
-      pub acted : (own : ℕ → CellEvent) (Fits : OnHeap → Type 0) (reply : Reply) (Then : OnHeap → Type 0) → ((x : OnHeap) → IsSound x.value → Fits x → Then x) → ((o : Outline) → ReleasesFor c (own p.number) o [])
+      pub acted : (own : ℕ → CellEvent) (Fits : OnHeap → Type 0) (reply : Reply) (Then : OnHeap → Type 0) → ((x : OnHeap) → IsSound x.value → Fits x → Then x) → ((held : Oid → Bool) (o : Outline) → ReleasesFor c held (own p.number) o [])
           → Acts pools devices g i at t before now own Fits cell ready q → BringsLine pools devices g at t before now p q (own p.number) reply Then × KeepsStanding g p q
       acted own Fits reply Then fits none acts =
           let br = come ready w cell acts.back acts.mid acts.loads acts.hands acts.brings in
-          let o : Operates g i acts.mid (loads_of p.number at br.0 ++ own p.number ∷ []) (acts.hands ++ []) acts.back q = subst (λ (x : List CellEvent × List Event). Operates g i acts.mid x.0 x.1 acts.back q)
-          (λ k. (br.1.loads_are k ++ own (w.number k) ∷ [], sym (append-nil acts.hands) k)) acts.operates in (
+          let held : Oid → Bool = held_once at br.0 (held_in acts.mid) in
+          let o : Operates g i acts.mid held (loads_of p.number at br.0 ++ own p.number ∷ []) (acts.hands ++ []) acts.back q = subst (λ (x : (Oid → Bool) × List CellEvent × List Event). Operates g i acts.mid x.0 x.1 x.2 acts.back q)
+          (λ k. (br.1.held_is k, br.1.loads_are k ++ own (w.number k) ∷ [], sym (append-nil acts.hands) k)) acts.operates in (
             (
               br.0,
               record {
                 cell = acts.mid;
-                found = own-found br.0 acts.back acts.hands br.1.done br.1.handing acts.mid (own p.number) [] tt o;
+                found = own-found br.0 acts.back acts.hands br.1.done br.1.handing acts.mid held (own p.number) [] tt o;
                 fits = fits acts.mid o.turn.sound acts.fits;
-                brings = br.1.brings (own ready.number) acts.hands acts.operates;
+                brings = br.1.brings (held_behind at acts.loads acts.hands (held_in acts.mid)) (own ready.number) acts.hands acts.operates;
                 released = [];
-                releases = none _;
-                evicted = oids br.0 acts.back acts.hands br.1.done br.1.handing acts.mid (own p.number) [] tt o;
+                releases = none _ _;
+                evicted = oids br.0 acts.back acts.hands br.1.done br.1.handing acts.mid held (own p.number) [] tt o;
                 drops = o.drops;
-                evictions = own-evicted br.0 acts.back acts.hands br.1.done br.1.handing acts.mid (own p.number) [] tt o;
-                placed = own-placed br.0 acts.back acts.hands br.1.done br.1.handing acts.mid (own p.number) [] tt o;
-                work = own-work br.0 acts.back acts.hands br.1.done br.1.handing acts.mid (own p.number) [] tt o;
+                evictions = own-evicted br.0 acts.back acts.hands br.1.done br.1.handing acts.mid held (own p.number) [] tt o;
+                placed = own-placed br.0 acts.back acts.hands br.1.done br.1.handing acts.mid held (own p.number) [] tt o;
+                holders = o.turn.tells;
+                work = own-work br.0 acts.back acts.hands br.1.done br.1.handing acts.mid held (own p.number) [] tt o;
               },
               br.1.spent reply,
             ),
-            own-keeps br.0 acts.back acts.hands br.1.done br.1.handing acts.mid (own p.number) [] tt o,
+            own-keeps br.0 acts.back acts.hands br.1.done br.1.handing acts.mid held (own p.number) [] tt o,
           )
 
       pub patched : (from : ℕ) (bytes : List ℕ) → Patches pools devices g i at t before now from bytes cell ready q
@@ -571,27 +601,29 @@ module _ (g : Config) (valid : IsConfig g) (at : Oid) (t : ℕ) (p q : PartyPlac
       patched from bytes a =
           let br = come ready w cell a.back a.mid a.loads a.hands a.brings in
           let own : CellEvent = events.Patch p.number at from bytes in
-          let of : AreOfCell c a.es = release-of c at _ a.es a.releases in
-          let o : Operates g i a.mid (loads_of p.number at br.0 ++ own ∷ []) (a.hands ++ a.es) a.back q = subst (λ (x : List CellEvent). Operates g i a.mid x (a.hands ++ a.es) a.back q)
-          (λ k. br.1.loads_are k ++ events.Patch (w.number k) at from bytes ∷ []) a.operates in (
+          let held : Oid → Bool = held_once at br.0 (held_in a.mid) in
+          let of : AreOfCell c a.es = release-of c at _ _ a.es a.releases in
+          let o : Operates g i a.mid held (loads_of p.number at br.0 ++ own ∷ []) (a.hands ++ a.es) a.back q = subst (λ (x : (Oid → Bool) × List CellEvent). Operates g i a.mid x.0 x.1 (a.hands ++ a.es) a.back q)
+          (λ k. (br.1.held_is k, br.1.loads_are k ++ events.Patch (w.number k) at from bytes ∷ [])) a.operates in (
             (
               br.0,
               record {
                 cell = a.mid;
-                found = own-found br.0 a.back a.hands br.1.done br.1.handing a.mid own a.es of o;
+                found = own-found br.0 a.back a.hands br.1.done br.1.handing a.mid held own a.es of o;
                 fits = tt;
-                brings = br.1.brings (events.Patch ready.number at from bytes) (a.hands ++ a.es) a.operates;
+                brings = br.1.brings (held_behind at a.loads a.hands (held_in a.mid)) (events.Patch ready.number at from bytes) (a.hands ++ a.es) a.operates;
                 released = a.es;
-                releases = subst (λ (l : List CellEvent). ReleasesAtMost c at (after_all (outline_in a.mid) l) a.es) br.1.loads_are a.releases;
-                evicted = oids br.0 a.back a.hands br.1.done br.1.handing a.mid own a.es of o;
+                releases = subst (λ (x : (Oid → Bool) × List CellEvent). Releases c at (x.0 at) (after_all (outline_in a.mid) x.1) a.es) (λ k. (br.1.held_is k, br.1.loads_are k)) a.releases;
+                evicted = oids br.0 a.back a.hands br.1.done br.1.handing a.mid held own a.es of o;
                 drops = o.drops;
-                evictions = own-evicted br.0 a.back a.hands br.1.done br.1.handing a.mid own a.es of o;
-                placed = own-placed br.0 a.back a.hands br.1.done br.1.handing a.mid own a.es of o;
-                work = own-work br.0 a.back a.hands br.1.done br.1.handing a.mid own a.es of o;
+                evictions = own-evicted br.0 a.back a.hands br.1.done br.1.handing a.mid held own a.es of o;
+                placed = own-placed br.0 a.back a.hands br.1.done br.1.handing a.mid held own a.es of o;
+                holders = o.turn.tells;
+                work = own-work br.0 a.back a.hands br.1.done br.1.handing a.mid held own a.es of o;
               },
               br.1.spent replies.Done,
             ),
-            own-keeps br.0 a.back a.hands br.1.done br.1.handing a.mid own a.es of o,
+            own-keeps br.0 a.back a.hands br.1.done br.1.handing a.mid held own a.es of o,
           )
 
     -- ---- by what the calls answer
@@ -605,7 +637,7 @@ module _ (g : Config) (valid : IsConfig g) (at : Oid) (t : ℕ) (p q : PartyPlac
     }
 
     pub got-done : (w : Window) (got : ℕ × List ℕ) → AnswersGet pools devices g at t before now w p q (Ok got) → DidGet pools devices g at t before now p q w (replies.Got got.0 got.1) × KeepsStanding g p q
-    got-done w got once = acted once.ready (waited once) once.before (λ n. events.Get n at) (λ b. IsAnswer (plain_cell Never b.value) at w got.0 got.1) (replies.Got got.0 got.1) _ (answer-after w got) (λ o. refl) once.happens
+    got-done w got once = acted once.ready (waited once) once.before (λ n. events.Get n at) (λ b. IsAnswer (plain_cell Never b.value) at w got.0 got.1) (replies.Got got.0 got.1) _ (answer-after w got) (λ held o. refl) once.happens
 
     pub get-refused : (w : Window) (why : DbufFault) (refusal : Refusal) → TellsFault why refusal → AnswersGet pools devices g at t before now w p q (Err why) → DidGet pools devices g at t before now p q w (replies.Refused refusal) × KeepsStanding g p q
     get-refused w (dbuf_fault.Read why) refusal tells once =
@@ -628,7 +660,7 @@ module _ (g : Config) (valid : IsConfig g) (at : Oid) (t : ℕ) (p q : PartyPlac
     patch-refused T from bytes dbuf_fault.NoMemory refusal tells once = absurd tells
 
     pub pin-done : {T : Type 0} (done : T) → AnswersHold pools devices g at t before now p q (Ok done) → DidPin pools devices g at t before now p q replies.Done × KeepsStanding g p q
-    pin-done done once = acted once.ready (waited once) once.before (λ n. events.Pin n at) (λ b. Unit {0}) replies.Done _ (λ x sound fits. tt) (λ o. refl) once.happens
+    pin-done done once = acted once.ready (waited once) once.before (λ n. events.Pin n at) (λ b. Unit {0}) replies.Done _ (λ x sound fits. tt) (λ held o. refl) once.happens
 
     -- what the pool, the block's key or the device refuses is refused of the block alone too
     read-block : (why : ReadFault) (refusal : Refusal) → IsRefused why refusal → RefusesBytes pools devices g at t before now p q 0 refusal → RefusesBlock pools devices g at t before now p q refusal
@@ -656,8 +688,8 @@ module _ (g : Config) (valid : IsConfig g) (at : Oid) (p q : PartyPlace) (config
       let w = waited g valid at 0 p q config sees once in
       let c : ℕ = cell_number g (cell_of g.cells at) in
       let es : List Event = once.happens.es in
-      operated g valid at 0 p q config sees once.ready w once.before (events.Put p.number at size fill) es (release-of c at (outline_in once.before) es once.happens.releases) once.happens.releases
-      (subst (λ (n : ℕ). Operates g (cell_of g.cells at) once.before (events.Put n at size fill ∷ []) es once.ready q) w.number once.happens.operates)
+      operated g valid at 0 p q config sees once.ready w once.before (events.Put p.number at size fill) es (release-of c at (held_in once.before at) (outline_in once.before) es once.happens.releases) once.happens.releases
+      (subst (λ (n : ℕ). Operates g (cell_of g.cells at) once.before (held_in once.before) (events.Put n at size fill ∷ []) es once.ready q) w.number once.happens.operates)
 
   -- a put is refused memory alone
   pub put-refused : (T : Type 0) (size fill : ℕ) (why : DbufFault) (refusal : Refusal) → TellsFault why refusal → AnswersPut {T = T} g at size fill p q (Err why) → DidPut g at p q size fill (replies.Refused refusal) × KeepsStanding g p q
@@ -670,7 +702,7 @@ module _ (g : Config) (valid : IsConfig g) (at : Oid) (p q : PartyPlace) (config
   pub unpin-done : {T : Type 0} (done : T) → AnswersUnhold g at p q (Ok done) → DidUnpin g at p q replies.Done × KeepsStanding g p q
   unpin-done done once =
       let w = waited g valid at 0 p q config sees once in
-      operated g valid at 0 p q config sees once.ready w once.before (events.Unpin p.number at) [] tt refl (subst (λ (n : ℕ). Operates g (cell_of g.cells at) once.before (events.Unpin n at ∷ []) [] once.ready q) w.number once.happens)
+      operated g valid at 0 p q config sees once.ready w once.before (events.Unpin p.number at) [] tt refl (subst (λ (n : ℕ). Operates g (cell_of g.cells at) once.before (held_in once.before) (events.Unpin n at ∷ []) [] once.ready q) w.number once.happens)
 
   pub unpin-refused : (T : Type 0) (why : DbufFault) (refusal : Refusal) → TellsFault why refusal → AnswersUnhold {T = T} g at p q (Err why) → DidUnpin g at p q (replies.Refused refusal) × KeepsStanding g p q
   unpin-refused T (dbuf_fault.NoPin named) refusal tells once =

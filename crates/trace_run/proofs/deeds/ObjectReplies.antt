@@ -16,7 +16,7 @@ use Rattle.arc_table.specs.Geometry.{cell_number}
 use Rattle.arc_table.specs.Reading.{Outside}
 use Rattle.arc_table.specs.Seen.{HasAll}
 use Rattle.dbuf_cells.specs.Places.{cell_of}
-use Rattle.dbuf_cells.specs.Turns.{AreEvictions, OnHeap, PartyPlace, outline_in}
+use Rattle.dbuf_cells.specs.Turns.{AreEvictions, OnHeap, PartyPlace, held_in, outline_in}
 use Rattle.dbuf_state.proofs.OutlineLemmas.{leads-outline}
 use Rattle.dbuf_state.specs.Objects.{Evicting, Never, opening_cell}
 use Rattle.dbuf_state.specs.Outline.{Outline, OutlineDbuf, after_all, has_pin_at, is_cached_at, mapped_at, outline_after}
@@ -30,9 +30,10 @@ use Rattle.trace_text.specs.declared.reply.Reply.{Reply}
 use Rattle.trace_run.specs.callers.WorkLines.{AsksBrought, DidAlone}
 use Rattle.trace_run.specs.dbufs.CellEnds.{done_by}
 use Rattle.trace_run.specs.Deeds.{HasAct, HasToldAll, Noted, acts_of_events, events_of_cell, noted_in}
+use Rattle.trace_run.specs.dbufs.Holders.{AreHolders, any_held}
 use Rattle.trace_run.specs.dbufs.ObjectLines.{Did, DidNot, EndsInside, FindsCell, IsBrought, ReleasesFor, SpentOn, TellsBrought, WasToBring, cell_lines}
 use Rattle.trace_run.specs.dbufs.ObjectReplies.{ActsAt, ActsFor, AnswersObject, BringsAt, LooksFrom}
-use Rattle.trace_run.specs.dbufs.Objects.{AnswersKey, AnswersNoBlock, AnswersRange, Brought, Line, Loaded, NotesNothing, Nothing, Refused, Work, loads_of, own_event}
+use Rattle.trace_run.specs.dbufs.Objects.{AnswersKey, AnswersNoBlock, AnswersRange, Brought, Line, Loaded, NotesNothing, Nothing, Refused, Work, held_once, loads_of, own_event}
 use Rattle.trace_run.specs.Reads.{now_of}
 use Rattle.trace_run.proofs.deeds.ClosedDeeds.{entries-read}
 use Rattle.trace_run.proofs.deeds.OperatesDone.{AreOfCell, both-of, cell-there, evictions-of, release-of}
@@ -87,16 +88,16 @@ of-have c (e ∷ es) all = (one all.0, of-have c es all.1)
     one (inr release) = subst HasAct (sym release.2) (MakesPrivate c release.0, refl)
 
 -- what an operation lets go are events of the cell's number
-released-of : (c : ℕ) (own : CellEvent) (o : Outline) (es : List Event) → ReleasesFor c own o es → AreOfCell c es
-released-of c (events.Put n at size fill) o es r = release-of c at o es r
-released-of c (events.Patch n at from bytes) o es r = release-of c at o es r
-released-of c (events.Get n at) o es r = subst (AreOfCell c) (sym r) tt
-released-of c (events.Pin n at) o es r = subst (AreOfCell c) (sym r) tt
-released-of c (events.Unpin n at) o es r = subst (AreOfCell c) (sym r) tt
-released-of c (events.Load n at) o es r = subst (AreOfCell c) (sym r) tt
-released-of c (events.Evict n at) o es r = subst (AreOfCell c) (sym r) tt
-released-of c (events.Synced n at ptr) o es r = subst (AreOfCell c) (sym r) tt
-released-of c (events.End n) o es r = subst (AreOfCell c) (sym r) tt
+released-of : (c : ℕ) (held : Oid → Bool) (own : CellEvent) (o : Outline) (es : List Event) → ReleasesFor c held own o es → AreOfCell c es
+released-of c held (events.Put n at size fill) o es r = release-of c at (held at) o es r
+released-of c held (events.Patch n at from bytes) o es r = release-of c at (held at) o es r
+released-of c held (events.Get n at) o es r = subst (AreOfCell c) (sym r) tt
+released-of c held (events.Pin n at) o es r = subst (AreOfCell c) (sym r) tt
+released-of c held (events.Unpin n at) o es r = subst (AreOfCell c) (sym r) tt
+released-of c held (events.Load n at bit) o es r = subst (AreOfCell c) (sym r) tt
+released-of c held (events.Evict n at) o es r = subst (AreOfCell c) (sym r) tt
+released-of c held (events.Synced n at ptr bit) o es r = subst (AreOfCell c) (sym r) tt
+released-of c held (events.End n) o es r = subst (AreOfCell c) (sym r) tt
 
 -- what a refused line did: at most the access that was refused
 abbrev pub tried : Brought → Work
@@ -122,24 +123,30 @@ module _ (g : Config) (at : Oid) (t : ℕ) (p q : PartyPlace) (own : CellEvent) 
   abbrev due : Evicting
   due = d.found.sound.evicting
 
+  -- which dbufs had a hold behind the Load
+  abbrev held : Oid → Bool
+  held = held_once at brought (held_in d.cell)
+
   -- all that it made with the cell's number
   pub made-of : AreOfCell c (d.released ++ d.drops)
-  made-of = both-of c d.released d.drops (released-of c own _ d.released d.releases) (evictions-of p.number c _ (map (events.Evict p.number) d.evicted) d.drops d.evictions)
+  made-of = both-of c d.released d.drops (released-of c held own _ d.released d.releases) (evictions-of p.number c held _ (map (events.Evict p.number) d.evicted) d.drops d.evictions)
 
-  pub acts-at : ActsAt g p.number (record { at = at; event = own }) (found_outline d.cell) did-work
-  acts-at = subst (λ (x : Outline). ActsAt g p.number (record { at = at; event = own }) x did-work)
+  pub acts-at : (AreHeld : (Oid → Bool) → Type 0) → AreHeld (held_in d.cell) → ActsAt g p.number AreHeld (record { at = at; event = own }) (found_outline d.cell) did-work
+  acts-at AreHeld are = subst (λ (x : Outline). ActsAt g p.number AreHeld (record { at = at; event = own }) x did-work)
       (leads-outline (opening_cell d.cell.value.limit d.cell.value.opening) d.cell.value.history d.found.sound.bases (plain_cell due d.cell.value) d.found.sound.history.legal) record {
+        held = held_in d.cell;
+        are_held = are;
         evictions = d.evicted;
         noted = refl;
         released = d.released;
         drops = d.drops;
         releases =
             let s = after-so o due loads in
-            subst (λ (x : Outline). ReleasesFor c own x d.released) (sym s.1) (releases-so c own (after_all o loads) s.0 d.released d.releases);
+            subst (λ (x : Outline). ReleasesFor c held own x d.released) (sym s.1) (releases-so c held own (after_all o loads) s.0 d.released d.releases);
         evicted =
             let s = after-so o due (loads ++ own ∷ []) in
-            subst (λ (x : Outline). AreEvictions p.number c x (map (events.Evict p.number) d.evicted) d.drops) (sym s.1)
-            (evictions-so p.number c (after_all o (loads ++ own ∷ [])) s.0 (map (events.Evict p.number) d.evicted) d.drops d.evictions);
+            subst (λ (x : Outline). AreEvictions p.number c held x (map (events.Evict p.number) d.evicted) d.drops) (sym s.1)
+            (evictions-so p.number c held (after_all o (loads ++ own ∷ [])) s.0 (map (events.Evict p.number) d.evicted) d.drops d.evictions);
         acts = refl;
       }
 
@@ -184,7 +191,8 @@ module _ {P D : Type 0} (pools : PoolGhosts P) (devices : DeviceGhosts D) (g : C
 
   -- a line that was done, and one that was refused
   pub from-done : (at : Oid) (t : ℕ) (own : CellEvent) (brought : Brought) (Fits : OnHeap → Type 0) (op : Op) (reply : Reply) (d : Did g at t p q own brought Fits)
-      → (ActsAt g p.number (record { at = at; event = own }) (found_outline d.cell) (did-work g at t p q own brought Fits d) → ActsFor g p.number (own_event op) (found_outline d.cell) (did-work g at t p q own brought Fits d) reply)
+      → ((AreHeld : (Oid → Bool) → Type 0) → ActsAt g p.number AreHeld (record { at = at; event = own }) (found_outline d.cell) (did-work g at t p q own brought Fits d)
+      → ActsFor g p.number AreHeld (own_event op) (found_outline d.cell) (did-work g at t p q own brought Fits d) reply)
       → BringsAt len at (found_outline d.cell) brought → By d.cell brought op reply → SpentOn pools devices g p before now brought reply
       → From at t (record { op = op; reply = reply; work = did-work g at t p q own brought Fits d })
   from-done at t own brought Fits op reply d so brings answer spent = (
@@ -196,7 +204,7 @@ module _ {P D : Type 0} (pools : PoolGhosts P) (devices : DeviceGhosts D) (g : C
         mine = told-is valid at d.cell d.found did had told_all;
         front = d.placed;
         brought = brings;
-        acts = so (acts-at g at t p q own brought Fits d);
+        acts = so any_held (acts-at g at t p q own brought Fits d any_held tt);
         answer = answer;
         range = range-so brought reply spent;
       };
@@ -209,7 +217,7 @@ module _ {P D : Type 0} (pools : PoolGhosts P) (devices : DeviceGhosts D) (g : C
       seen = d.found.alone all;
       brought = brings;
       found = d.work.source all;
-      acts = so (acts-at g at t p q own brought Fits d);
+      acts = so (AreHolders d.cell.value.history) (acts-at g at t p q own brought Fits d (AreHolders d.cell.value.history) d.holders);
       answer = answer;
       made = d.released ++ d.drops;
       kinds = of-have (cell_number g (cell_of g.cells at)) (d.released ++ d.drops) (made-of g at t p q own brought Fits d);
@@ -222,7 +230,7 @@ module _ {P D : Type 0} (pools : PoolGhosts P) (devices : DeviceGhosts D) (g : C
   )
 
   pub from-not : (at : Oid) (t : ℕ) (brought : Brought) (Why : OnHeap → Type 0) (op : Op) (reply : Reply) (d : DidNot g at t p q brought Why)
-      → (NotesNothing (tried brought) → ActsFor g p.number (own_event op) (found_outline d.cell) (tried brought) reply) → BringsAt len at (found_outline d.cell) brought → By d.cell brought op reply → SpentOn pools devices g p before now brought reply
+      → ((AreHeld : (Oid → Bool) → Type 0) → NotesNothing (tried brought) → ActsFor g p.number AreHeld (own_event op) (found_outline d.cell) (tried brought) reply) → BringsAt len at (found_outline d.cell) brought → By d.cell brought op reply → SpentOn pools devices g p before now brought reply
       → From at t (record { op = op; reply = reply; work = tried brought })
   from-not at t brought Why op reply d so brings answer spent = (
     λ valid did had told_all. record {
@@ -233,7 +241,7 @@ module _ {P D : Type 0} (pools : PoolGhosts P) (devices : DeviceGhosts D) (g : C
         mine = told-is valid at d.cell d.found did had told_all;
         front = (d.found.seen.0, d.found.seen.1 ∙ ap (λ (l : List Seen). l ++ d.found.seen.0) (sym (append-nil (cell_lines d.cell))));
         brought = brings;
-        acts = so (refl, refl);
+        acts = so any_held (refl, refl);
         answer = answer;
         range = range-so brought reply spent;
       };
@@ -246,7 +254,7 @@ module _ {P D : Type 0} (pools : PoolGhosts P) (devices : DeviceGhosts D) (g : C
       seen = d.found.alone all;
       brought = brings;
       found = d.work.source all;
-      acts = so (refl, refl);
+      acts = so (AreHolders d.cell.value.history) (refl, refl);
       answer = answer;
       made = [];
       kinds = tt;

@@ -1,5 +1,5 @@
 -- A line on an object, with what it did beside its reply: by what the contract of its call says it came to.
-use Rattle.std.proofs.Common.{◌≡◌, ℕ, ◌+◌, true, List, [], ◌++◌, length, refl, sym, ap, ◌∙◌, subst}
+use Rattle.std.proofs.Common.{◌≡◌, ℕ, ◌+◌, Bool, true, List, [], ◌++◌, length, refl, sym, ap, ◌∙◌, subst}
 use Rattle.std.specs.Prelude.{IfSome, IsSome}
 use Rattle.std.proofs.lemmas.Bool.{eqb-true, false≢true}
 use Rattle.std.specs.List.{AllByRecursion}
@@ -132,7 +132,7 @@ module _ {P D : Type 0} (pools : PoolGhosts P) (devices : DeviceGhosts D) (g : C
   )
 
   -- Why a line that asks for a block's bytes was refused, and what had been brought then; such a line did nothing.
-  module _ (at : Oid) (t last : ℕ) (op : Op) (quiet : (o : Outline) (brought : Brought) (refusal : Refusal) → NotesNothing (tried brought) → ActsFor g p.number (own_event op) o (tried brought) (replies.Refused refusal)) where
+  module _ (at : Oid) (t last : ℕ) (op : Op) (quiet : (AreHeld : (Oid → Bool) → Type 0) (o : Outline) (brought : Brought) (refusal : Refusal) → NotesNothing (tried brought) → ActsFor g p.number AreHeld (own_event op) o (tried brought) (replies.Refused refusal)) where
     -- the line tells this cause as any line does
     abbrev So : Refusal → Type 0
     So refusal = (cell : OnHeap) (brought : Brought) → RefusesAt (pools.size before.pool) (pools.told before.pool) cell.value.limit cell.value.opening cell.value.history brought at last refusal
@@ -146,7 +146,7 @@ module _ {P D : Type 0} (pools : PoolGhosts P) (devices : DeviceGhosts D) (g : C
         → RefusesAt (pools.size before.pool) (pools.told before.pool) d.cell.value.limit d.cell.value.opening d.cell.value.history brought at last refusal → SpentOn pools devices g p before now brought (replies.Refused refusal)
         → From pools devices g before now p q at t (record { op = op; reply = replies.Refused refusal; work = tried brought })
     refused-from brought Why refusal so d brings why spent =
-        from-not pools devices g before now p q at t brought Why op (replies.Refused refusal) d (quiet (found_outline d.cell) brought refusal) brings (so d.cell brought why) spent
+        from-not pools devices g before now p q at t brought Why op (replies.Refused refusal) d (λ AreHeld. quiet AreHeld (found_outline d.cell) brought refusal) brings (so d.cell brought why) spent
 
     refused-bytes : (refusal : Refusal) → So refusal → RefusesBytes pools devices g at t before now p q last refusal → (brought : Brought) × Tried refusal brought
     refused-bytes (refusals.NoBlock named) so r =
@@ -213,10 +213,10 @@ module _ {P D : Type 0} (pools : PoolGhosts P) (devices : DeviceGhosts D) (g : C
   get-work t at w (replies.Got size shown) d =
       done-line (ops.Get p.number t at w) (replies.Got size shown) at t (events.Get p.number at) d.0 _ d.1 d (spent-on d.0 (replies.Got size shown) refl d.2)
       record { together = did-answered g at t p q (events.Get p.number at) d.0 _ d.1; notes = did-notes g at t p q (events.Get p.number at) d.0 _ d.1 } d.1.work.told
-      (from-done pools devices g before now p q at t (events.Get p.number at) d.0 _ (ops.Get p.number t at w) (replies.Got size shown) d.1 (λ a. a)
+      (from-done pools devices g before now p q at t (events.Get p.number at) d.0 _ (ops.Get p.number t at w) (replies.Got size shown) d.1 (λ AreHeld a. a)
       (brings-so pools devices g before now p q at d.0 (replies.Got size shown) d.1.cell d.1.found.sound d.1.brings d.2) d.1.fits d.2)
   get-work t at w (replies.Refused refusal) d =
-      let r = refused-bytes at t (w.at + w.len) (ops.Get p.number t at w) (λ o brought why x. x) refusal (λ cell brought x. x) d in
+      let r = refused-bytes at t (w.at + w.len) (ops.Get p.number t at w) (λ AreHeld o brought why x. x) refusal (λ cell brought x. x) d in
       not-line (ops.Get p.number t at w) (replies.Refused refusal) at t r.0 r.1.1 d r.1.2 record { together = r.1.0; notes = (refl, refl) } r.1.1.told r.1.3
   get-work t at w replies.Done d = absurd d
   get-work t at w (replies.Read served digest shown) d = absurd d
@@ -231,10 +231,10 @@ module _ {P D : Type 0} (pools : PoolGhosts P) (devices : DeviceGhosts D) (g : C
   patch-work t at from bytes replies.Done d =
       done-line (ops.Patch p.number t at from bytes) replies.Done at t (events.Patch p.number at from bytes) d.0 _ d.1 d (spent-on d.0 replies.Done refl d.2)
       record { together = did-answered g at t p q (events.Patch p.number at from bytes) d.0 _ d.1; notes = did-notes g at t p q (events.Patch p.number at from bytes) d.0 _ d.1 } d.1.work.told
-      (from-done pools devices g before now p q at t (events.Patch p.number at from bytes) d.0 _ (ops.Patch p.number t at from bytes) replies.Done d.1 (λ a. a)
+      (from-done pools devices g before now p q at t (events.Patch p.number at from bytes) d.0 _ (ops.Patch p.number t at from bytes) replies.Done d.1 (λ AreHeld a. a)
       (brings-so pools devices g before now p q at d.0 replies.Done d.1.cell d.1.found.sound d.1.brings d.2) tt d.2)
   patch-work t at from bytes (replies.Refused refusal) d =
-      let r = refused-bytes at t (from + length bytes) (ops.Patch p.number t at from bytes) (λ o brought why x. x) refusal (λ cell brought x. x) d in
+      let r = refused-bytes at t (from + length bytes) (ops.Patch p.number t at from bytes) (λ AreHeld o brought why x. x) refusal (λ cell brought x. x) d in
       not-line (ops.Patch p.number t at from bytes) (replies.Refused refusal) at t r.0 r.1.1 d r.1.2 record { together = r.1.0; notes = (refl, refl) } r.1.1.told r.1.3
   patch-work t at from bytes (replies.Got size shown) d = absurd d
   patch-work t at from bytes (replies.Read served digest shown) d = absurd d
@@ -250,7 +250,7 @@ module _ {P D : Type 0} (pools : PoolGhosts P) (devices : DeviceGhosts D) (g : C
       → ((cell : OnHeap) (brought : Brought) → RefusesAt (pools.size before.pool) (pools.told before.pool) cell.value.limit cell.value.opening cell.value.history brought at 0 refusal
       → By pools devices g before now p q cell brought (ops.Pin p.number t at) (replies.Refused refusal)) → HasWork (ops.Pin p.number t at) (replies.Refused refusal)
   pin-refused t at refusal bytes d so =
-      let r = refused-bytes at t 0 (ops.Pin p.number t at) (λ o brought why x. x) refusal so bytes in
+      let r = refused-bytes at t 0 (ops.Pin p.number t at) (λ AreHeld o brought why x. x) refusal so bytes in
       not-line (ops.Pin p.number t at) (replies.Refused refusal) at t r.0 r.1.1 d r.1.2 record { together = r.1.0; notes = (refl, refl) } r.1.1.told r.1.3
 
   pin-not : (t : ℕ) (at : Oid) (refusal : Refusal) → RefusesBlock pools devices g at t before now p q refusal → HasWork (ops.Pin p.number t at) (replies.Refused refusal)
@@ -267,7 +267,7 @@ module _ {P D : Type 0} (pools : PoolGhosts P) (devices : DeviceGhosts D) (g : C
   pin-work t at replies.Done d =
       done-line (ops.Pin p.number t at) replies.Done at t (events.Pin p.number at) d.0 _ d.1 d (spent-on d.0 replies.Done refl d.2)
       record { together = did-answered g at t p q (events.Pin p.number at) d.0 _ d.1; notes = did-notes g at t p q (events.Pin p.number at) d.0 _ d.1 } d.1.work.told
-      (from-done pools devices g before now p q at t (events.Pin p.number at) d.0 _ (ops.Pin p.number t at) replies.Done d.1 (λ a. a)
+      (from-done pools devices g before now p q at t (events.Pin p.number at) d.0 _ (ops.Pin p.number t at) replies.Done d.1 (λ AreHeld a. a)
       (brings-so pools devices g before now p q at d.0 replies.Done d.1.cell d.1.found.sound d.1.brings d.2) tt d.2)
   pin-work t at (replies.Refused refusal) d = pin-not t at refusal d
   pin-work t at (replies.Got size shown) d = absurd d
@@ -283,7 +283,7 @@ module _ {P D : Type 0} (pools : PoolGhosts P) (devices : DeviceGhosts D) (g : C
   put-work t at size fill replies.Done d none =
       done-line (ops.Put p.number t at size fill) replies.Done at 0 (events.Put p.number at size fill) Nothing _ d (d, none) (none-spent replies.Done refl none)
       record { together = refl; notes = did-notes g at 0 p q (events.Put p.number at size fill) Nothing _ d } d.work.told
-      (from-done pools devices g before now p q at 0 (events.Put p.number at size fill) Nothing _ (ops.Put p.number t at size fill) replies.Done d (λ a. a) tt tt none)
+      (from-done pools devices g before now p q at 0 (events.Put p.number at size fill) Nothing _ (ops.Put p.number t at size fill) replies.Done d (λ AreHeld a. a) tt tt none)
   put-work t at size fill (replies.Refused refusal) d none = absurd d
   put-work t at size fill (replies.Got most shown) d none = absurd d
   put-work t at size fill (replies.Read served digest shown) d none = absurd d
@@ -299,7 +299,7 @@ module _ {P D : Type 0} (pools : PoolGhosts P) (devices : DeviceGhosts D) (g : C
   no-pin at (refusals.NoPin named) r none = (
     refl,
     r.work,
-    from-not pools devices g before now p q at 0 Nothing _ (ops.Unpin p.number at) (replies.Refused (refusals.NoPin named)) r (λ a. a) tt
+    from-not pools devices g before now p q at 0 Nothing _ (ops.Unpin p.number at) (replies.Refused (refusals.NoPin named)) r (λ AreHeld a. a) tt
         (r.why.0, same-pin at (outline_in r.cell) (found_outline r.cell) (dbufs-so r.cell r.found.sound) p.number ∙ r.why.1) none,
   )
   no-pin at (refusals.NoBlock named) r none = absurd r
@@ -313,7 +313,7 @@ module _ {P D : Type 0} (pools : PoolGhosts P) (devices : DeviceGhosts D) (g : C
   unpin-work : (at : Oid) (reply : Reply) → DidUnpin g at p q reply → now ≡ before → HasWork (ops.Unpin p.number at) reply
   unpin-work at replies.Done d none =
       done-line (ops.Unpin p.number at) replies.Done at 0 (events.Unpin p.number at) Nothing _ d (d, none) (none-spent replies.Done refl none) record { together = refl; notes = did-notes g at 0 p q (events.Unpin p.number at) Nothing _ d } d.work.told
-      (from-done pools devices g before now p q at 0 (events.Unpin p.number at) Nothing _ (ops.Unpin p.number at) replies.Done d (λ a. a) tt tt none)
+      (from-done pools devices g before now p q at 0 (events.Unpin p.number at) Nothing _ (ops.Unpin p.number at) replies.Done d (λ AreHeld a. a) tt tt none)
   unpin-work at (replies.Refused refusal) d none =
       let w = no-pin at refusal d none in
       not-line (ops.Unpin p.number at) (replies.Refused refusal) at 0 Nothing w.1 (d, none) (none-spent (replies.Refused refusal) w.0 none) record { together = refl; notes = (refl, refl) } w.1.told w.2

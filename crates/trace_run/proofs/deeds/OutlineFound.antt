@@ -1,9 +1,9 @@
 -- What the outline of a cell that was found tells: the same, whether evictions are due or not; and where a Load is legal, no bytes.
-use Rattle.std.proofs.Common.{◌≡◌, ℕ, true, false, not, List, [], ◌∷◌, Option, Some, None, refl, ap, ◌∙◌}
+use Rattle.std.proofs.Common.{◌≡◌, ℕ, Bool, true, false, not, List, [], ◌∷◌, Option, Some, None, refl, ap, ◌∙◌}
 use Rattle.std.proofs.lemmas.Bool.{false≢true}
 use Rattle.std.specs.Option.{option_map, option_map_or}
 use Rattle.arc_core.specs.declared.event.Event.{Event}
-use Rattle.dbuf_cells.specs.Putting.{ReleasesAtMost, no_hold, one_hold}
+use Rattle.dbuf_cells.specs.Putting.{Releases, no_hold, one_hold}
 use Rattle.dbuf_cells.specs.Turns.{AreEvictions, OnHeap, outline_in}
 use Rattle.dbuf_state.proofs.Changes.{view-found}
 use Rattle.dbuf_state.proofs.IndexLemmas.{and-parts}
@@ -22,28 +22,28 @@ with_evicting e o = record { limit = o.limit; dbufs = o.dbufs; events = o.events
 
 -- ---- the same, whatever is due
 
-pub evictions-so : (n c : ℕ) (o : Outline) (e : Evicting) (evs : List CellEvent) (es : List Event) → AreEvictions n c o evs es → AreEvictions n c (with_evicting e o) evs es
-evictions-so n c o e [] es none = none
-evictions-so n c o e (ev ∷ evs) es a = (a.0, a.1, a.2, a.3, a.4, a.5, a.6, a.7, evictions-so n c (after o ev) (evicting_after e ev) evs a.3 a.8)
+pub evictions-so : (n c : ℕ) (held : Oid → Bool) (o : Outline) (e : Evicting) (evs : List CellEvent) (es : List Event) → AreEvictions n c held o evs es → AreEvictions n c held (with_evicting e o) evs es
+evictions-so n c held o e [] es none = none
+evictions-so n c held o e (ev ∷ evs) es a = (a.0, a.1, a.2, a.3, a.4, a.5, a.6, a.7, a.8, evictions-so n c held (after o ev) (evicting_after e ev) evs a.3 a.9)
 
 pub after-so : (o : Outline) (e : Evicting) (evs : List CellEvent) → (then : Evicting) × (after_all (with_evicting e o) evs ≡ with_evicting then (after_all o evs))
 after-so o e [] = (e, refl)
 after-so o e (ev ∷ evs) = after-so (after o ev) (evicting_after e ev) evs
 
-at-most-so : (c : ℕ) (at : Oid) (o : Outline) (e : Evicting) (es : List Event) → ReleasesAtMost c at o es → ReleasesAtMost c at (with_evicting e o) es
-at-most-so c at o e es (no_hold none) = no_hold none
-at-most-so c at o e es (one_hold ptr sole mapped cached is) = one_hold ptr sole mapped cached is
+release-so : (c : ℕ) (at : Oid) (held : Bool) (o : Outline) (e : Evicting) (es : List Event) → Releases c at held o es → Releases c at held (with_evicting e o) es
+release-so c at held o e es (no_hold loose none) = no_hold loose none
+release-so c at held o e es (one_hold kept ptr sole mapped cached is) = one_hold kept ptr sole mapped cached is
 
-pub releases-so : (c : ℕ) (own : CellEvent) (o : Outline) (e : Evicting) (es : List Event) → ReleasesFor c own o es → ReleasesFor c own (with_evicting e o) es
-releases-so c (events.Put n at size fill) o e es r = at-most-so c at o e es r
-releases-so c (events.Patch n at from bytes) o e es r = at-most-so c at o e es r
-releases-so c (events.Get n at) o e es r = r
-releases-so c (events.Pin n at) o e es r = r
-releases-so c (events.Unpin n at) o e es r = r
-releases-so c (events.Load n at) o e es r = r
-releases-so c (events.Evict n at) o e es r = r
-releases-so c (events.Synced n at ptr) o e es r = r
-releases-so c (events.End n) o e es r = r
+pub releases-so : (c : ℕ) (held : Oid → Bool) (own : CellEvent) (o : Outline) (e : Evicting) (es : List Event) → ReleasesFor c held own o es → ReleasesFor c held own (with_evicting e o) es
+releases-so c held (events.Put n at size fill) o e es r = release-so c at (held at) o e es r
+releases-so c held (events.Patch n at from bytes) o e es r = release-so c at (held at) o e es r
+releases-so c held (events.Get n at) o e es r = r
+releases-so c held (events.Pin n at) o e es r = r
+releases-so c held (events.Unpin n at) o e es r = r
+releases-so c held (events.Load n at bit) o e es r = r
+releases-so c held (events.Evict n at) o e es r = r
+releases-so c held (events.Synced n at ptr bit) o e es r = r
+releases-so c held (events.End n) o e es r = r
 
 -- ---- a Load
 
@@ -52,8 +52,8 @@ block-uncached (Uncached ptr) is = refl
 block-uncached (Cached ptr) is = absurd (false≢true is)
 block-uncached (Dirty bytes) is = refl
 
-pub uncached-there : (at : Oid) (cell : OnHeap) (e : Evicting) (n : ℕ) → IsLegal (plain_cell e cell.value) (events.Load n at) → is_cached_at at (outline_in cell) ≡ false
-uncached-there at cell e n legal =
+pub uncached-there : (at : Oid) (cell : OnHeap) (e : Evicting) (n : ℕ) (bit : Bool) → IsLegal (plain_cell e cell.value) (events.Load n at bit) → is_cached_at at (outline_in cell) ≡ false
+uncached-there at cell e n bit legal =
     ap (λ (o : Option OutlineDbuf). option_map_or (λ d. d.cached) o false) (view-found plain.dbuf_oid dbuf_oid outline_dbuf (λ d. refl) at (plain_cell e cell.value).dbufs)
     ∙ go (plain.dbuf_at at (plain_cell e cell.value)) (and-parts (not (is_due (plain_cell e cell.value))) _ legal).1
   where

@@ -1,5 +1,5 @@
 -- One caller's lines in sequence: behind each the pool tells what it told in front of the first place, and what syncs wrote can be read.
-use Rattle.std.proofs.Common.{◌≡◌, ℕ, ◌+◌, ◌%◌, ◌<◌, ◌≤◌, ◌==◌, true, false, List, [], ◌∷◌, ◌++◌, length, map, take, Option, Some, None, refl, sym, ap, ◌∙◌, subst, inl, inr, arith}
+use Rattle.std.proofs.Common.{◌≡◌, ℕ, ◌+◌, ◌%◌, ◌<◌, ◌≤◌, ◌==◌, Bool, true, false, List, [], ◌∷◌, ◌++◌, length, map, take, Option, Some, None, refl, sym, ap, ◌∙◌, subst, inl, inr, arith}
 use Rattle.std.specs.List.{AllByRecursion}
 use Rattle.arc_lists.proofs.Tables.{cases_true}
 use Rattle.blk_ptr.specs.declared.ptr.Ptr.{Ptr}
@@ -65,61 +65,61 @@ in-no-syncs i j (e ∷ es) all = elim (cases_true (i == j)) [
   | inr other ↦ rw other (in-no-syncs i j es all.1)
 ]
 
-acts-no-syncs : (g : Config) (n : ℕ) (own : OwnEvent) (o : Outline) (work : Work) → is_synced own.event ≡ false → ActsAt g n own o work → NotesNoSyncs work
-acts-no-syncs g n own o work un acts i =
+acts-no-syncs : (g : Config) (n : ℕ) (AreHeld : (Oid → Bool) → Type 0) (own : OwnEvent) (o : Outline) (work : Work) → is_synced own.event ≡ false → ActsAt g n AreHeld own o work → NotesNoSyncs work
+acts-no-syncs g n AreHeld own o work un acts i =
     subst (λ (ns : List Noted). AreNoSyncs (events_of_cell i ns)) (sym acts.noted)
     (in-no-syncs (cell_of g.cells own.at) i _ (all-append (λ e. is_synced e ≡ false) (loads_of n own.at work.brought) (own.event ∷ map (events.Evict n) acts.evictions) (loads-no-syncs n own.at work.brought) (un, evicts-no-syncs n acts.evictions)))
 
-reply-no-syncs : (g : Config) (n : ℕ) (own : OwnEvent) (o : Outline) (work : Work) (reply : Reply) → is_synced own.event ≡ false → ActsBy g n own o work reply → NotesNoSyncs work
-reply-no-syncs g n own o work (replies.Got size shown) un acts = acts-no-syncs g n own o work un acts
-reply-no-syncs g n own o work replies.Done un acts = acts-no-syncs g n own o work un acts
-reply-no-syncs g n own o work (replies.Refused refusal) un acts = λ i. subst (λ (ns : List Noted). AreNoSyncs (events_of_cell i ns)) (sym acts.0) tt
-reply-no-syncs g n own o work (replies.Read served digest shown) un acts = absurd acts
-reply-no-syncs g n own o work (replies.Kept served) un acts = absurd acts
-reply-no-syncs g n own o work replies.Dropped un acts = absurd acts
-reply-no-syncs g n own o work (replies.Fed report) un acts = absurd acts
-reply-no-syncs g n own o work replies.FedNone un acts = absurd acts
-reply-no-syncs g n own o work (replies.Synced group blocks bytes) un acts = absurd acts
-reply-no-syncs g n own o work (replies.Capped c) un acts = absurd acts
+reply-no-syncs : (g : Config) (n : ℕ) (AreHeld : (Oid → Bool) → Type 0) (own : OwnEvent) (o : Outline) (work : Work) (reply : Reply) → is_synced own.event ≡ false → ActsBy g n AreHeld own o work reply → NotesNoSyncs work
+reply-no-syncs g n AreHeld own o work (replies.Got size shown) un acts = acts-no-syncs g n AreHeld own o work un acts
+reply-no-syncs g n AreHeld own o work replies.Done un acts = acts-no-syncs g n AreHeld own o work un acts
+reply-no-syncs g n AreHeld own o work (replies.Refused refusal) un acts = λ i. subst (λ (ns : List Noted). AreNoSyncs (events_of_cell i ns)) (sym acts.0) tt
+reply-no-syncs g n AreHeld own o work (replies.Read served digest shown) un acts = absurd acts
+reply-no-syncs g n AreHeld own o work (replies.Kept served) un acts = absurd acts
+reply-no-syncs g n AreHeld own o work replies.Dropped un acts = absurd acts
+reply-no-syncs g n AreHeld own o work (replies.Fed report) un acts = absurd acts
+reply-no-syncs g n AreHeld own o work replies.FedNone un acts = absurd acts
+reply-no-syncs g n AreHeld own o work (replies.Synced group blocks bytes) un acts = absurd acts
+reply-no-syncs g n AreHeld own o work (replies.Capped c) un acts = absurd acts
 
 none-no-syncs : (work : Work) → work ≡ no_work → NotesNoSyncs work
 none-no-syncs work none i = subst (λ (w : Work). AreNoSyncs (events_of_cell i w.noted)) (sym none) tt
 
-pub op-no-syncs : (g : Config) (n : ℕ) (op : Op) (o : Outline) (work : Work) (reply : Reply) → ActsFor g n (own_event op) o work reply → NotesNoSyncs work
-op-no-syncs g n (ops.Get m t at w) o work reply acts = reply-no-syncs g n (record { at = at; event = events.Get m at }) o work reply refl acts
-op-no-syncs g n (ops.Put m t at size fill) o work reply acts = reply-no-syncs g n (record { at = at; event = events.Put m at size fill }) o work reply refl acts
-op-no-syncs g n (ops.Patch m t at from bytes) o work reply acts = reply-no-syncs g n (record { at = at; event = events.Patch m at from bytes }) o work reply refl acts
-op-no-syncs g n (ops.Pin m t at) o work reply acts = reply-no-syncs g n (record { at = at; event = events.Pin m at }) o work reply refl acts
-op-no-syncs g n (ops.Unpin m at) o work reply acts = reply-no-syncs g n (record { at = at; event = events.Unpin m at }) o work reply refl acts
-op-no-syncs g n (ops.Read m t x window) o work reply acts = none-no-syncs work acts
-op-no-syncs g n (ops.Hold m t x) o work reply acts = none-no-syncs work acts
-op-no-syncs g n (ops.Drop m x) o work reply acts = none-no-syncs work acts
-op-no-syncs g n ops.Feed o work reply acts = none-no-syncs work acts
-op-no-syncs g n (ops.Txg t) o work reply acts = none-no-syncs work acts
-op-no-syncs g n (ops.Cap c) o work reply acts = none-no-syncs work acts
+pub op-no-syncs : (g : Config) (n : ℕ) (AreHeld : (Oid → Bool) → Type 0) (op : Op) (o : Outline) (work : Work) (reply : Reply) → ActsFor g n AreHeld (own_event op) o work reply → NotesNoSyncs work
+op-no-syncs g n AreHeld (ops.Get m t at w) o work reply acts = reply-no-syncs g n AreHeld (record { at = at; event = events.Get m at }) o work reply refl acts
+op-no-syncs g n AreHeld (ops.Put m t at size fill) o work reply acts = reply-no-syncs g n AreHeld (record { at = at; event = events.Put m at size fill }) o work reply refl acts
+op-no-syncs g n AreHeld (ops.Patch m t at from bytes) o work reply acts = reply-no-syncs g n AreHeld (record { at = at; event = events.Patch m at from bytes }) o work reply refl acts
+op-no-syncs g n AreHeld (ops.Pin m t at) o work reply acts = reply-no-syncs g n AreHeld (record { at = at; event = events.Pin m at }) o work reply refl acts
+op-no-syncs g n AreHeld (ops.Unpin m at) o work reply acts = reply-no-syncs g n AreHeld (record { at = at; event = events.Unpin m at }) o work reply refl acts
+op-no-syncs g n AreHeld (ops.Read m t x window) o work reply acts = none-no-syncs work acts
+op-no-syncs g n AreHeld (ops.Hold m t x) o work reply acts = none-no-syncs work acts
+op-no-syncs g n AreHeld (ops.Drop m x) o work reply acts = none-no-syncs work acts
+op-no-syncs g n AreHeld ops.Feed o work reply acts = none-no-syncs work acts
+op-no-syncs g n AreHeld (ops.Txg t) o work reply acts = none-no-syncs work acts
+op-no-syncs g n AreHeld (ops.Cap c) o work reply acts = none-no-syncs work acts
 
 -- ---- what a sync notes can be read
 
 -- where the event is a sync's, its pointer can be read, and ends at or before this place
 abbrev pub IsToldUpTo : (len end : ℕ) (now : List ℕ) → CellEvent → Type 0
-IsToldUpTo len end now (events.Synced n at ptr) = IsReadable len now ptr × (key_end ptr.key ≤ end)
+IsToldUpTo len end now (events.Synced n at ptr held) = IsReadable len now ptr × (key_end ptr.key ≤ end)
 IsToldUpTo len end now (events.Get n at) = Unit {0}
 IsToldUpTo len end now (events.Put n at size fill) = Unit {0}
 IsToldUpTo len end now (events.Patch n at from bytes) = Unit {0}
 IsToldUpTo len end now (events.Pin n at) = Unit {0}
 IsToldUpTo len end now (events.Unpin n at) = Unit {0}
-IsToldUpTo len end now (events.Load n at) = Unit {0}
+IsToldUpTo len end now (events.Load n at held) = Unit {0}
 IsToldUpTo len end now (events.Evict n at) = Unit {0}
 IsToldUpTo len end now (events.End n) = Unit {0}
 
 no-sync-told : (len end : ℕ) (now : List ℕ) (e : CellEvent) → is_synced e ≡ false → IsToldUpTo len end now e
-no-sync-told len end now (events.Synced n at ptr) un = absurd (let clash : true ≡ false = un in cc)
+no-sync-told len end now (events.Synced n at ptr held) un = absurd (let clash : true ≡ false = un in cc)
 no-sync-told len end now (events.Get n at) un = tt
 no-sync-told len end now (events.Put n at size fill) un = tt
 no-sync-told len end now (events.Patch n at from bytes) un = tt
 no-sync-told len end now (events.Pin n at) un = tt
 no-sync-told len end now (events.Unpin n at) un = tt
-no-sync-told len end now (events.Load n at) un = tt
+no-sync-told len end now (events.Load n at held) un = tt
 no-sync-told len end now (events.Evict n at) un = tt
 no-sync-told len end now (events.End n) un = tt
 
@@ -128,13 +128,13 @@ pub readable-on : (len end : ℕ) (old now : List ℕ) (ptr : Ptr) → take end 
 readable-on len end old now ptr same ends readable = record { valid = readable.valid; of = subst (λ (l : List ℕ). IsOf l ptr) (range-front end ptr.key old now ends (sym same)) readable.of }
 
 told-on : (len end last : ℕ) (old now : List ℕ) → take end now ≡ take end old → end ≤ last → (e : CellEvent) → IsToldUpTo len end old e → IsToldUpTo len last now e
-told-on len end last old now same more (events.Synced n at ptr) told = (readable-on len end old now ptr same told.1 told.0, let t = told.1 in omega (arith, t, more))
+told-on len end last old now same more (events.Synced n at ptr held) told = (readable-on len end old now ptr same told.1 told.0, let t = told.1 in omega (arith, t, more))
 told-on len end last old now same more (events.Get n at) told = tt
 told-on len end last old now same more (events.Put n at size fill) told = tt
 told-on len end last old now same more (events.Patch n at from bytes) told = tt
 told-on len end last old now same more (events.Pin n at) told = tt
 told-on len end last old now same more (events.Unpin n at) told = tt
-told-on len end last old now same more (events.Load n at) told = tt
+told-on len end last old now same more (events.Load n at held) told = tt
 told-on len end last old now same more (events.Evict n at) told = tt
 told-on len end last old now same more (events.End n) told = tt
 
@@ -190,7 +190,7 @@ module _ {P D : Type 0} (pools : Ghosts P) (devices : Devices D) (told_len : (p 
 
   own-notes : (on : Option OnObject) (l : Line) (from to : BetweenLines P D) → DoesOwn pools devices trace on l from to → NotesOwnLine from to
   own-notes None l from to does = record { noted = []; cells = does.goes_on.cells; un = λ i. tt }
-  own-notes (Some on) l from to does = record { noted = l.work.noted; cells = does.goes_on.cells; un = op-no-syncs trace.config 0 l.op _ l.work l.reply does.acts }
+  own-notes (Some on) l from to does = record { noted = l.work.noted; cells = does.goes_on.cells; un = op-no-syncs trace.config 0 _ l.op _ l.work l.reply does.acts }
 
   own-fine : (l : Line) (from to : BetweenLines P D) → StandsFine from → DoesLine pools devices trace l from to → StandsFine to
   own-fine l from to f does =
@@ -212,16 +212,16 @@ module _ {P D : Type 0} (pools : Ghosts P) (devices : Devices D) (told_len : (p 
       let w = s.answer in
       let next : ℕ = from.outside.next in
       let need : ℕ = need_of w.cells w.dues in
-      let xs : List SyncItem = items_from from.outside.group next w.cells w.dues in
+      let xs : List SyncItem = items_from w.held from.outside.group next w.cells w.dues in
       let now : List ℕ = written_over xs f.now in
       let long : length f.now ≡ len = told_len from.outside.pool f.now f.told ∙ f.size in
       let fits = w.fits in
       let same_size = f.size in
       let inside = f.inside in
       let room : next + need ≤ len = omega (arith, fits, same_size, inside) in
-      let kept = written-front from.outside.group next w.cells w.dues f.now (omega (arith, room, long)) in
+      let kept = written-front w.held from.outside.group next w.cells w.dues f.now (omega (arith, room, long)) in
       let last : to.outside.next ≡ next + need = s.next ∙ w.next_is in
-      let readable = subst (λ (end : ℕ). AllByRecursion (IsReadableBlock len end now) xs) (sym last) (items-readable len from.outside.group next w.cells w.dues f.now long f.aligned f.born w.sized room) in
+      let readable = subst (λ (end : ℕ). AllByRecursion (IsReadableBlock len end now) xs) (sym last) (items-readable len w.held from.outside.group next w.cells w.dues f.now long f.aligned f.born w.sized room) in
       record {
         now = now;
         told = w.told ∙ ap (tells_written xs) f.told;

@@ -37,9 +37,9 @@ is_write_of at (Put n b size fill) = oid_eq at b
 is_write_of at (Patch n b from bytes) = oid_eq at b
 is_write_of at (Pin n b) = false
 is_write_of at (Unpin n b) = false
-is_write_of at (Load n b) = false
+is_write_of at (Load n b held) = false
 is_write_of at (Evict n b) = false
-is_write_of at (Synced n b ptr) = false
+is_write_of at (Synced n b ptr held) = false
 is_write_of at (End n) = false
 
 -- the object map has a dirty block
@@ -86,9 +86,9 @@ then-clean at m (Put n b size fill) un clean = rw un clean
 then-clean at m (Patch n b from bytes) un clean = rw un clean
 then-clean at m (Pin n b) un clean = clean
 then-clean at m (Unpin n b) un clean = clean
-then-clean at m (Load n b) un clean = clean
+then-clean at m (Load n b held) un clean = clean
 then-clean at m (Evict n b) un clean = clean
-then-clean at m (Synced n b ptr) un clean = elim (cases_true (oid_eq at b)) [
+then-clean at m (Synced n b ptr held) un clean = elim (cases_true (oid_eq at b)) [
   | inl here ↦ rw here (synced-clean m ptr)
   | inr far ↦ rw far clean
 ]
@@ -125,7 +125,7 @@ module _ (n i : ℕ) (at : Oid) where
   stays-clean : (xs : List SyncItem) (m : Option Mapped) → is_dirty_mapped m ≡ false → is_dirty_mapped (mapped_through at m (synced_in n i xs)) ≡ false
   stays-clean [] m clean = clean
   stays-clean (x ∷ xs) m clean = elim (cases_true (x.due.cell == i)) [
-    | inl mine ↦ rw mine (stays-clean xs (mapped_then at m (Synced n x.due.at x.ptr)) (then-clean at m (Synced n x.due.at x.ptr) refl clean))
+    | inl mine ↦ rw mine (stays-clean xs (mapped_then at m (Synced n x.due.at x.ptr x.held)) (then-clean at m (Synced n x.due.at x.ptr x.held) refl clean))
     | inr other ↦ rw other (stays-clean xs m clean)
   ]
 
@@ -133,7 +133,7 @@ module _ (n i : ℕ) (at : Oid) where
   gets-clean [] m among = absurd (let clash : false ≡ true = among in cc)
   gets-clean (x ∷ xs) m among = elim (cases_true (x.due.cell == i)) [
     | inl mine ↦
-        let next : is_dirty_mapped (mapped_through at (mapped_then at m (Synced n x.due.at x.ptr)) (synced_in n i xs)) ≡ false
+        let next : is_dirty_mapped (mapped_through at (mapped_then at m (Synced n x.due.at x.ptr x.held)) (synced_in n i xs)) ≡ false
         = elim (cases_true (oid_eq at x.due.at)) [
           | inl here ↦ rw here (stays-clean xs (option_map (λ y. Clean x.ptr) m) (synced-clean m x.ptr))
           | inr far ↦ rw far (gets-clean xs m (rw far at among))
@@ -148,11 +148,11 @@ module _ (n i : ℕ) (at : Oid) where
       past false b c none h = h
 
   -- among the blocks that are written
-  any-items : (group place : ℕ) (cells : List OnHeap) (dues : List Due) → list_any is_here dues ≡ true → list_any (λ (x : SyncItem). is_here x.due) (items_from group place cells dues) ≡ true
-  any-items group place cells [] among = among
-  any-items group place cells (due ∷ dues) among = elim (cases_true (is_here due)) [
+  any-items : (held : Due → Bool) (group place : ℕ) (cells : List OnHeap) (dues : List Due) → list_any is_here dues ≡ true → list_any (λ (x : SyncItem). is_here x.due) (items_from held group place cells dues) ≡ true
+  any-items held group place cells [] among = among
+  any-items held group place cells (due ∷ dues) among = elim (cases_true (is_here due)) [
     | inl here ↦ rw here refl
-    | inr far ↦ rw far (any-items group (place + length (bytes_of_due cells due)) cells dues (rw far at among))
+    | inr far ↦ rw far (any-items held group (place + length (bytes_of_due cells due)) cells dues (rw far at among))
   ]
 
   -- among the dirty ones of its cell
@@ -191,14 +191,14 @@ module _ (n i : ℕ) (at : Oid) where
   any-from k (suc j) (x ∷ cs) c there sum dirty = any-right is_here (dues_in k x.value.dbufs) (dues_from (suc k) cs) (any-from (suc k) j cs c there (omega (arith, sum)) dirty)
 
 -- behind the entries of a sync nothing is dirty
-pub clean-synced : (group next n : ℕ) (cells : List OnHeap) (dues : List Due) → AreAllDirty cells dues → (i : ℕ) (c : OnHeap) → slice_get cells i ≡ Some c → IsSound c.value
-    → IsCleanBehind c.value.opening (c.value.history ++ synced_in n i (items_from group next cells dues))
-clean-synced group next n cells dues all i c there sound at =
+pub clean-synced : (held : Due → Bool) (group next n : ℕ) (cells : List OnHeap) (dues : List Due) → AreAllDirty cells dues → (i : ℕ) (c : OnHeap) → slice_get cells i ≡ Some c → IsSound c.value
+    → IsCleanBehind c.value.opening (c.value.history ++ synced_in n i (items_from held group next cells dues))
+clean-synced held group next n cells dues all i c there sound at =
     let m = opened_mapped at c.value.opening in
-    let xs = items_from group next cells dues in
+    let xs = items_from held group next cells dues in
     let before = mapped_through at m c.value.history in
     ap is_dirty_mapped (through-behind at m c.value.history (synced_in n i xs)) ∙ elim (cases_true (dbuf_is is_dirty at c.value.dbufs)) [
-      | inl dirty ↦ gets-clean n i at xs before (any-items n i at group next cells dues
+      | inl dirty ↦ gets-clean n i at xs before (any-items n i at held group next cells dues
           (sym (list_any-IsPermutation (is_here n i at) (dues_from 0 cells) dues all.all) ∙ any-from n i at 0 i cells c there (omega arith) dirty))
       | inr clean ↦ stays-clean n i at xs before (sound-dirty c.value sound at ∙ clean)
     ]

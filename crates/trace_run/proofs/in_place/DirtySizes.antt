@@ -42,9 +42,9 @@ IsPutWithin at most (Get n b) = Unit {0}
 IsPutWithin at most (Patch n b from bytes) = Unit {0}
 IsPutWithin at most (Pin n b) = Unit {0}
 IsPutWithin at most (Unpin n b) = Unit {0}
-IsPutWithin at most (Load n b) = Unit {0}
+IsPutWithin at most (Load n b held) = Unit {0}
 IsPutWithin at most (Evict n b) = Unit {0}
-IsPutWithin at most (Synced n b ptr) = Unit {0}
+IsPutWithin at most (Synced n b ptr held) = Unit {0}
 IsPutWithin at most (End n) = Unit {0}
 
 abbrev IsWithin : (most : ℕ) → Option Mapped → Type 0
@@ -83,9 +83,9 @@ then-within at most c (Patch n b from bytes) legal put within = elim (cases_true
 ]
 then-within at most c (Pin n b) legal put within = within
 then-within at most c (Unpin n b) legal put within = within
-then-within at most c (Load n b) legal put within = within
+then-within at most c (Load n b held) legal put within = within
 then-within at most c (Evict n b) legal put within = within
-then-within at most c (Synced n b ptr) legal put within = elim (cases_true (oid_eq at b)) [
+then-within at most c (Synced n b ptr held) legal put within = elim (cases_true (oid_eq at b)) [
   | inl here ↦
       let is = oid-is at b here in
       let its = subst (λ (x : Oid). IsWrittenAt ptr (plain.dbuf_at x c)) (sym is) legal.1 in
@@ -133,9 +133,9 @@ put-within at most m (Get n b) is put = absurd (let clash : false ≡ true = is 
 put-within at most m (Patch n b from bytes) is put = absurd (let clash : false ≡ true = is in cc)
 put-within at most m (Pin n b) is put = absurd (let clash : false ≡ true = is in cc)
 put-within at most m (Unpin n b) is put = absurd (let clash : false ≡ true = is in cc)
-put-within at most m (Load n b) is put = absurd (let clash : false ≡ true = is in cc)
+put-within at most m (Load n b held) is put = absurd (let clash : false ≡ true = is in cc)
 put-within at most m (Evict n b) is put = absurd (let clash : false ≡ true = is in cc)
-put-within at most m (Synced n b ptr) is put = absurd (let clash : false ≡ true = is in cc)
+put-within at most m (Synced n b ptr held) is put = absurd (let clash : false ≡ true = is in cc)
 put-within at most m (End n) is put = absurd (let clash : false ≡ true = is in cc)
 
 leads-put : (at : Oid) (most : ℕ) (c : PlainCell) (es : List CellEvent) (bases : List (List ℕ)) (end : PlainCell) → Leads c es bases end → AllByRecursion (IsPutWithin at most) es → list_any (is_put_of at) es ≡ true
@@ -208,9 +208,9 @@ distinct-effect ds (Put n b size fill) once = distinct-item b (dirtied size) (λ
 distinct-effect ds (Patch n b from bytes) once = subst AreDistinct (sym (names-changed b (λ d. dirtied (mapped_size d.mapped) d) (λ d. refl) ds)) once
 distinct-effect ds (Pin n b) once = subst AreDistinct (sym (names-changed b _ (λ d. refl) ds)) once
 distinct-effect ds (Unpin n b) once = subst AreDistinct (sym (names-changed b _ (λ d. refl) ds)) once
-distinct-effect ds (Load n b) once = subst AreDistinct (sym (names-changed b _ (λ d. refl) ds)) once
+distinct-effect ds (Load n b held) once = subst AreDistinct (sym (names-changed b _ (λ d. refl) ds)) once
 distinct-effect ds (Evict n b) once = subst AreDistinct (sym (names-changed b _ (λ d. refl) ds)) once
-distinct-effect ds (Synced n b ptr) once = subst AreDistinct (sym (names-changed b _ (λ d. refl) ds)) once
+distinct-effect ds (Synced n b ptr held) once = subst AreDistinct (sym (names-changed b _ (λ d. refl) ds)) once
 distinct-effect ds (End n) once = subst AreDistinct (sym (names-ended ds)) once
 
 pub distinct-all : (o : Outline) (es : List CellEvent) → AreDistinct (names o.dbufs) → AreDistinct (names (after_all o es).dbufs)

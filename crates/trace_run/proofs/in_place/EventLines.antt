@@ -31,9 +31,9 @@ IsOfLines callers lines (events.Get n b) = Unit {0}
 IsOfLines callers lines (events.Patch n b from bytes) = Unit {0}
 IsOfLines callers lines (events.Pin n b) = Unit {0}
 IsOfLines callers lines (events.Unpin n b) = Unit {0}
-IsOfLines callers lines (events.Load n b) = Unit {0}
+IsOfLines callers lines (events.Load n b held) = Unit {0}
 IsOfLines callers lines (events.Evict n b) = Unit {0}
-IsOfLines callers lines (events.Synced n b ptr) = n ≡ callers
+IsOfLines callers lines (events.Synced n b ptr held) = n ≡ callers
 IsOfLines callers lines (events.End n) = n ≡ callers
 
 pub all-filter : {X : Type 0} (P : X → Type 0) (p : X → Bool) (xs : List X) → AllByRecursion P xs → AllByRecursion P (filter p xs)

@@ -124,14 +124,14 @@ feeder-front callers h front ys es is did =
 
 -- another one's event notes no pointer
 pub other-readable : (len : ℕ) (image : List ℕ) (callers : ℕ) (lines : List Op) (e : CellEvent) → IsOfLines callers lines e → (number_of e == callers) ≡ false → IsReadableNote len image e
-other-readable len image callers lines (events.Synced n b ptr) is other = absurd (let own : (n == callers) ≡ true = eq-eqb n callers is in let off : (n == callers) ≡ false = other in let clash : true ≡ false = sym own ∙ off in cc)
+other-readable len image callers lines (events.Synced n b ptr held) is other = absurd (let own : (n == callers) ≡ true = eq-eqb n callers is in let off : (n == callers) ≡ false = other in let clash : true ≡ false = sym own ∙ off in cc)
 other-readable len image callers lines (events.End n) is other = tt
 other-readable len image callers lines (events.Get n b) is other = tt
 other-readable len image callers lines (events.Put n b size fill) is other = tt
 other-readable len image callers lines (events.Patch n b from bytes) is other = tt
 other-readable len image callers lines (events.Pin n b) is other = tt
 other-readable len image callers lines (events.Unpin n b) is other = tt
-other-readable len image callers lines (events.Load n b) is other = tt
+other-readable len image callers lines (events.Load n b held) is other = tt
 other-readable len image callers lines (events.Evict n b) is other = tt
 
 -- ---- no End stands in the front
@@ -146,9 +146,9 @@ other-going callers lines (events.Put n b size fill) is other = refl
 other-going callers lines (events.Patch n b from bytes) is other = refl
 other-going callers lines (events.Pin n b) is other = refl
 other-going callers lines (events.Unpin n b) is other = refl
-other-going callers lines (events.Load n b) is other = refl
+other-going callers lines (events.Load n b held) is other = refl
 other-going callers lines (events.Evict n b) is other = refl
-other-going callers lines (events.Synced n b ptr) is other = refl
+other-going callers lines (events.Synced n b ptr held) is other = refl
 
 all-going : (es : List CellEvent) → AllByRecursion GoesOn es → list_all (λ e. not (is_end e)) es ≡ true
 all-going [] all = refl

@@ -28,11 +28,11 @@ mapped_in at ds = option_map (λ (d : OutlineDbuf). d.mapped) (item_at outline.d
 abbrev pub mapped_then : Oid → Option Mapped → CellEvent → Option Mapped
 mapped_then at m (Put n b size fill) = if oid_eq at b then Some (Dirty size) else m
 mapped_then at m (Patch n b from bytes) = if oid_eq at b then option_map (λ x. Dirty (mapped_size x)) m else m
-mapped_then at m (Synced n b ptr) = if oid_eq at b then option_map (λ x. Clean ptr) m else m
+mapped_then at m (Synced n b ptr held) = if oid_eq at b then option_map (λ x. Clean ptr) m else m
 mapped_then at m (Get n b) = m
 mapped_then at m (Pin n b) = m
 mapped_then at m (Unpin n b) = m
-mapped_then at m (Load n b) = m
+mapped_then at m (Load n b held) = m
 mapped_then at m (Evict n b) = m
 mapped_then at m (End n) = m
 
@@ -132,9 +132,9 @@ effects at ds (Put n b size fill) = written at b size _ refl refl ds
 effects at ds (Patch n b from bytes) = changes at b (λ d. dirtied (mapped_size d.mapped) d) (λ m. Dirty (mapped_size m)) (λ d. refl) (λ d. refl) ds
 effects at ds (Pin n b) = stays at b _ (λ d. refl) (λ d. refl) ds
 effects at ds (Unpin n b) = stays at b _ (λ d. refl) (λ d. refl) ds
-effects at ds (Load n b) = stays at b _ (λ d. refl) (λ d. refl) ds
+effects at ds (Load n b held) = stays at b _ (λ d. refl) (λ d. refl) ds
 effects at ds (Evict n b) = stays at b _ (λ d. refl) (λ d. refl) ds
-effects at ds (Synced n b ptr) = changes at b (λ d. record d { mapped = Clean ptr; cached = true }) (λ m. Clean ptr) (λ d. refl) (λ d. refl) ds
+effects at ds (Synced n b ptr held) = changes at b (λ d. record d { mapped = Clean ptr; cached = true }) (λ m. Clean ptr) (λ d. refl) (λ d. refl) ds
 effects at ds (End n) = ends at ds
 
 -- ---- a history
@@ -170,9 +170,9 @@ is_synced (Put n b size fill) = false
 is_synced (Patch n b from bytes) = false
 is_synced (Pin n b) = false
 is_synced (Unpin n b) = false
-is_synced (Load n b) = false
+is_synced (Load n b held) = false
 is_synced (Evict n b) = false
-is_synced (Synced n b ptr) = true
+is_synced (Synced n b ptr held) = true
 is_synced (End n) = false
 
 -- once there is something, there is
@@ -185,14 +185,14 @@ then-some at m (Patch n b from bytes) = elim (cases_true (oid_eq at b)) [
   | inl here ↦ (Dirty (mapped_size m), rw here refl)
   | inr far ↦ (m, rw far refl)
 ]
-then-some at m (Synced n b ptr) = elim (cases_true (oid_eq at b)) [
+then-some at m (Synced n b ptr held) = elim (cases_true (oid_eq at b)) [
   | inl here ↦ (Clean ptr, rw here refl)
   | inr far ↦ (m, rw far refl)
 ]
 then-some at m (Get n b) = (m, refl)
 then-some at m (Pin n b) = (m, refl)
 then-some at m (Unpin n b) = (m, refl)
-then-some at m (Load n b) = (m, refl)
+then-some at m (Load n b held) = (m, refl)
 then-some at m (Evict n b) = (m, refl)
 then-some at m (End n) = (m, refl)
 
@@ -204,11 +204,11 @@ through-some at m (e ∷ es) is = let s = then-some at m e in through-some at s.
 put-dirty : (at : Oid) (m : Option Mapped) (e : CellEvent) → is_put_of at e ≡ true → (size : ℕ) × (mapped_then at m e ≡ Some (Dirty size))
 put-dirty at m (Put n b size fill) is = (size, rw is refl)
 put-dirty at m (Patch n b from bytes) is = absurd (let clash : false ≡ true = is in cc)
-put-dirty at m (Synced n b ptr) is = absurd (let clash : false ≡ true = is in cc)
+put-dirty at m (Synced n b ptr held) is = absurd (let clash : false ≡ true = is in cc)
 put-dirty at m (Get n b) is = absurd (let clash : false ≡ true = is in cc)
 put-dirty at m (Pin n b) is = absurd (let clash : false ≡ true = is in cc)
 put-dirty at m (Unpin n b) is = absurd (let clash : false ≡ true = is in cc)
-put-dirty at m (Load n b) is = absurd (let clash : false ≡ true = is in cc)
+put-dirty at m (Load n b held) is = absurd (let clash : false ≡ true = is in cc)
 put-dirty at m (Evict n b) is = absurd (let clash : false ≡ true = is in cc)
 put-dirty at m (End n) is = absurd (let clash : false ≡ true = is in cc)
 
@@ -229,9 +229,9 @@ EndsInPut at last (Get n b) = Unit {0}
 EndsInPut at last (Patch n b from bytes) = Unit {0}
 EndsInPut at last (Pin n b) = Unit {0}
 EndsInPut at last (Unpin n b) = Unit {0}
-EndsInPut at last (Load n b) = Unit {0}
+EndsInPut at last (Load n b held) = Unit {0}
 EndsInPut at last (Evict n b) = Unit {0}
-EndsInPut at last (Synced n b ptr) = Unit {0}
+EndsInPut at last (Synced n b ptr held) = Unit {0}
 EndsInPut at last (End n) = Unit {0}
 
 abbrev pub EndsIn : (last : ℕ) → Option Mapped → Type 0

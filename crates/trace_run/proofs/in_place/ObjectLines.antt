@@ -99,9 +99,9 @@ module _ (len : ℕ) (image : List ℕ) (trace : Trace) (at : Oid) (es : List Ce
     put-ends last ends (events.Patch n b from bytes) is = tt
     put-ends last ends (events.Pin n b) is = tt
     put-ends last ends (events.Unpin n b) is = tt
-    put-ends last ends (events.Load n b) is = tt
+    put-ends last ends (events.Load n b held) is = tt
     put-ends last ends (events.Evict n b) is = tt
-    put-ends last ends (events.Synced n b ptr) is = tt
+    put-ends last ends (events.Synced n b ptr held) is = tt
     put-ends last ends (events.End n) is = tt
 
     opened-ends : (last : ℕ) (o : Option Ptr) → IfSome o (λ ptr. last ≤ ptr.key.size) → EndsIn last (option_map (λ (p : Ptr). Clean p) o)

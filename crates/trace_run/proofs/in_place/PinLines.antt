@@ -28,7 +28,7 @@ use Rattle.trace_run.specs.Lines.{is_of_caller}
 use Rattle.trace_run.specs.RunWork.{lines_of_caller}
 use Rattle.trace_run.specs.callers.WorkLines.{AreLinesOf, IsWorkOf, NotesLine, noted_of_work}
 use Rattle.trace_run.specs.dbufs.CellEnds.{done_by}
-use Rattle.trace_run.specs.dbufs.Objects.{Brought, Line, Loaded, NotesOwn, Nothing, OwnEvent, Refused, Work, loads_of, no_work, ops_of}
+use Rattle.trace_run.specs.dbufs.Objects.{Brought, Line, Loaded, NotesOwn, Nothing, OwnEvent, Refused, Work, gives_hold, loads_of, no_work, ops_of}
 use Rattle.trace_run.proofs.deeds.NotedCells.{cell-append, noted-else, noted-here}
 use Rattle.trace_run.proofs.in_place.Mapped.{oid-is}
 
@@ -98,9 +98,9 @@ module _ (n : ℕ) (at : Oid) where
   pin-his (events.Put m b size fill) other = refl
   pin-his (events.Patch m b from bytes) other = refl
   pin-his (events.Unpin m b) other = refl
-  pin-his (events.Load m b) other = refl
+  pin-his (events.Load m b held) other = refl
   pin-his (events.Evict m b) other = refl
-  pin-his (events.Synced m b ptr) other = refl
+  pin-his (events.Synced m b ptr held) other = refl
   pin-his (events.End m) other = refl
 
   unpin-his : (e : CellEvent) → (number_of e == n) ≡ false → is_unpin_of n at e ≡ false
@@ -109,9 +109,9 @@ module _ (n : ℕ) (at : Oid) where
   unpin-his (events.Put m b size fill) other = refl
   unpin-his (events.Patch m b from bytes) other = refl
   unpin-his (events.Pin m b) other = refl
-  unpin-his (events.Load m b) other = refl
+  unpin-his (events.Load m b held) other = refl
   unpin-his (events.Evict m b) other = refl
-  unpin-his (events.Synced m b ptr) other = refl
+  unpin-his (events.Synced m b ptr held) other = refl
   unpin-his (events.End m) other = refl
 
   pub pins-done : (es : List CellEvent) → count_by (is_pin_of n at) (done_by n es) ≡ count_by (is_pin_of n at) es
@@ -173,13 +173,13 @@ module _ (n i : ℕ) (p : CellEvent → Bool) (q : Op → Bool) (le : ℕ → �
 
 -- ---- one line
 
-module _ (g : Config) (n : ℕ) (at : Oid) (p : CellEvent → Bool) (loads : (m : ℕ) (b : Oid) → p (events.Load m b) ≡ false) (evicts : (m : ℕ) (b : Oid) → p (events.Evict m b) ≡ false) where
+module _ (g : Config) (n : ℕ) (at : Oid) (p : CellEvent → Bool) (loads : (m : ℕ) (b : Oid) (held : Bool) → p (events.Load m b held) ≡ false) (evicts : (m : ℕ) (b : Oid) → p (events.Evict m b) ≡ false) where
   abbrev here : ℕ
   here = cell_of g.cells at
 
   none-loaded : (b : Oid) (brought : Brought) → count_by p (loads_of n b brought) ≡ 0
   none-loaded b Nothing = refl
-  none-loaded b (Loaded ptr from) = let more = counted p (events.Load n b) [] in let c = one-if (p (events.Load n b)) (loads n b) in omega (arith, more, c)
+  none-loaded b (Loaded ptr from) = let more = counted p (events.Load n b (gives_hold from)) [] in let c = one-if (p (events.Load n b (gives_hold from))) (loads n b (gives_hold from)) in omega (arith, more, c)
   none-loaded b (Refused ptr) = refl
 
   none-evicted : (xs : List Oid) → count_by p (map (events.Evict n) xs) ≡ 0
@@ -253,7 +253,7 @@ module _ (g : Config) (n : ℕ) (at : Oid) where
   pub pins-line : (op : Op) (reply : Reply) (work : Work) → IsWorkOf g n (record { op = op; reply = reply; work = work }) → ((m t : ℕ) (b : Oid) → op ≡ ops.Pin m t b → is_refusal reply ≡ false)
       → cond {A = ℕ} (is_pin_by n at op) 1 0 ≤ count_by (is_pin_of n at) (events_of_cell (cell_of g.cells at) work.noted)
   pins-line (ops.Pin m t b) reply work f done =
-      let is = answered-counted g n at (is_pin_of n at) (λ k c. refl) (λ k c. refl) (record { at = b; event = events.Pin m b }) work reply f.notes (names-it m b) (done m t b refl) in
+      let is = answered-counted g n at (is_pin_of n at) (λ k c held. refl) (λ k c. refl) (record { at = b; event = events.Pin m b }) work reply f.notes (names-it m b) (done m t b refl) in
       omega (arith, is)
   pins-line (ops.Read m t x w) reply work f done = omega arith
   pins-line (ops.Hold m t x) reply work f done = omega arith
@@ -267,11 +267,11 @@ module _ (g : Config) (n : ℕ) (at : Oid) where
   pins-line (ops.Cap c) reply work f done = omega arith
 
   plain-few : (work : Work) → work ≡ no_work → count_by (is_unpin_of n at) (events_of_cell (cell_of g.cells at) work.noted) ≤ 0
-  plain-few work is = let none = none-noted g n at (is_unpin_of n at) (λ k c. refl) (λ k c. refl) work (ap (λ (w : Work). w.noted) is) in omega (arith, none)
+  plain-few work is = let none = none-noted g n at (is_unpin_of n at) (λ k c held. refl) (λ k c. refl) work (ap (λ (w : Work). w.noted) is) in omega (arith, none)
 
   own-few : (own : OwnEvent) (work : Work) (reply : Reply) → NotesLine g n own work reply → (is_unpin_of n at own.event ≡ true → own.at ≡ at)
       → count_by (is_unpin_of n at) (events_of_cell (cell_of g.cells at) work.noted) ≤ cond {A = ℕ} (is_unpin_of n at own.event) 1 0
-  own-few = line-few g n at (is_unpin_of n at) (λ k c. refl) (λ k c. refl)
+  own-few = line-few g n at (is_unpin_of n at) (λ k c held. refl) (λ k c. refl)
 
   -- a line takes at most the pin back that it says
   pub unpins-line : (op : Op) (reply : Reply) (work : Work) → IsWorkOf g n (record { op = op; reply = reply; work = work })

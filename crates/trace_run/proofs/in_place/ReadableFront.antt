@@ -33,13 +33,13 @@ use Rattle.trace_run.proofs.in_place.Mapped.{EndsIn, EndsInPut, mapped-after, ma
 
 -- the pointer that the event notes can be read; only a Synced notes one
 abbrev pub IsReadableNote : (len : ℕ) (image : List ℕ) → CellEvent → Type 0
-IsReadableNote len image (Synced n b ptr) = IsReadable len image ptr
+IsReadableNote len image (Synced n b ptr held) = IsReadable len image ptr
 IsReadableNote len image (Get n b) = Unit {0}
 IsReadableNote len image (Put n b size fill) = Unit {0}
 IsReadableNote len image (Patch n b from bytes) = Unit {0}
 IsReadableNote len image (Pin n b) = Unit {0}
 IsReadableNote len image (Unpin n b) = Unit {0}
-IsReadableNote len image (Load n b) = Unit {0}
+IsReadableNote len image (Load n b held) = Unit {0}
 IsReadableNote len image (Evict n b) = Unit {0}
 IsReadableNote len image (End n) = Unit {0}
 
@@ -91,14 +91,14 @@ module _ (len : ℕ) (image : List ℕ) (at : Oid) (ptr : Ptr) where
     | inl here ↦ absurd (patched-never m (let dirty : option_map (λ x. Dirty (mapped_size x)) m ≡ Some (Clean ptr) = rw here at is in dirty))
     | inr far ↦ inr ((let same : m ≡ Some (Clean ptr) = rw far at is in same), refl)
   ]
-  then-known m (Synced n b p) note is = elim (cases_true (oid_eq at b)) [
+  then-known m (Synced n b p held) note is = elim (cases_true (oid_eq at b)) [
     | inl here ↦ inl (subst (IsReadable len image) (synced-is p m (let clean : option_map (λ x. Clean p) m ≡ Some (Clean ptr) = rw here at is in clean)) note)
     | inr far ↦ inr ((let same : m ≡ Some (Clean ptr) = rw far at is in same), refl)
   ]
   then-known m (Get n b) note is = inr (is, refl)
   then-known m (Pin n b) note is = inr (is, refl)
   then-known m (Unpin n b) note is = inr (is, refl)
-  then-known m (Load n b) note is = inr (is, refl)
+  then-known m (Load n b held) note is = inr (is, refl)
   then-known m (Evict n b) note is = inr (is, refl)
   then-known m (End n) note is = inr (is, refl)
 
@@ -180,7 +180,7 @@ legal-in at last c (Patch n b from bytes) legal put ends = elim (cases_true (oid
   | inl here ↦ rw here (patched-in last (mapped_at at (outline_of c)) ends)
   | inr far ↦ rw far ends
 ]
-legal-in at last c (Synced n b ptr) legal put ends = elim (cases_true (oid_eq at b)) [
+legal-in at last c (Synced n b ptr held) legal put ends = elim (cases_true (oid_eq at b)) [
   | inl here ↦
       let same : b ≡ at = sym (oid-is at b here) in
       rw here (clean-in last ptr (mapped_at at (outline_of c)) (λ was. synced-in last at ptr c (subst (λ (x : Oid). IsWrittenAt ptr (plain.dbuf_at x c)) same legal.1) was) ends)
@@ -189,7 +189,7 @@ legal-in at last c (Synced n b ptr) legal put ends = elim (cases_true (oid_eq at
 legal-in at last c (Get n b) legal put ends = ends
 legal-in at last c (Pin n b) legal put ends = ends
 legal-in at last c (Unpin n b) legal put ends = ends
-legal-in at last c (Load n b) legal put ends = ends
+legal-in at last c (Load n b held) legal put ends = ends
 legal-in at last c (Evict n b) legal put ends = ends
 legal-in at last c (End n) legal put ends = ends
 

@@ -96,7 +96,7 @@ his-synced n i [] = refl
 his-synced n i (x ∷ xs) =
     let own : (n == n) ≡ true = eq-eqb n n refl in
     elim (cases_true (x.due.cell == i)) [
-      | inl here ↦ rw here (rw own (ap (λ (es : List CellEvent). events.Synced n x.due.at x.ptr ∷ es) (his-synced n i xs)))
+      | inl here ↦ rw here (rw own (ap (λ (es : List CellEvent). events.Synced n x.due.at x.ptr x.held ∷ es) (his-synced n i xs)))
       | inr other ↦ rw other (his-synced n i xs)
     ]
 

@@ -148,7 +148,7 @@ module _ {P D : Type 0} (pools : Ghosts P) (devices : Devices D) (trace : Trace)
         let opening = takes.opening i c.0 c.1 in
         let sound = takes.sound i c.0 c.1 in
         subst (λ (es : List CellEvent). IsCleanBehind (opening_map trace i) es) (sym (now i is_cell ∙ ap (λ (es : List CellEvent). es ++ synced_in callers i items) (sym (takes.history i c.0 c.1))))
-        (subst (λ (ms : List Mapping). IsCleanBehind ms (c.0.value.history ++ synced_in callers i items)) opening (clean-synced from.outside.group from.outside.next callers cells dues w.dirty i c.0 c.1 sound));
+        (subst (λ (ms : List Mapping). IsCleanBehind ms (c.0.value.history ++ synced_in callers i items)) opening (clean-synced w.held from.outside.group from.outside.next callers cells dues w.dirty i c.0 c.1 sound));
     puts = λ i is_cell.
         let c = there-cell cells i (let m = takes.many in omega (arith, is_cell, m)) in
         let size : Oid → ℕ = greatest_size trace (h.early ++ ops_of h.since) in
@@ -170,7 +170,7 @@ module _ {P D : Type 0} (pools : Ghosts P) (devices : Devices D) (trace : Trace)
       dues = w.dues
 
       items : List SyncItem
-      items = items_from from.outside.group from.outside.next cells dues
+      items = items_from w.held from.outside.group from.outside.next cells dues
 
       takes : TakesCells trace from.cells work cells items
       takes = w.turns

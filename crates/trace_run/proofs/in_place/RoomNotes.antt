@@ -47,9 +47,9 @@ IsSized size (events.Get n b) = Unit {0}
 IsSized size (events.Patch n b from bytes) = Unit {0}
 IsSized size (events.Pin n b) = Unit {0}
 IsSized size (events.Unpin n b) = Unit {0}
-IsSized size (events.Load n b) = Unit {0}
+IsSized size (events.Load n b held) = Unit {0}
 IsSized size (events.Evict n b) = Unit {0}
-IsSized size (events.Synced n b ptr) = Unit {0}
+IsSized size (events.Synced n b ptr held) = Unit {0}
 IsSized size (events.End n) = Unit {0}
 
 event-within : (size : Oid → ℕ) (at : Oid) (e : CellEvent) → IsSized size e → IsPutWithin at (size at) e
@@ -58,9 +58,9 @@ event-within size at (events.Get n b) sized = tt
 event-within size at (events.Patch n b from bytes) sized = tt
 event-within size at (events.Pin n b) sized = tt
 event-within size at (events.Unpin n b) sized = tt
-event-within size at (events.Load n b) sized = tt
+event-within size at (events.Load n b held) sized = tt
 event-within size at (events.Evict n b) sized = tt
-event-within size at (events.Synced n b ptr) sized = tt
+event-within size at (events.Synced n b ptr held) sized = tt
 event-within size at (events.End n) sized = tt
 
 pub puts-within : (size : Oid → ℕ) (at : Oid) (h : List CellEvent) → AllByRecursion (IsSized size) h → AllByRecursion (IsPutWithin at (size at)) h
@@ -73,9 +73,9 @@ module _ (few more : Oid → ℕ) (le : (at : Oid) → few at ≤ more at) where
   event-more (events.Patch n b from bytes) sized = tt
   event-more (events.Pin n b) sized = tt
   event-more (events.Unpin n b) sized = tt
-  event-more (events.Load n b) sized = tt
+  event-more (events.Load n b held) sized = tt
   event-more (events.Evict n b) sized = tt
-  event-more (events.Synced n b ptr) sized = tt
+  event-more (events.Synced n b ptr held) sized = tt
   event-more (events.End n) sized = tt
 
   pub sized-more : (h : List CellEvent) → AllByRecursion (IsSized few) h → AllByRecursion (IsSized more) h
@@ -98,9 +98,9 @@ module _ (trace : Trace) (os : List Op) where
   IsWriteOf i (events.Get n b) = Unit {0}
   IsWriteOf i (events.Pin n b) = Unit {0}
   IsWriteOf i (events.Unpin n b) = Unit {0}
-  IsWriteOf i (events.Load n b) = Unit {0}
+  IsWriteOf i (events.Load n b held) = Unit {0}
   IsWriteOf i (events.Evict n b) = Unit {0}
-  IsWriteOf i (events.Synced n b ptr) = Unit {0}
+  IsWriteOf i (events.Synced n b ptr held) = Unit {0}
   IsWriteOf i (events.End n) = Unit {0}
 
   write-sized : (i : ℕ) (e : CellEvent) → IsWriteOf i e → IsSized (λ at. greatest_put at os) e
@@ -109,9 +109,9 @@ module _ (trace : Trace) (os : List Op) where
   write-sized i (events.Get n b) w = tt
   write-sized i (events.Pin n b) w = tt
   write-sized i (events.Unpin n b) w = tt
-  write-sized i (events.Load n b) w = tt
+  write-sized i (events.Load n b held) w = tt
   write-sized i (events.Evict n b) w = tt
-  write-sized i (events.Synced n b ptr) w = tt
+  write-sized i (events.Synced n b ptr held) w = tt
   write-sized i (events.End n) w = tt
 
   pub writes-sized : (i : ℕ) (h : List CellEvent) → AllByRecursion (IsWriteOf i) h → AllByRecursion (IsSized (λ at. greatest_put at os)) h
@@ -126,9 +126,9 @@ module _ (trace : Trace) (os : List Op) where
   write-own i at (events.Get n b) w is = absurd (let clash : false ≡ true = is in cc)
   write-own i at (events.Pin n b) w is = absurd (let clash : false ≡ true = is in cc)
   write-own i at (events.Unpin n b) w is = absurd (let clash : false ≡ true = is in cc)
-  write-own i at (events.Load n b) w is = absurd (let clash : false ≡ true = is in cc)
+  write-own i at (events.Load n b held) w is = absurd (let clash : false ≡ true = is in cc)
   write-own i at (events.Evict n b) w is = absurd (let clash : false ≡ true = is in cc)
-  write-own i at (events.Synced n b ptr) w is = absurd (let clash : false ≡ true = is in cc)
+  write-own i at (events.Synced n b ptr held) w is = absurd (let clash : false ≡ true = is in cc)
   write-own i at (events.End n) w is = absurd (let clash : false ≡ true = is in cc)
 
   pub written-own : (i : ℕ) (at : Oid) (h : List CellEvent) → AllByRecursion (IsWriteOf i) h → list_any (is_write_of at) h ≡ true → IsOwnHere i at

@@ -244,7 +244,7 @@ module _ {P : Type 0} (pools : Ghosts P) (trace : Trace) (apart : AreApart trace
       dues = w.dues
 
       items : List SyncItem
-      items = items_from from.group from.next w.cells dues
+      items = items_from w.held from.group from.next w.cells dues
 
       stood : StoodThen trace closed before t work w.cells items
       stood = w.turns
@@ -270,7 +270,7 @@ module _ {P : Type 0} (pools : Ghosts P) (trace : Trace) (apart : AreApart trace
                 let whole : by_party g n i (h.front ++ h.since) ++ by_party g n i (line ∷ []) ≡ by_party g n i (before ++ line ∷ []) =
                 ap (λ (ls : List Line). by_party g n i ls ++ by_party g n i (line ∷ [])) (sym h.are) ∙ sym (by-append g n i before (line ∷ [])) in
                 more ∙ (both ∙ whole);
-            clean = subst (λ (ms : List Mapping). IsCleanBehind ms (c.value.history ++ news)) is_ready.opening (clean-synced from.group from.next g.callers w.cells dues w.dirty i c there.1 had.sound);
+            clean = subst (λ (ms : List Mapping). IsCleanBehind ms (c.value.history ++ news)) is_ready.opening (clean-synced w.held from.group from.next g.callers w.cells dues w.dirty i c there.1 had.sound);
             puts = all-append (IsSized (greatest_size trace (h.early ++ ops_of h.since))) c.value.history news (ready-sized trace h.early (ops_of h.since) i c.value is_ready) (synced-sized (greatest_size trace (h.early ++ ops_of h.since)) g.callers i items);
           }
 

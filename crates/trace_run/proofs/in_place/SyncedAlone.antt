@@ -35,6 +35,7 @@ use Rattle.trace_run.specs.Outcome.{HasRun}
 use Rattle.trace_run.specs.Restores.{found_keys}
 use Rattle.trace_run.specs.callers.Together.{between_groups}
 use Rattle.trace_run.specs.dbufs.ObjectAnswers.{LookedAt}
+use Rattle.trace_run.specs.dbufs.Holders.{AreHolders}
 use Rattle.trace_run.specs.dbufs.ObjectLines.{OnObject, on_object}
 use Rattle.trace_run.specs.dbufs.ObjectReplies.{ActsAt, ActsFor, RefusesAt, RefusesWhole}
 use Rattle.trace_run.specs.dbufs.Objects.{Brought, Line, Work, loads_of}
@@ -136,8 +137,9 @@ module _ {P D : Type 0} (pools : Ghosts P) (devices : Devices D) (trace : Trace)
     put-line reply work from to does =
         let done : reply ≡ replies.Done =
         is-done (pools.size from.outside.pool) (pools.told from.outside.pool) trace.config.dbuf_bytes (opening_map trace i) (from.cells i) work.brought reply does.answer in
-        let acts : ActsAt trace.config 0 (record { at = at; event = events.Put m at size fill }) (outline_behind trace from.cells i) work =
-        subst (λ (x : Reply). ActsFor trace.config 0 (Some (record { at = at; event = events.Put m at size fill })) (outline_behind trace from.cells i) work x) done does.acts in
+        let AreHeld : (Oid → Bool) → Type 0 = AreHolders (from.cells i) in
+        let acts : ActsAt trace.config 0 AreHeld (record { at = at; event = events.Put m at size fill }) (outline_behind trace from.cells i) work =
+        subst (λ (x : Reply). ActsFor trace.config 0 AreHeld (Some (record { at = at; event = events.Put m at size fill })) (outline_behind trace from.cells i) work x) done does.acts in
         let all : List CellEvent = loads_of 0 at work.brought ++ events.Put m at size fill ∷ map (events.Evict 0) acts.evictions in
         let is : events_of_cell i work.noted ≡ all = ap (events_of_cell i) acts.noted ∙ noted-here i all in
         ap (list_any (is_put_of at)) (does.goes_on.cells i is_cell)
@@ -152,13 +154,13 @@ module _ {P D : Type 0} (pools : Ghosts P) (devices : Devices D) (trace : Trace)
 -- ---- what can be read is not refused so
 
 note-of : (len end : ℕ) (now : List ℕ) (e : CellEvent) → IsToldUpTo len end now e → IsReadableNote len now e
-note-of len end now (events.Synced n at ptr) told = told.0
+note-of len end now (events.Synced n at ptr held) told = told.0
 note-of len end now (events.Get n at) told = tt
 note-of len end now (events.Put n at size fill) told = tt
 note-of len end now (events.Patch n at from bytes) told = tt
 note-of len end now (events.Pin n at) told = tt
 note-of len end now (events.Unpin n at) told = tt
-note-of len end now (events.Load n at) told = tt
+note-of len end now (events.Load n at held) told = tt
 note-of len end now (events.Evict n at) told = tt
 note-of len end now (events.End n) told = tt
 

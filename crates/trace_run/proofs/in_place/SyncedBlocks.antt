@@ -40,17 +40,17 @@ next-aligned next cells (due ∷ dues) aligned sized =
     let same : next + (size + need_of cells dues) ≡ (next + size) + need_of cells dues = omega arith in
     ap (λ (n : ℕ). n % sector) same ∙ next-aligned (next + size) cells dues (omega (arith, aligned, whole)) sized.1
 
-pub written-front : (group next : ℕ) (cells : List OnHeap) (dues : List Due) (image : List ℕ) → next + need_of cells dues ≤ length image → KeepsUpTo next image (written_over (items_from group next cells dues) image)
-written-front group next cells dues image inside = let w = written-from group next next cells dues image (omega arith) inside in record { long = w.long; front = w.front }
+pub written-front : (held : Due → Bool) (group next : ℕ) (cells : List OnHeap) (dues : List Due) (image : List ℕ) → next + need_of cells dues ≤ length image → KeepsUpTo next image (written_over (items_from held group next cells dues) image)
+written-front held group next cells dues image inside = let w = written-from held group next next cells dues image (omega arith) inside in record { long = w.long; front = w.front }
 
 -- a block that a sync wrote can be read behind it, and ends before this place
 abbrev pub IsReadableBlock : (len end : ℕ) (now : List ℕ) → SyncItem → Type 0
 IsReadableBlock len end now x = IsReadable len now x.ptr × (key_end x.ptr.key ≤ end)
 
-pub items-readable : (len group next : ℕ) (cells : List OnHeap) (dues : List Due) (image : List ℕ) → length image ≡ len → next % sector ≡ 0 → 0 < group → AreSized cells dues → next + need_of cells dues ≤ len
-    → AllByRecursion (IsReadableBlock len (next + need_of cells dues) (written_over (items_from group next cells dues) image)) (items_from group next cells dues)
-items-readable len group next cells [] image long aligned born sized inside = tt
-items-readable len group next cells (due ∷ dues) image long aligned born sized inside =
+pub items-readable : (len : ℕ) (held : Due → Bool) (group next : ℕ) (cells : List OnHeap) (dues : List Due) (image : List ℕ) → length image ≡ len → next % sector ≡ 0 → 0 < group → AreSized cells dues → next + need_of cells dues ≤ len
+    → AllByRecursion (IsReadableBlock len (next + need_of cells dues) (written_over (items_from held group next cells dues) image)) (items_from held group next cells dues)
+items-readable len held group next cells [] image long aligned born sized inside = tt
+items-readable len held group next cells (due ∷ dues) image long aligned born sized inside =
     let bytes : List ℕ = bytes_of_due cells due in
     let behind : ℕ = next + length bytes in
     let ptr : Ptr = ptr_at group next bytes in
@@ -58,17 +58,17 @@ items-readable len group next cells (due ∷ dues) image long aligned born sized
     let whole = sized.0.0 in
     let longer : length first ≡ length image = put_length next bytes image (omega (arith, inside, long)) in
     let fits : behind + need_of cells dues ≤ length first = omega (arith, inside, long, longer) in
-    let front = written-front group behind cells dues first fits in
-    let range : range_of (written_over (items_from group behind cells dues) first) ptr.key ≡ bytes =
-    range-front behind ptr.key (written_over (items_from group behind cells dues) first) first (omega arith) front.front ∙ put-there next bytes image (omega (arith, inside, long)) in
+    let front = written-front held group behind cells dues first fits in
+    let range : range_of (written_over (items_from held group behind cells dues) first) ptr.key ≡ bytes =
+    range-front behind ptr.key (written_over (items_from held group behind cells dues) first) first (omega arith) front.front ∙ put-there next bytes image (omega (arith, inside, long)) in
     let is_of : IsOf bytes ptr = record { size = refl; digest = refl } in
-    let here : IsReadableBlock len (behind + need_of cells dues) (written_over (items_from group behind cells dues) first) (record { due = due; bytes = bytes; ptr = ptr }) = (
+    let here : IsReadableBlock len (behind + need_of cells dues) (written_over (items_from held group behind cells dues) first) (record { due = due; bytes = bytes; ptr = ptr; held = held due }) = (
       record {
         valid = record { formed = record { aligned = aligned; sized = sized.0; born = born }; inside = omega (arith, inside) };
         of = subst (λ (l : List ℕ). IsOf l ptr) (sym range) is_of;
       },
       omega arith,
     ) in
-    let rest = items-readable len group behind cells dues first (longer ∙ long) (omega (arith, aligned, whole)) born sized.1 (omega (arith, inside)) in
+    let rest = items-readable len held group behind cells dues first (longer ∙ long) (omega (arith, aligned, whole)) born sized.1 (omega (arith, inside)) in
     let same : behind + need_of cells dues ≡ next + (length bytes + need_of cells dues) = omega arith in
-    subst (λ (end : ℕ). AllByRecursion (IsReadableBlock len end (written_over (items_from group behind cells dues) first)) (items_from group next cells (due ∷ dues))) same (here, rest)
+    subst (λ (end : ℕ). AllByRecursion (IsReadableBlock len end (written_over (items_from held group behind cells dues) first)) (items_from held group next cells (due ∷ dues))) same (here, rest)

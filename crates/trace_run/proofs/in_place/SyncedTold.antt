@@ -34,13 +34,13 @@ use Rattle.trace_run.proofs.in_place.SyncedBlocks.{IsReadableBlock, KeepsUpTo, i
 
 -- the block that the event notes as written ends at or before a place
 abbrev EndsNote : (place : ℕ) → CellEvent → Type 0
-EndsNote place (Synced n b ptr) = key_end ptr.key ≤ place
+EndsNote place (Synced n b ptr held) = key_end ptr.key ≤ place
 EndsNote place (Get n b) = Unit {0}
 EndsNote place (Put n b size fill) = Unit {0}
 EndsNote place (Patch n b from bytes) = Unit {0}
 EndsNote place (Pin n b) = Unit {0}
 EndsNote place (Unpin n b) = Unit {0}
-EndsNote place (Load n b) = Unit {0}
+EndsNote place (Load n b held) = Unit {0}
 EndsNote place (Evict n b) = Unit {0}
 EndsNote place (End n) = Unit {0}
 
@@ -49,13 +49,13 @@ IsKeptNote len image place note = IsReadableNote len image note.event × EndsNot
 
 -- it stays so where a sync writes behind that place
 kept-on : (len place end : ℕ) (image now : List ℕ) → place ≤ end → KeepsUpTo place image now → (e : CellEvent) → IsReadableNote len image e × EndsNote place e → IsReadableNote len now e × EndsNote end e
-kept-on len place end image now later keeps (Synced n b ptr) is = (readable-front len place image now ptr (λ z. Some (keeps.front z)) is.1 is.0, (let a = is.1 in omega (arith, a, later)))
+kept-on len place end image now later keeps (Synced n b ptr held) is = (readable-front len place image now ptr (λ z. Some (keeps.front z)) is.1 is.0, (let a = is.1 in omega (arith, a, later)))
 kept-on len place end image now later keeps (Get n b) is = (tt, tt)
 kept-on len place end image now later keeps (Put n b size fill) is = (tt, tt)
 kept-on len place end image now later keeps (Patch n b from bytes) is = (tt, tt)
 kept-on len place end image now later keeps (Pin n b) is = (tt, tt)
 kept-on len place end image now later keeps (Unpin n b) is = (tt, tt)
-kept-on len place end image now later keeps (Load n b) is = (tt, tt)
+kept-on len place end image now later keeps (Load n b held) is = (tt, tt)
 kept-on len place end image now later keeps (Evict n b) is = (tt, tt)
 kept-on len place end image now later keeps (End n) is = (tt, tt)
 
@@ -215,7 +215,7 @@ module _ (len : ℕ) (told : (k : ℕ) → Option (List ℕ)) where
         → HaveSynced (ls ++ record { op = ops.Txg t; reply = reply; work = work } ∷ []) to
     synced-on ls t reply work from to s has =
         let w = s.answer in
-        let items : List SyncItem = items_from from.group from.next w.cells w.dues in
+        let items : List SyncItem = items_from w.held from.group from.next w.cells w.dues in
         let end : ℕ = from.next + need_of w.cells w.dues in
         let now : List ℕ = written_over items has.image in
         let long : length has.image ≡ len = told_len from.pool has.image has.tells ∙ has.size in
@@ -223,9 +223,9 @@ module _ (len : ℕ) (told : (k : ℕ) → Option (List ℕ)) where
         let size = has.size in
         let inside = has.inside in
         let room : from.next + need_of w.cells w.dues ≤ len = omega (arith, fits, size, inside) in
-        let keeps = written-front from.group from.next w.cells w.dues has.image (omega (arith, room, long)) in
+        let keeps = written-front w.held from.group from.next w.cells w.dues has.image (omega (arith, room, long)) in
         let next : to.next ≡ end = s.next ∙ w.next_is in
-        let written = items-readable len from.group from.next w.cells w.dues has.image long has.aligned has.born w.sized room in
+        let written = items-readable len w.held from.group from.next w.cells w.dues has.image long has.aligned has.born w.sized room in
         let olds = all-map (IsKeptNote len has.image from.next) (IsKeptNote len now end) (fed_notes ls) (λ note is. kept-on len from.next end has.image now (omega arith) keeps note.event is) has.notes in
         let news : AllByRecursion (IsKeptNote len now end) work.noted = subst (AllByRecursion (IsKeptNote len now end)) (sym w.turns.noted) (noted-items len end trace.config.callers now items written) in
         let group = s.group in

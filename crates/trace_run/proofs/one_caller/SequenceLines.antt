@@ -27,6 +27,7 @@ use Rattle.trace_run.specs.Deeds.{events_of_cell, events_there}
 use Rattle.trace_run.specs.DeviceReads.{AsksFor, LineAsks}
 use Rattle.trace_run.specs.Effects.{calls_of, effect_of}
 use Rattle.trace_run.specs.Lines.{is_of_caller}
+use Rattle.trace_run.specs.dbufs.Holders.{AreHolders}
 use Rattle.trace_run.specs.dbufs.ObjectLines.{CameFrom, OnObject, TellsBrought, brought_there, events_of_bringing, on_object}
 use Rattle.trace_run.specs.dbufs.ObjectReplies.{ActsFor, AnswersObject, BringsAt}
 use Rattle.trace_run.specs.dbufs.Objects.{Brought, Line, Loaded, Nothing, Refused, Work, own_event}
@@ -130,8 +131,8 @@ module _ {P D E : Type 0} (pools : Ghosts P) (devices : Devices D) (given : Devi
           brought = by-cell (λ limit opening h. BringsAt (pools.size a.outside.pool) on.at (outline_after limit opening h) l.work.brought) x.brought;
           found = found-in a.party l.work.brought x.found;
           range = told;
-          acts = subst (λ (n : ℕ). ActsFor g n (own_event l.op) (outline_after g.dbuf_bytes (opening_map trace i) (cells i)) l.work l.reply) number
-              (by-cell (λ limit opening h. ActsFor g a.party.number (own_event l.op) (outline_after limit opening h) l.work l.reply) x.acts);
+          acts = subst (λ (n : ℕ). ActsFor g n (AreHolders (cells i)) (own_event l.op) (outline_after g.dbuf_bytes (opening_map trace i) (cells i)) l.work l.reply) number
+              (by-cell (λ limit opening h. ActsFor g a.party.number (AreHolders h) (own_event l.op) (outline_after limit opening h) l.work l.reply) x.acts);
           answer = by-cell (λ limit opening h. AnswersObject (pools.size a.outside.pool) (pools.told a.outside.pool) limit opening h l.work.brought l.op l.reply) x.answer;
           made = x.made;
           kinds = x.kinds;

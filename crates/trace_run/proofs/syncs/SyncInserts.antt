@@ -48,12 +48,13 @@ use Rattle.txg_sync.specs.Turns.{InsertsAll, InsertsItem, inserted, there}
 use Rattle.trace_run.specs.Deeds.{events_there}
 use Rattle.trace_run.specs.MadeLines.{made_of}
 use Rattle.trace_run.specs.Making.{HasSeenItsEvents}
-use Rattle.trace_run.specs.Syncing.{IsInsert, insert_of, inserts_in}
+use Rattle.trace_run.specs.Syncing.{IsInsert, insert_of, inserts_in, AreHeldNew, insert_noted, noted_of}
 use Rattle.trace_run.proofs.CellEnds.{AreCellDrops, HasDropped, dropped-none, dropped-then, look-dropped}
 use Rattle.trace_run.proofs.CellsLeft.{roomy-leaves}
 use Rattle.trace_run.proofs.deeds.MakesLemmas.{MakesMore, makes-more, roomy-long, made-later}
 use Rattle.trace_run.proofs.deeds.TurnMakes.{TurnMakes, all-made, there-append}
 use Rattle.trace_run.proofs.feeds.PickedLemmas.{roomy-picks}
+use Rattle.dbuf_state.specs.declared.event.CellEvent.TheVariants.{Synced as WasSynced}
 
 -- an Insert leaves what is picked
 insert-picked : (s : PlainShard) (n : ℕ) (k : Key) (d : Digest) (t : ℕ) → (after s (Insert n k d t)).picked ≡ s.picked
@@ -183,6 +184,7 @@ module _ (g : Config) (valid : IsConfig g) (tick : ℕ) where
     pub made : (shard : ℕ) → made_of (turn_of g shard) q ≡ made_of (turn_of g shard) p ++ map line.Event (events_there g shard events)
     pub cells_made : (i : ℕ) → IsCell g i → made_of i q ≡ made_of i p
     pub picks : p.number ≡ g.callers → (i : ℕ) → picks_of i q ≡ picks_of i p
+    pub held : (n shard : ℕ) → AreHeldNew g tick (noted_of n xs) shard (seen_of g shard p)
 
   -- one that comes in, and those behind it
   first-in : (x : SyncItem) (xs : List SyncItem) (p r : PartyPlace) (es : List Event) → is_new_here x.ptr.key (replay (opening_of g) (seen_of g (shard_of g.shards x.ptr.key) p)) ≡ true
@@ -213,6 +215,44 @@ module _ (g : Config) (valid : IsConfig g) (tick : ℕ) where
         | inr out ↦ rw out (rest shard ∙ ap (inserts_in g tick xs shard) same)
       ]
 
+  -- what the party has seen of a shard once one was noted
+  abbrev seen_with : (n : ℕ) → SyncItem → PartyPlace → ℕ → List Event
+  seen_with n x p shard = seen_of g shard p ++ insert_noted g tick x.due.cell shard (seen_of g shard p) (WasSynced n x.due.at x.ptr x.held)
+
+  seen-in : (n : ℕ) (x : SyncItem) (p r : PartyPlace) → is_new_here x.ptr.key (replay (opening_of g) (seen_of g (shard_of g.shards x.ptr.key) p)) ≡ true
+      → HasDropped g (insert_of g tick x ∷ []) p r → (shard : ℕ) → seen_with n x p shard ≡ seen_of g shard r
+  seen-in n x p r new did shard = elim (cases_true (shard_of g.shards x.ptr.key == shard)) [
+    | inl here ↦
+        let new_here : is_new_here x.ptr.key (replay (opening_of g) (seen_of g shard p)) ≡ true = subst (λ (m : ℕ). is_new_here x.ptr.key (replay (opening_of g) (seen_of g m p)) ≡ true) (eqb-true (shard_of g.shards x.ptr.key) shard here) new in
+        let seen : seen_of g shard r ≡ seen_of g shard p ++ insert_of g tick x ∷ [] =
+        did.shards shard ∙ ap (λ (b : Bool). seen_of g shard p ++ (if b then insert_of g tick x ∷ [] else [])) here in
+        rw (here, new_here) (sym seen)
+    | inr out ↦
+        let seen : seen_of g shard r ≡ seen_of g shard p =
+        did.shards shard ∙ (ap (λ (b : Bool). seen_of g shard p ++ (if b then insert_of g tick x ∷ [] else [])) out ∙ append-nil (seen_of g shard p)) in
+        rw out (append-nil (seen_of g shard p) ∙ sym seen)
+  ]
+
+  seen-out : (n : ℕ) (x : SyncItem) (p r : PartyPlace) → is_new_here x.ptr.key (replay (opening_of g) (seen_of g (shard_of g.shards x.ptr.key) p)) ≡ false
+      → HasDropped g [] p r → (shard : ℕ) → seen_with n x p shard ≡ seen_of g shard r
+  seen-out n x p r old did shard =
+      let same : seen_of g shard r ≡ seen_of g shard p = did.shards shard ∙ append-nil (seen_of g shard p) in
+      elim (cases_true (shard_of g.shards x.ptr.key == shard)) [
+        | inl here ↦
+            let old_here : is_new_here x.ptr.key (replay (opening_of g) (seen_of g shard p)) ≡ false = subst (λ (m : ℕ). is_new_here x.ptr.key (replay (opening_of g) (seen_of g m p)) ≡ false) (eqb-true (shard_of g.shards x.ptr.key) shard here) old in
+            rw (here, old_here) (append-nil (seen_of g shard p) ∙ sym same)
+        | inr out ↦ rw out (append-nil (seen_of g shard p) ∙ sym same)
+      ]
+
+  -- a block keeps a hold where its key is new, and so do those behind it
+  held-first : (n : ℕ) (x : SyncItem) (xs : List SyncItem) (p r : PartyPlace) (b : Bool) → x.held ≡ b → is_new_here x.ptr.key (replay (opening_of g) (seen_of g (shard_of g.shards x.ptr.key) p)) ≡ b
+      → ((shard : ℕ) → seen_with n x p shard ≡ seen_of g shard r) → ((shard : ℕ) → AreHeldNew g tick (noted_of n xs) shard (seen_of g shard r))
+      → (shard : ℕ) → AreHeldNew g tick (noted_of n (x ∷ xs)) shard (seen_of g shard p)
+  held-first n x xs p r b says new seen rest shard = (
+    (λ here. says ∙ sym (subst (λ (m : ℕ). is_new_here x.ptr.key (replay (opening_of g) (seen_of g m p)) ≡ b) here new)),
+    subst (AreHeldNew g tick (noted_of n xs) shard) (sym (seen shard)) (rest shard),
+  )
+
   made-both : (shard : ℕ) (es fs : List Event) (p q r : PartyPlace) → made_of (turn_of g shard) q ≡ made_of (turn_of g shard) p ++ map line.Event (events_there g shard es)
       → made_of (turn_of g shard) r ≡ made_of (turn_of g shard) q ++ map line.Event (events_there g shard fs) → made_of (turn_of g shard) r ≡ made_of (turn_of g shard) p ++ map line.Event (events_there g shard (es ++ fs))
   made-both shard es fs p q r a b =
@@ -231,13 +271,14 @@ module _ (g : Config) (valid : IsConfig g) (tick : ℕ) where
     made = λ shard. ap (made_of (turn_of g shard)) is ∙ sym (append-nil (made_of (turn_of g shard) p));
     cells_made = λ i in_range. ap (made_of i) is;
     picks = λ feeder i. ap (picks_of i) is;
+    held = λ n shard. tt;
   }
   all-inserted (x ∷ xs) p q config low sees all hand inside did = go did.1 (λ es a.
       all-inserted xs did.0 q (ap (λ (y : About). y.config) a.left.stays.about ∙ config) (subst (λ (n : ℕ). n < parties_of g) (sym a.left.stays.number) low) a.sees a.all
       (λ j in_range. subst (IsAmong j) (sym a.left.stays.held) (hand j in_range)) inside.1 did.2)
     where
       go : InsertsItem g tick x p did.0 → ((es : List Event) → HasDropped g es p did.0 → HasInserted xs did.0 q) → HasInserted (x ∷ xs) p q
-      go (inserted d) rest =
+      go (inserted says d) rest =
           let a = one-inserted x p did.0 config low sees all hand inside.0 d in
           let b = rest (insert_of g tick x ∷ []) a in
           record {
@@ -249,8 +290,11 @@ module _ (g : Config) (valid : IsConfig g) (tick : ℕ) where
             made = λ shard. made-both shard (insert_of g tick x ∷ []) b.events p did.0 q (one-made x p did.0 config low sees all hand inside.0 d shard) (b.made shard);
             cells_made = λ i in_range. b.cells_made i in_range ∙ one-cells x p did.0 config low sees all hand inside.0 d i in_range;
             picks = λ feeder i. b.picks (a.left.stays.number ∙ feeder) i ∙ one-picks x p did.0 config low sees all hand inside.0 d feeder i;
+            held = λ n.
+                let new = new-there x p did.0 config low sees all hand inside.0 d in
+                held-first n x xs p did.0 true says new (seen-in n x p did.0 new a) (b.held n);
           }
-      go (there front d tells) rest =
+      go (there says front d tells) rest =
           let a = looked x p did.0 config sees all front d tells in
           let b = rest [] a in
           record {
@@ -262,4 +306,7 @@ module _ (g : Config) (valid : IsConfig g) (tick : ℕ) where
             made = λ shard. made-both shard [] b.events p did.0 q ((look-makes x p did.0 config sees all front d tells low).made shard) (b.made shard);
             cells_made = λ i in_range. b.cells_made i in_range ∙ (look-makes x p did.0 config sees all front d tells low).cells_made i in_range;
             picks = λ feeder i. b.picks (a.left.stays.number ∙ feeder) i ∙ look-picks x p did.0 config sees all front d tells feeder i;
+            held = λ n.
+                let old = not-new x p did.0 config sees all front d tells in
+                held-first n x xs p did.0 false says old (seen-out n x p did.0 old a) (b.held n);
           }

@@ -1,5 +1,5 @@
 -- The feeder syncs while all other parties have joined it: what it and they are then. And where no line made a block dirty, nothing is written.
-use Rattle.std.proofs.Common.{◌≡◌, ◌≢◌, ◌⊎◌, ℕ, zero, suc, ◌+◌, ◌<◌, true, false, List, [], ◌∷◌, ◌++◌, length, map, Option, Some, None, Result, Ok, Err, refl, sym, ap, ◌∙◌, subst, inl, inr, arith}
+use Rattle.std.proofs.Common.{◌≡◌, ◌≢◌, ◌⊎◌, ℕ, zero, suc, ◌+◌, ◌<◌, true, false, List, [], ◌∷◌, ◌++◌, length, map, Option, Some, None, Result, Ok, Err, refl, sym, ap, ◌∙◌, subst, inl, inr, arith, Bool}
 use Rattle.std.specs.Prelude.{slice_get, slice_index_or}
 use Rattle.std.specs.List.{AllByRecursion}
 use Rattle.std.proofs.lemmas.Bool.{false≢true}
@@ -43,7 +43,7 @@ use Rattle.trace_run.specs.Deeds.{HasToldOthers, Noted, events_of_cell}
 use Rattle.trace_run.specs.KeptBlocks.{Stands}
 use Rattle.trace_run.specs.Making.{AreNoEntries}
 use Rattle.trace_run.specs.Meeting.{AreLast, HasLearned, IsApart, JoinAll, PartAll}
-use Rattle.trace_run.specs.Syncing.{SyncedJoined, SyncsJoined, inserts_in, lines_of, wants_memory, HasDoneTo}
+use Rattle.trace_run.specs.Syncing.{SyncedJoined, SyncsJoined, inserts_in, lines_of, wants_memory, HasDoneTo, AreHeldNew, noted_of}
 use Rattle.trace_run.proofs.CellEnds.{HasEndedSome, nothing-from}
 use Rattle.trace_run.proofs.deeds.DeedLemmas.{all-both, others-still}
 use Rattle.trace_run.proofs.deeds.MakesLemmas.{grown-same}
@@ -112,9 +112,9 @@ module _ (g : Config) (cells : List OnHeap) (all : length cells ≡ g.cells) whe
   front-inside [] rest each = tt
   front-inside (due ∷ done) rest each = (each.0, front-inside done rest each.1)
 
-  items-inside : (group place : ℕ) (dues : List Due) → AllByRecursion (λ due. IsCell g due.cell) dues → AllByRecursion (λ x. IsCell g x.due.cell) (items_from group place cells dues)
-  items-inside group place [] each = tt
-  items-inside group place (due ∷ dues) each = (each.0, items-inside group (place + length (bytes_of_due cells due)) dues each.1)
+  items-inside : (held : Due → Bool) (group place : ℕ) (dues : List Due) → AllByRecursion (λ due. IsCell g due.cell) dues → AllByRecursion (λ x. IsCell g x.due.cell) (items_from held group place cells dues)
+  items-inside held group place [] each = tt
+  items-inside held group place (due ∷ dues) each = (each.0, items-inside held group (place + length (bytes_of_due cells due)) dues each.1)
 
 module _ (cache : Cache) (p : PartyPlace) (others : List PartyPlace) (stands : Stands cache p []) (alone : p.joined ≡ [])
     (apart : AllByRecursion (IsApart cache) others) (everyone : (n : ℕ) → n < parties_of cache.config → SomeHas n (p ∷ others)) (count : p.parties ≡ parties_of cache.config)
@@ -237,6 +237,7 @@ module _ (cache : Cache) (p : PartyPlace) (others : List PartyPlace) (stands : S
         stands = last-stands cache p others stands alone apart everyone count differ q joins wrote.events r then of free claims;
         front = λ shard. seen_of g shard q;
         seen = synced-shards g stands.valid tick cells xs q r stood.of.config low stood.seen has-all stood.cells s inside;
+        held = λ shard. subst (AreHeldNew g tick (noted_of p.number xs) shard) (t.quiet.shards shard) (wrote.held p.number shard);
         own = met.self.own;
         others = λ shard. all-own shard others met.all;
         since = λ shard. starts-events (front_of (turn_of g shard) q.own.seen) (front_of (turn_of g shard) p.own.seen) (met.self.starts shard);
@@ -298,15 +299,15 @@ module _ (cache : Cache) (p : PartyPlace) (others : List PartyPlace) (stands : S
       some-answer came other (inl answer) = answer
       some-answer came other (inr none) = absurd (false≢true (sym other ∙ ap wants_memory none.0))
 
-      done-inside : (cells : List OnHeap) (dues : List Due) → length cells ≡ g.cells → AreAllDirty cells dues → AllByRecursion (λ x. IsCell g x.due.cell) (items_from group next cells dues)
-      done-inside cells dues all dirty = items-inside g cells all group next dues (dues-inside g cells all dues dirty)
+      done-inside : (held : Due → Bool) (cells : List OnHeap) (dues : List Due) → length cells ≡ g.cells → AreAllDirty cells dues → AllByRecursion (λ x. IsCell g x.due.cell) (items_from held group next cells dues)
+      done-inside held cells dues all dirty = items-inside g cells all held group next dues (dues-inside g cells all dues dirty)
 
-      part-inside : (cells : List OnHeap) (done rest : List Due) → length cells ≡ g.cells → AreAllDirty cells (done ++ rest) → AllByRecursion (λ x. IsCell g x.due.cell) (items_from group next cells done)
-      part-inside cells done rest all dirty = items-inside g cells all group next done (front-inside g cells all done rest (dues-inside g cells all (done ++ rest) dirty))
+      part-inside : (held : Due → Bool) (cells : List OnHeap) (done rest : List Due) → length cells ≡ g.cells → AreAllDirty cells (done ++ rest) → AllByRecursion (λ x. IsCell g x.due.cell) (items_from held group next cells done)
+      part-inside held cells done rest all dirty = items-inside g cells all held group next done (front-inside g cells all done rest (dues-inside g cells all (done ++ rest) dirty))
 
       came-last : (came : Result Synced SyncFault) → wants_memory came ≡ false → AnswersWith pools group next before now g Cells came → AreLast numbers r.joined
-      came-last (Ok done) other w = synced-last w.cells _ w.turns (done-inside w.cells w.dues w.turns.all w.dirty)
-      came-last (Err fault.PoolFault) other f = synced-last f.stops.cells _ f.stops.turns (part-inside f.stops.cells f.stops.done (f.stops.due ∷ f.stops.rest) f.stops.turns.all f.stops.dirty)
+      came-last (Ok done) other w = synced-last w.cells _ w.turns (done-inside w.held w.cells w.dues w.turns.all w.dirty)
+      came-last (Err fault.PoolFault) other f = synced-last f.stops.cells _ f.stops.turns (part-inside f.stops.held f.stops.cells f.stops.done (f.stops.due ∷ f.stops.rest) f.stops.turns.all f.stops.dirty)
       came-last (Err (fault.PoolFull need left)) other f = synced-last f.cells [] f.turns tt
       came-last (Err fault.NoMemory) other f = absurd (false≢true (sym other))
 
@@ -321,7 +322,8 @@ module _ (cache : Cache) (p : PartyPlace) (others : List PartyPlace) (stands : S
           dirty = w.dirty;
           sized = w.sized;
           fits = w.fits;
-          turns = syncs-joined w.cells _ w.turns (done-inside w.cells w.dues w.turns.all w.dirty) news z parts;
+          held = w.held;
+          turns = syncs-joined w.cells _ w.turns (done-inside w.held w.cells w.dues w.turns.all w.dirty) news z parts;
           told = w.told;
           outside = w.outside;
           others = w.others;
@@ -337,7 +339,8 @@ module _ (cache : Cache) (p : PartyPlace) (others : List PartyPlace) (stands : S
             rest = f.stops.rest;
             dirty = f.stops.dirty;
             fits = f.stops.fits;
-            turns = syncs-joined f.stops.cells _ f.stops.turns (part-inside f.stops.cells f.stops.done (f.stops.due ∷ f.stops.rest) f.stops.turns.all f.stops.dirty) news z parts;
+            held = f.stops.held;
+            turns = syncs-joined f.stops.cells _ f.stops.turns (part-inside f.stops.held f.stops.cells f.stops.done (f.stops.due ∷ f.stops.rest) f.stops.turns.all f.stops.dirty) news z parts;
             told = f.stops.told;
           };
           outside = f.outside;
@@ -398,7 +401,7 @@ module _ (cache : Cache) (p : PartyPlace) (others : List PartyPlace) (stands : S
 
     leaves-with : (came : Result Synced SyncFault) → AnswersWith pools group next before now g (λ cells xs Besides. SyncsCells g tick cells xs Besides q r) came → LeavesPool pools before now
     leaves-with (Ok done) w =
-        let nothing = ap (items_from group next w.cells) (nothing-written unwritten tick w.cells _ Same r w.turns w.dues w.dirty) in
+        let nothing = ap (items_from w.held group next w.cells) (nothing-written unwritten tick w.cells _ Same r w.turns w.dues w.dirty) in
         unharmed w.outside (w.told ∙ (ap (λ (l : List SyncItem). tells_written l (pools.told before)) nothing ∙ written-none (pools.told before)))
     leaves-with (Err fault.PoolFault) f = absurd (never-stops _ _ f.stops)
     leaves-with (Err (fault.PoolFull need left)) f = absurd (never-full need left f)

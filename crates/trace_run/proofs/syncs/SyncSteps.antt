@@ -183,7 +183,7 @@ module _ (g : Config) (valid : IsConfig g) where
     take-hand = record { recorded = known.recorded; seen = known.seen }
 
     pub take-found : IsFound i p c
-    take-found = record { sound = known.sound; began = known.opening ∙ ap (λ (a : About). slice_index_or a.openings i []) took.about }
+    take-found = record { sound = known.sound.sound; began = known.opening ∙ ap (λ (a : About). slice_index_or a.openings i []) took.about }
 
     -- nothing was done to it, where nobody had done anything to a cell from it on
     pub take-fresh : IsUntouched g i p → c.value.history ≡ []

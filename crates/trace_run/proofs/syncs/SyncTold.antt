@@ -74,7 +74,7 @@ module _ (g : Config) where
   pub noted-there : (n i : ℕ) (xs : List SyncItem) → events_of_cell i (noted_of n xs) ≡ synced_in n i xs
   noted-there n i [] = refl
   noted-there n i (x ∷ xs) = elim (cases_true (x.due.cell == i)) [
-    | inl here ↦ rw here (ap (λ (l : List CellEvent). WasSynced n x.due.at x.ptr ∷ l) (noted-there n i xs))
+    | inl here ↦ rw here (ap (λ (l : List CellEvent). WasSynced n x.due.at x.ptr x.held ∷ l) (noted-there n i xs))
     | inr other ↦ rw other (noted-there n i xs)
   ]
 

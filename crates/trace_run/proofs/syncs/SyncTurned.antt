@@ -31,7 +31,7 @@ use Rattle.trace_run.specs.MadeLines.{made_of}
 use Rattle.trace_run.specs.dbufs.Objects.{Line, Nothing, Work}
 use Rattle.trace_run.specs.Openings.{Knows}
 use Rattle.trace_run.specs.RunWork.{IsInserted, IsSyncWork, IsSyncedNote, lines_of_caller, lines_of_feeder}
-use Rattle.trace_run.specs.Syncing.{HasDoneTo, IsInsert, SyncedJoined, SyncsJoined, comes_in, insert_of, inserts_in, inserts_noted, lines_of, noted_of, wants_memory}
+use Rattle.trace_run.specs.Syncing.{HasDoneTo, IsInsert, SyncedJoined, SyncsJoined, comes_in, insert_of, inserts_in, inserts_noted, lines_of, noted_of, wants_memory, AreHeldNew}
 use Rattle.trace_run.specs.callers.Groups.{StoodSo}
 use Rattle.trace_run.specs.callers.WorkLines.{noted_of_work}
 use Rattle.trace_run.proofs.callers.MeetLemmas.{starts-then}
@@ -46,7 +46,7 @@ sync_work n xs inserts = record { brought = Nothing; noted = noted_of n xs; acts
 module _ (g : Config) where
   notes-fit : (xs : List SyncItem) → AllByRecursion (λ x. IsCell g x.due.cell) xs → AllByRecursion (IsSyncedNote g) (noted_of g.callers xs)
   notes-fit [] inside = tt
-  notes-fit (x ∷ xs) inside = (record { at = x.due.at; ptr = x.ptr; is = refl; cell = inside.0 }, notes-fit xs inside.1)
+  notes-fit (x ∷ xs) inside = (record { at = x.due.at; ptr = x.ptr; held = x.held; is = refl; cell = inside.0 }, notes-fit xs inside.1)
 
   acts-fit : (es : List Event) → AllByRecursion (IsInsert g) es → AllByRecursion (IsInserted g) (acts_of_events es)
   acts-fit [] kinds = tt
@@ -104,6 +104,10 @@ module _ (cache : Cache) (tick : ℕ) (p : PartyPlace) (olds : List PartyPlace) 
 
   pub more-noted : (shard : ℕ) → more shard ≡ inserts_noted g tick work.noted shard (j.front shard)
   more-noted shard = sym (noted-inserts g tick g.callers xs shard (j.front shard))
+
+  -- each keeps a hold where its key was new
+  pub held-noted : p.number ≡ g.callers → (shard : ℕ) → AreHeldNew g tick work.noted shard (j.front shard)
+  held-noted feeder shard = subst (λ (n : ℕ). AreHeldNew g tick (noted_of n xs) shard (j.front shard)) feeder (j.held shard)
 
   pub more-acts : (shard i : ℕ) → IsCell g i → acts_in (shard_of g.shards) shard (cell_number g i) work.acts ≡ acts_of_events (with_number (cell_number g i) (more shard))
   more-acts shard i range = inserts-acts g shard (cell_number g i) j.inserts j.kinds ∙ ap (λ (es : List Event). acts_of_events (with_number (cell_number g i) es)) (j.are shard)
@@ -170,7 +174,7 @@ pub sync-of : {P : Type 0} (pools : Ghosts P) (cache : Cache) (group tick next :
     → wants_memory came ≡ false → SyncedJoined pools cache group tick next from to p olds q news came → SyncOf pools cache group tick next from to p olds q news came
 sync-of pools cache group tick next from to p olds q news (Ok done) fine w = record {
   cells = w.cells;
-  xs = items_from group next w.cells w.dues;
+  xs = items_from w.held group next w.cells w.dues;
   joined = w.turns;
   answers = λ So so. record {
     cells = w.cells;
@@ -178,6 +182,7 @@ sync-of pools cache group tick next from to p olds q news (Ok done) fine w = rec
     dirty = w.dirty;
     sized = w.sized;
     fits = w.fits;
+    held = w.held;
     turns = so;
     told = w.told;
     outside = w.outside;
@@ -189,7 +194,7 @@ sync-of pools cache group tick next from to p olds q news (Ok done) fine w = rec
 }
 sync-of pools cache group tick next from to p olds q news (Err fault.PoolFault) fine f = record {
   cells = f.stops.cells;
-  xs = items_from group next f.stops.cells f.stops.done;
+  xs = items_from f.stops.held group next f.stops.cells f.stops.done;
   joined = f.stops.turns;
   answers = λ So so. record {
     stops = record {
@@ -199,6 +204,7 @@ sync-of pools cache group tick next from to p olds q news (Err fault.PoolFault) 
       rest = f.stops.rest;
       dirty = f.stops.dirty;
       fits = f.stops.fits;
+      held = f.stops.held;
       turns = so;
       told = f.stops.told;
     };

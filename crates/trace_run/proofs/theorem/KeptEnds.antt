@@ -1,5 +1,5 @@
 -- What the cells of a run still kept at their ends, by the closed cells.
-use Rattle.std.proofs.Common.{◌≡◌, ℕ, suc, ◌+◌, ◌<◌, List, [], ◌∷◌, ◌++◌, length, map, Some, refl, sym, ap, ◌∙◌, subst, arith}
+use Rattle.std.proofs.Common.{◌≡◌, ℕ, suc, ◌+◌, ◌<◌, List, [], ◌∷◌, ◌++◌, length, map, Bool, false, Some, refl, sym, ap, ◌∙◌, subst, arith}
 use Rattle.std.specs.Prelude.{IsPermutation, slice_get, slice_index_or}
 use Rattle.std.proofs.lemmas.List.{map-append}
 use Rattle.std.proofs.lemmas.List.Sorted.{IsPermutation-refl}
@@ -14,12 +14,14 @@ use Rattle.arc_table.specs.Ended.{Ended}
 use Rattle.arc_table.specs.Fronts.{front_of}
 use Rattle.dbuf_cells.specs.Turns.{OnHeap}
 use Rattle.dbuf_state.specs.Numbers.{event_numbers, opening_numbers}
-use Rattle.dbuf_state.specs.Outline.{OutlineDbuf}
+use Rattle.dbuf_state.specs.Outline.{Outline, OutlineDbuf, outline_after}
 use Rattle.dbuf_state.specs.declared.event.CellEvent.{CellEvent}
 use Rattle.dbuf_state.specs.declared.event.CellEvent.TheVariants.{End}
+use Rattle.dbuf_state.specs.declared.oid.Oid.{Oid}
 use Rattle.dbuf_state.specs.declared.state.Mapping.{Mapping}
 use Rattle.trace_text.specs.declared.trace.Trace.{Trace}
 use Rattle.trace_run.specs.dbufs.CellEnds.{AreCellsOf, AreEndedSo, DropsKept, EndedSo, SeesEnd, SeesEnds}
+use Rattle.trace_run.specs.dbufs.Holders.{any_held}
 use Rattle.trace_run.specs.RunWork.{only_ended}
 use Rattle.trace_run.proofs.CellEnds.{opened-uncached}
 use Rattle.trace_run.proofs.CellLemmas.{only-end-left, opening-same}
@@ -33,6 +35,8 @@ module _ (g : Config) where
     front = [];
     history = is;
     kept = record {
+      held = λ at. false;
+      are_held = tt;
       kept = [];
       all = record {
         rising = λ k d low high. absurd (omega arith);
@@ -53,6 +57,10 @@ plain-kept trace closed are = none-kept trace.config 0 closed.cells
 
 -- ---- cells with any history
 
+-- whichever dbufs had a hold
+some-held : (g : Config) (i : ℕ) (o : Outline) (AreHeld : (Oid → Bool) → Type 0) (drops : List Event) → DropsKept g i o AreHeld drops → DropsKept g i o any_held drops
+some-held g i o AreHeld drops d = record { held = d.held; are_held = tt; kept = d.kept; all = d.all; dropped = d.dropped }
+
 module _ (openings : List (List ℕ)) (seen : List (List Line)) where
   -- all that was done to the cell was seen, and it began as the openings say
   pub record IsSeenWhole (i : ℕ) (cell : OnHeap) : Type 0 where
@@ -64,7 +72,7 @@ module _ (openings : List (List ℕ)) (seen : List (List Line)) where
     one-ended i cell drops whole e = record {
       front = h;
       history = entries-read cell.value.history (h ++ End g.callers ∷ []) (whole.entries ∙ (e.last ∙ sym both));
-      kept = subst (λ (x : ℕ × List Mapping). DropsKept g i x.0 x.1 h drops) (λ z. (same.0 z, same.1 z)) e.kept;
+      kept = subst (λ (x : ℕ × List Mapping). DropsKept g i (outline_after x.0 x.1 h) any_held drops) (λ z. (same.0 z, same.1 z)) (some-held g i _ _ drops e.kept);
     }
       where
         h : List CellEvent

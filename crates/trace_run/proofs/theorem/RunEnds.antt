@@ -39,7 +39,7 @@ use Rattle.trace_run.specs.declared.groups.Crew.{Crew}
 use Rattle.trace_run.specs.declared.kept_blocks.KeptBlock.{KeptBlock}
 use Rattle.trace_run.specs.Acts.{acts_of_drops}
 use Rattle.trace_run.specs.Answers.{AnswersAll}
-use Rattle.trace_run.specs.dbufs.CellEnds.{AreCellsOf, AreEndedSo, EndedCrew, done_by, end_entry, noted_ends}
+use Rattle.trace_run.specs.dbufs.CellEnds.{AreCellsOf, AreEndedSo, EndedCrew, SeesEnds, done_by, end_entry, noted_ends}
 use Rattle.trace_run.specs.Deeds.{HasToldAll, HasToldOthers, KeepsCells, Noted, acts_of_events, events_of_cell, events_there}
 use Rattle.trace_run.specs.Explaining.{BeginsWithEvents, EndsWith, Explain, drops_at_end}
 use Rattle.trace_run.specs.FeedEvents.{events_of_line, events_of_lines, feeds_behind}
@@ -377,13 +377,22 @@ module _ (cache : Cache) (valid : IsConfig cache.config) (restored : List Restor
     run-whole = crew-seen cache h.parties h.closing c stopped closed h.ends trace config noted knows-last many (λ n o at i range. (caller-tells n o at).entries i range)
         (acts_of_syncs g blocks work) (noted_of_syncs work) (subst (HasToldOthers g (acts_of_syncs g blocks work) (noted_of_syncs work)) (sym same-parties.1) gave.fed.told) feeder-noted
 
+    -- what they kept was given back as they were ended, one after the other
+    pub run-gives : SeesEnds g (openings_of trace) h.ended.last.own.seen g.callers 0 g.cells h.ended.ended.drops
+    run-gives = subst (λ (x : List (List ℕ) × ℕ). SeesEnds g x.0 c.last.own.seen x.1 0 g.cells c.ended.drops)
+        (λ z. ((ap (λ (p : PartyPlace). p.own.about.openings) same-parties.1 ∙ (gave.fed.knows ∙ knows)) z, (ap (λ (p : PartyPlace). p.number) same-parties.1 ∙ same-feeder-number) z)) c.ended.kept
+
+    pub run-last : (entries : ℕ → List Seen) → SeesEntries g entries crew.feeder → AllByRecursion (SeesEntries g entries) crew.parties.items → (i : ℕ) → IsCell g i → front_of i h.ended.last.own.seen ≡ entries i ++ end_entry g.callers i
+    run-last entries own rest i range =
+        let all = all-before (SeesEntries g entries) c.callers c.feeder (subst (AllByRecursion (SeesEntries g entries)) c.are (gave.same_cells entries own rest)) in
+        c.ended.same_cells entries all.1 all.0 i range ∙ ap (λ (n : ℕ). entries i ++ end_entry n i) (ap (λ (p : PartyPlace). p.number) same-parties.1 ∙ same-feeder-number)
+
     -- where all parties had seen the same of cells between the groups, behind it stand their ends, and nothing else
     pub run-entries : (entries : ℕ → List Seen) → SeesEntries g entries crew.feeder → AllByRecursion (SeesEntries g entries) crew.parties.items → (i : ℕ) (x : OnHeap) → get_elem? closed.cells i ≡ some x
         → map line.Entry (map event_numbers x.value.history) ≡ entries i ++ end_entry g.callers i
     run-entries entries own rest i x at =
-        let all = all-before (SeesEntries g entries) c.callers c.feeder (subst (AllByRecursion (SeesEntries g entries)) c.are (gave.same_cells entries own rest)) in
         let range : IsCell g i = subst (λ (k : ℕ). i < k) h.ends.cells (within closed.cells i x at) in
-        run-whole i x at ∙ (c.ended.same_cells entries all.1 all.0 i range ∙ ap (λ (n : ℕ). entries i ++ end_entry n i) (ap (λ (p : PartyPlace). p.number) same-parties.1 ∙ same-feeder-number))
+        run-whole i x at ∙ run-last entries own rest i range
 
     emptied : (j : ℕ) (x : OnHeap) → get_elem? closed.cells j ≡ some x → dbuf_meanings.holds x ≡ []
     emptied = all-empty cache h.closing closed h.ends trace noted run-cells

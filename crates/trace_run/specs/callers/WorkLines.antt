@@ -35,6 +35,7 @@ use Rattle.trace_run.specs.Effects.{Effect, Answered, calls_of, effect_of}
 use Rattle.trace_run.specs.KeptReads.{KeptRead}
 use Rattle.trace_run.specs.DeviceReads.{AsksFor, LineAsks, size_asked}
 use Rattle.trace_run.specs.Lines.{shard_of_line}
+use Rattle.trace_run.specs.dbufs.Holders.{AreHolders}
 use Rattle.trace_run.specs.dbufs.ObjectLines.{CameFrom, DidObjectLine, OnObject, TellsBrought, brought_there, cell_lines, events_of_bringing, on_object}
 use Rattle.trace_run.specs.dbufs.ObjectReplies.{ActsFor, AnswersFrom, AnswersObject, BringsAt, LooksFrom}
 use Rattle.trace_run.specs.dbufs.Objects.{Brought, GoesTogether, Line, Loaded, NotesNothing, NotesOwn, Nothing, OwnEvent, Refused, Work, acts_of_bringing, no_work, own_event}
@@ -125,7 +126,8 @@ AsksBrought devices g s Nothing reply old new = new ≡ old
 AsksBrought devices g s (Loaded ptr from) reply old new = Asks devices (s (shard_of g.shards ptr.key)) ptr (Answered from) old new
 AsksBrought devices g s (Refused ptr) reply old new = Asks devices (s (shard_of g.shards ptr.key)) ptr (effect_of reply) old new
 
--- What a line came to for a party that has every number. It found its block's cell with just what it had seen of it, and by that go what was brought, what the line did and what it was answered. The party has
+-- What a line came to for a party that has every number. It found its block's cell with just what it had seen of it, and by that go what was brought, what the line did and what it was answered. Which keys
+-- the cell holds, the shards tell, as they were behind the access. The party has
 -- seen in each shard just the events for what was brought, and then these more, which are the line's acts; and of each cell what the line did there. The device was asked by the shard.
 pub record DidAlone {P D : Type 0} (pools : PoolGhosts P) (devices : DeviceGhosts D) (g : Config) (before now : Outside P D) (p q : PartyPlace) (on : OnObject) (l : Line) : Type 0 where
   pub cell : OnHeap
@@ -134,7 +136,8 @@ pub record DidAlone {P D : Type 0} (pools : PoolGhosts P) (devices : DeviceGhost
   pub seen : cell_lines cell ≡ front_of (cell_of g.cells on.at) p.own.seen
   pub brought : BringsAt (pools.size before.pool) on.at (outline_after cell.value.limit cell.value.opening cell.value.history) l.work.brought
   pub found : CameFrom g p l.work.brought
-  pub acts : ActsFor g p.number (own_event l.op) (outline_after cell.value.limit cell.value.opening cell.value.history) l.work l.reply
+  pub acts : ActsFor g p.number (AreHolders cell.value.history)
+      (own_event l.op) (outline_after cell.value.limit cell.value.opening cell.value.history) l.work l.reply
   pub answer : AnswersObject (pools.size before.pool) (pools.told before.pool) cell.value.limit cell.value.opening cell.value.history l.work.brought l.op l.reply
   pub made : List Event
   pub kinds : AllByRecursion HasAct made

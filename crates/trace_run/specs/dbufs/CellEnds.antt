@@ -1,5 +1,5 @@
 -- How the cells of a run end: the feeder ends them, while all other parties have joined it. And what they come to.
-use Rattle.std.specs.Prelude.{◌≡◌, ℕ, zero, suc, ◌<◌, ◌≤◌, ◌==◌, List, [], ◌∷◌, ◌++◌, Some, filter, length, map, slice_get, slice_index_or}
+use Rattle.std.specs.Prelude.{◌≡◌, ℕ, Bool, zero, suc, ◌<◌, ◌≤◌, ◌==◌, List, [], ◌∷◌, ◌++◌, Some, filter, length, map, slice_get, slice_index_or}
 use Rattle.std.specs.List.{AllByRecursion}
 use Rattle.blk_ptr.specs.declared.key.Key.{Key}
 use Rattle.arc_core.specs.declared.config.Config.{Config}
@@ -21,13 +21,14 @@ use Rattle.dbuf_cells.specs.Turns.{OnHeap, PartyPlace}
 use Rattle.dbuf_state.specs.History.{IsHistory}
 use Rattle.dbuf_state.specs.Numbers.{event_numbers, number_of, opening_numbers}
 use Rattle.dbuf_state.specs.Objects.{PlainCell}
-use Rattle.dbuf_state.specs.Outline.{OutlineDbuf, outline_after}
+use Rattle.dbuf_state.specs.Outline.{Outline, OutlineDbuf, outline_after}
 use Rattle.dbuf_state.specs.declared.event.CellEvent.{CellEvent}
 use Rattle.dbuf_state.specs.declared.event.CellEvent.TheVariants.{End}
-use Rattle.dbuf_state.specs.declared.state.Mapping.{Mapping}
+use Rattle.dbuf_state.specs.declared.oid.Oid.{Oid}
 use Rattle.trace_text.specs.declared.trace.Trace.{Trace}
 use Rattle.trace_run.specs.Deeds.{HasToldOthers, Noted, acts_of_events, events_of_cell, events_there, KeepsCells}
 use Rattle.trace_run.specs.KeptBlocks.{Stands}
+use Rattle.trace_run.specs.dbufs.Holders.{AreHolders, any_held}
 use Rattle.trace_run.specs.Making.{AreEventsSeen, AreNoEntries}
 use Rattle.trace_run.specs.Meeting.{HasSettled, HaveParted, IsLevel, SeesEntries}
 use Rattle.trace_run.specs.Openings.{Knows, opening_map}
@@ -50,18 +51,20 @@ pub record IsCellDrop (g : Config) (e : Event) : Type 0 where
 
 -- ---- what cells kept at their ends
 
--- A cell that began so, and to which this had been done, was ended then: for all that its dbufs kept a hold was dropped, or there was none.
-pub record DropsKept (g : Config) (i limit : ℕ) (opening : List Mapping) (front : List CellEvent) (drops : List Event) : Type 0 where
+-- A cell of this outline was ended then: of all that its dbufs kept, each hold was dropped. Of the dbufs that had one this is so.
+pub record DropsKept (g : Config) (i : ℕ) (o : Outline) (AreHeld : (Oid → Bool) → Type 0) (drops : List Event) : Type 0 where
+  pub held : Oid → Bool
+  pub are_held : AreHeld held
   pub kept : List OutlineDbuf
-  pub all : AreAllCached (outline_after limit opening front) kept
-  pub dropped : DropsEach (cell_number g i) kept drops
+  pub all : AreAllCached o kept
+  pub dropped : DropsEach (cell_number g i) held kept drops
 
 -- The cell i was ended so by n, which has seen that as the last that was done to it.
 pub record SeesEnd (g : Config) (openings : List (List ℕ)) (seen : List (List Line)) (n i : ℕ) (drops : List Event) : Type 0 where
   pub before : OnHeap
   pub opening : opening_numbers before.value.limit before.value.opening ≡ slice_index_or openings i []
   pub last : front_of i seen ≡ map line.Entry (map event_numbers before.value.history) ++ end_entry n i
-  pub kept : DropsKept g i before.value.limit before.value.opening before.value.history drops
+  pub kept : DropsKept g i (outline_after before.value.limit before.value.opening before.value.history) (AreHolders before.value.history) drops
 
 -- so many cells were, from this one on, one after the other
 abbrev pub SeesEnds : Config → (openings : List (List ℕ)) → (seen : List (List Line)) → (n i count : ℕ) → List Event → Type 0
@@ -164,11 +167,11 @@ pub record AreCellsOf (trace : Trace) (noted : ℕ → List Noted) (closed : End
   pub count : length closed.cells ≡ trace.config.cells
   pub each : (i : ℕ) (cell : OnHeap) → slice_get closed.cells i ≡ Some cell → IsCellOf trace noted i cell
 
--- The cell was ended by the feeder, behind this front of its history, and for all that it kept a hold was dropped, or there was none.
+-- The cell was ended by the feeder, behind this front of its history, and of all that it kept each hold was dropped.
 pub record EndedSo (g : Config) (i : ℕ) (cell : OnHeap) (drops : List Event) : Type 0 where
   pub front : List CellEvent
   pub history : cell.value.history ≡ front ++ End g.callers ∷ []
-  pub kept : DropsKept g i cell.value.limit cell.value.opening front drops
+  pub kept : DropsKept g i (outline_after cell.value.limit cell.value.opening front) any_held drops
 
 -- What each of these cells still kept was given back as it was ended, by rising cells and Oids, from the cell i on; and nothing else was.
 abbrev pub AreEndedSo : Config → (i : ℕ) → List OnHeap → List Event → Type 0

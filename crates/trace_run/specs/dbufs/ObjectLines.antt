@@ -1,5 +1,5 @@
 -- What a caller's line on an object came to: how the block's cell was found, what was brought for the line, what it did, and why it was refused.
-use Rattle.std.specs.Prelude.{◌≡◌, ℕ, ◌+◌, ◌==◌, ◌≤◌, false, if◌then◌else◌, List, [], ◌∷◌, ◌++◌, length, map, slice_index_or, Option, Some, None, IfSome}
+use Rattle.std.specs.Prelude.{◌≡◌, ℕ, ◌+◌, ◌==◌, ◌≤◌, Bool, false, if◌then◌else◌, List, [], ◌∷◌, ◌++◌, length, map, slice_index_or, Option, Some, None, IfSome}
 use Rattle.blk_ptr.specs.declared.ptr.Ptr.{Ptr}
 use Rattle.blk_ptr.specs.declared.key.Key.{Key}
 use Rattle.blk_ptr.specs.Hash.{shard_of}
@@ -20,8 +20,8 @@ use Rattle.arc_table.specs.Geometry.{IsCell, cell_number}
 use Rattle.arc_table.specs.Reading.{Outside}
 use Rattle.arc_table.specs.Seen.{HasAll, seen_of}
 use Rattle.dbuf_cells.specs.Places.{cell_of}
-use Rattle.dbuf_cells.specs.Putting.{ReleasesAtMost}
-use Rattle.dbuf_cells.specs.Turns.{AreEvictions, OnHeap, PartyPlace, outline_in}
+use Rattle.dbuf_cells.specs.Putting.{Releases}
+use Rattle.dbuf_cells.specs.Turns.{AreEvictions, OnHeap, PartyPlace, held_in, outline_in}
 use Rattle.dbuf_state.specs.Answers.{IsAnswerAfter}
 use Rattle.dbuf_state.specs.Numbers.{event_numbers, opening_numbers}
 use Rattle.dbuf_state.specs.Outline.{Outline, after_all, has_pin_at, is_cached_at, mapped_at, mapped_size}
@@ -46,7 +46,8 @@ use Rattle.trace_run.specs.Deeds.{HasToldAll, KeepsCells, Noted, acts_of_events,
 use Rattle.trace_run.specs.DeviceReads.{AsksFor}
 use Rattle.trace_run.specs.Effects.{Effect, Answered, calls_of, effect_of}
 use Rattle.trace_run.specs.MadeLines.{made_of}
-use Rattle.trace_run.specs.dbufs.Objects.{AnswersKey, AnswersNoBlock, AnswersRange, Brought, Nothing, Loaded, Refused, acts_of_bringing, loads_of}
+use Rattle.trace_run.specs.dbufs.Holders.{AreHolders}
+use Rattle.trace_run.specs.dbufs.Objects.{AnswersKey, AnswersNoBlock, AnswersRange, Brought, Nothing, Loaded, Refused, acts_of_bringing, held_once, loads_of}
 use Rattle.trace_run.specs.one_caller.Access.{AsksPool, MayComeFrom, access_of, events_of_answered, events_of_refused, held_by_access}
 use Rattle.trace_run.specs.one_caller.Asking.{Asks}
 use Rattle.trace_run.specs.Read.{IsFromPool, TellsBlock}
@@ -118,17 +119,17 @@ brought_there shards shard Nothing es = []
 brought_there shards shard (Loaded ptr from) es = if shard_of shards ptr.key == shard then es else []
 brought_there shards shard (Refused ptr) es = if shard_of shards ptr.key == shard then es else []
 
--- Which blocks of the cell of the number c the operation itself let go: a put and a patch at most the one that they write over.
-abbrev pub ReleasesFor : (c : ℕ) → CellEvent → Outline → List Event → Type 0
-ReleasesFor c (events.Put n at size fill) o es = ReleasesAtMost c at o es
-ReleasesFor c (events.Patch n at from bytes) o es = ReleasesAtMost c at o es
-ReleasesFor c (events.Get n at) o es = es ≡ []
-ReleasesFor c (events.Pin n at) o es = es ≡ []
-ReleasesFor c (events.Unpin n at) o es = es ≡ []
-ReleasesFor c (events.Load n at) o es = es ≡ []
-ReleasesFor c (events.Evict n at) o es = es ≡ []
-ReleasesFor c (events.Synced n at ptr) o es = es ≡ []
-ReleasesFor c (events.End n) o es = es ≡ []
+-- Which holds of the cell of the number c the operation itself gave up, where these dbufs had one: a put and a patch that of the block that they write over.
+abbrev pub ReleasesFor : (c : ℕ) → (held : Oid → Bool) → CellEvent → Outline → List Event → Type 0
+ReleasesFor c held (events.Put n at size fill) o es = Releases c at (held at) o es
+ReleasesFor c held (events.Patch n at from bytes) o es = Releases c at (held at) o es
+ReleasesFor c held (events.Get n at) o es = es ≡ []
+ReleasesFor c held (events.Pin n at) o es = es ≡ []
+ReleasesFor c held (events.Unpin n at) o es = es ≡ []
+ReleasesFor c held (events.Load n at keeps) o es = es ≡ []
+ReleasesFor c held (events.Evict n at) o es = es ≡ []
+ReleasesFor c held (events.Synced n at ptr keeps) o es = es ≡ []
+ReleasesFor c held (events.End n) o es = es ≡ []
 
 -- ---- what a line did
 
@@ -169,19 +170,20 @@ module _ (g : Config) (at : Oid) (t : ℕ) (p q : PartyPlace) where
   abbrev pub its_number : ℕ
   its_number = cell_number g its_cell
 
-  -- The party did this to the block's cell, which it found so, right behind the Load if a block was brought. It let go what the operation writes over,
-  -- and then what was over the limit was evicted, each block with its drop. All that stands in the cell's history right behind what it found there.
+  -- The party did this to the block's cell, which it found so, right behind the Load if a block was brought. It gave up the hold of what the operation writes over,
+  -- and then what was over the limit was evicted, each block with the drop of its hold; where the dbuf had none, without. Which dbufs had a hold, the cell's history tells. All that stands in the cell's history right behind what it found there.
   pub record Did (own : CellEvent) (brought : Brought) (Fits : OnHeap → Type 0) : Type 0 where
     pub cell : OnHeap
     pub found : FindsCell g its_cell cell p q
     pub fits : Fits cell
     pub brings : IsBrought at (outline_in cell) brought
     pub released : List Event
-    pub releases : ReleasesFor its_number own (after_all (outline_in cell) (loads_of p.number at brought)) released
+    pub releases : ReleasesFor its_number (held_once at brought (held_in cell)) own (after_all (outline_in cell) (loads_of p.number at brought)) released
     pub evicted : List Oid
     pub drops : List Event
-    pub evictions : AreEvictions p.number its_number (after_all (outline_in cell) (loads_of p.number at brought ++ own ∷ [])) (map (events.Evict p.number) evicted) drops
+    pub evictions : AreEvictions p.number its_number (held_once at brought (held_in cell)) (after_all (outline_in cell) (loads_of p.number at brought ++ own ∷ [])) (map (events.Evict p.number) evicted) drops
     pub placed : StartsWith (front_of its_cell q.own.seen) (cell_lines cell ++ lines_of_cell its_cell (noted_in its_cell (loads_of p.number at brought ++ own ∷ map (events.Evict p.number) evicted)))
+    pub holders : AreHolders cell.value.history (held_in cell)
     pub work : DidWork g t its_number brought (released ++ drops) (noted_in its_cell (loads_of p.number at brought ++ own ∷ map (events.Evict p.number) evicted)) p q
 
   -- The line was refused for this cause, as the party found the block's cell. Nothing was done to cells, and what was tried to be brought, if anything was, was refused.

@@ -1,5 +1,5 @@
 -- What a line on an object may be answered and what it may do, by how the cell of its block stood when the line looked at it; and that a party found it so.
-use Rattle.std.specs.Prelude.{◌≡◌, ℕ, ◌+◌, false, List, [], ◌∷◌, ◌++◌, length, map, Option, Some, None, slice_index_or}
+use Rattle.std.specs.Prelude.{◌≡◌, ℕ, ◌+◌, Bool, false, List, [], ◌∷◌, ◌++◌, length, map, Option, Some, None, slice_index_or}
 use Rattle.blk_ptr.specs.declared.ptr.Ptr.{Ptr}
 use Rattle.blk_ptr.specs.Key.{IsValid}
 use Rattle.arc_core.specs.declared.config.Config.{Config}
@@ -26,9 +26,10 @@ use Rattle.trace_text.specs.declared.reply.Reply.{Reply}
 use Rattle.trace_text.specs.declared.reply.Reply.TheVariants as replies
 use Rattle.trace_run.specs.Answers.{IsReadRefusal}
 use Rattle.trace_run.specs.dbufs.CellEnds.{done_by}
+use Rattle.trace_run.specs.dbufs.Holders.{any_held}
 use Rattle.trace_run.specs.Deeds.{Noted, acts_of_events, events_of_cell, lines_of_cell, noted_in}
 use Rattle.trace_run.specs.dbufs.ObjectLines.{EndsInside, ReleasesFor, TellsBrought, WasToBring, cell_lines}
-use Rattle.trace_run.specs.dbufs.Objects.{AnswersKey, AnswersNoBlock, AnswersRange, Brought, Line, Loaded, NotesNothing, Nothing, OwnEvent, Refused, Work, loads_of, no_work, own_event}
+use Rattle.trace_run.specs.dbufs.Objects.{AnswersKey, AnswersNoBlock, AnswersRange, Brought, Line, Loaded, NotesNothing, Nothing, OwnEvent, Refused, Work, held_once, loads_of, no_work, own_event}
 
 -- over a pool of this length that may tell its bytes, by a cell with this limit and opening to which this had been done, and where this was brought for the line
 module _ (pool_len : ℕ) (image : Option (List ℕ)) (limit : ℕ) (opening : List Mapping) (front : List CellEvent) (brought : Brought) where
@@ -121,34 +122,36 @@ BringsAt pool_len at o Nothing = Unit {0}
 BringsAt pool_len at o (Loaded ptr from) = WasToBring at ptr o × IsValid pool_len ptr.key
 BringsAt pool_len at o (Refused ptr) = WasToBring at ptr o × IsValid pool_len ptr.key
 
--- What an answered line of n's did to its cell, which it found so, and with the cell's number: the operation let go what it writes over, and then each
--- evicted block was given back.
-pub record ActsAt (g : Config) (n : ℕ) (own : OwnEvent) (o : Outline) (work : Work) : Type 0 where
+-- What an answered line of n's did to its cell, which it found so, and with the cell's number. Of the dbufs that had a hold then this is so. The operation gave up the hold of what it writes over, and then
+-- that of each evicted block was given back; of a block without a hold there is nothing to give.
+pub record ActsAt (g : Config) (n : ℕ) (AreHeld : (Oid → Bool) → Type 0) (own : OwnEvent) (o : Outline) (work : Work) : Type 0 where
+  pub held : Oid → Bool
+  pub are_held : AreHeld held
   pub evictions : List Oid
   pub noted : work.noted ≡ noted_in (cell_of g.cells own.at) (loads_of n own.at work.brought ++ own.event ∷ map (events.Evict n) evictions)
   pub released : List Event
   pub drops : List Event
-  pub releases : ReleasesFor (cell_number g (cell_of g.cells own.at)) own.event (after_all o (loads_of n own.at work.brought)) released
-  pub evicted : AreEvictions n (cell_number g (cell_of g.cells own.at)) (after_all o (loads_of n own.at work.brought ++ own.event ∷ [])) (map (events.Evict n) evictions) drops
+  pub releases : ReleasesFor (cell_number g (cell_of g.cells own.at)) (held_once own.at work.brought held) own.event (after_all o (loads_of n own.at work.brought)) released
+  pub evicted : AreEvictions n (cell_number g (cell_of g.cells own.at)) (held_once own.at work.brought held) (after_all o (loads_of n own.at work.brought ++ own.event ∷ [])) (map (events.Evict n) evictions) drops
   pub acts : work.acts ≡ acts_of_events (released ++ drops)
 
 -- by its reply: a refused line did nothing there
-abbrev pub ActsBy : Config → (n : ℕ) → OwnEvent → Outline → Work → Reply → Type 0
-ActsBy g n own o work (replies.Got size shown) = ActsAt g n own o work
-ActsBy g n own o work replies.Done = ActsAt g n own o work
-ActsBy g n own o work (replies.Refused refusal) = NotesNothing work
-ActsBy g n own o work (replies.Read served digest shown) = ⊥
-ActsBy g n own o work (replies.Kept served) = ⊥
-ActsBy g n own o work replies.Dropped = ⊥
-ActsBy g n own o work (replies.Fed report) = ⊥
-ActsBy g n own o work replies.FedNone = ⊥
-ActsBy g n own o work (replies.Synced group blocks bytes) = ⊥
-ActsBy g n own o work (replies.Capped c) = ⊥
+abbrev pub ActsBy : Config → (n : ℕ) → ((Oid → Bool) → Type 0) → OwnEvent → Outline → Work → Reply → Type 0
+ActsBy g n AreHeld own o work (replies.Got size shown) = ActsAt g n AreHeld own o work
+ActsBy g n AreHeld own o work replies.Done = ActsAt g n AreHeld own o work
+ActsBy g n AreHeld own o work (replies.Refused refusal) = NotesNothing work
+ActsBy g n AreHeld own o work (replies.Read served digest shown) = ⊥
+ActsBy g n AreHeld own o work (replies.Kept served) = ⊥
+ActsBy g n AreHeld own o work replies.Dropped = ⊥
+ActsBy g n AreHeld own o work (replies.Fed report) = ⊥
+ActsBy g n AreHeld own o work replies.FedNone = ⊥
+ActsBy g n AreHeld own o work (replies.Synced group blocks bytes) = ⊥
+ActsBy g n AreHeld own o work (replies.Capped c) = ⊥
 
 -- by the line's own event
-abbrev pub ActsFor : Config → (n : ℕ) → Option OwnEvent → Outline → Work → Reply → Type 0
-ActsFor g n None o work reply = work ≡ no_work
-ActsFor g n (Some own) o work reply = ActsBy g n own o work reply
+abbrev pub ActsFor : Config → (n : ℕ) → ((Oid → Bool) → Type 0) → Option OwnEvent → Outline → Work → Reply → Type 0
+ActsFor g n AreHeld None o work reply = work ≡ no_work
+ActsFor g n AreHeld (Some own) o work reply = ActsBy g n AreHeld own o work reply
 
 -- The line of the caller n looked at the cell of its block, which was so, with the opening with which it began: the caller had done just this to it. By that front of the cell's
 -- history go what was brought for the line, what the line did and what it was answered. What is seen of the history goes on from there, with what the line did first. Where the pool gave
@@ -160,7 +163,7 @@ pub record AnswersFrom (g : Config) (pool_len : ℕ) (image : Option (List ℕ))
   pub mine : done_by n cell.value.history ≡ events_of_cell (cell_of g.cells at) had
   pub front : StartsWith (front_of (cell_of g.cells at) seen) (cell_lines cell ++ lines_of_cell (cell_of g.cells at) l.work.noted)
   pub brought : BringsAt pool_len at (outline_after cell.value.limit cell.value.opening cell.value.history) l.work.brought
-  pub acts : ActsFor g n (own_event l.op) (outline_after cell.value.limit cell.value.opening cell.value.history) l.work l.reply
+  pub acts : ActsFor g n any_held (own_event l.op) (outline_after cell.value.limit cell.value.opening cell.value.history) l.work l.reply
   pub answer : AnswersObject pool_len image cell.value.limit cell.value.opening cell.value.history l.work.brought l.op l.reply
   pub range : TellsBrought image l.work.brought
 

@@ -1,14 +1,16 @@
 -- Lines on objects: what was brought for one, what it did, and what it may be answered.
-use Rattle.std.specs.Prelude.{◌≡◌, ℕ, ◌<◌, List, [], ◌∷◌, ◌++◌, map, Option, Some, None}
+use Rattle.std.specs.Prelude.{◌≡◌, ℕ, ◌<◌, Bool, true, false, if◌then◌else◌, List, [], ◌∷◌, ◌++◌, map, Option, Some, None}
 use Rattle.std.specs.List.{AllByRecursion}
 use Rattle.blk_ptr.specs.declared.ptr.Ptr.{Ptr}
 use Rattle.blk_ptr.specs.Key.{IsFirstKeyFault}
 use Rattle.arc_core.specs.declared.config.Config.{Config}
 use Rattle.arc_core.specs.declared.served.Served.{Served}
+use Rattle.arc_core.specs.declared.served.Served.TheVariants as served
 use Rattle.arc_core.specs.Operations.{Act, Fails, Loads, actor_of}
 use Rattle.arc_table.specs.Geometry.{cell_number}
 use Rattle.dbuf_cells.specs.Places.{cell_of}
 use Rattle.dbuf_state.specs.Outline.{Outline, mapped_at, mapped_size}
+use Rattle.dbuf_state.specs.Oids.{oid_eq}
 use Rattle.dbuf_state.specs.declared.event.CellEvent.{CellEvent}
 use Rattle.dbuf_state.specs.declared.event.CellEvent.TheVariants as events
 use Rattle.dbuf_state.specs.declared.oid.Oid.{Oid}
@@ -132,11 +134,24 @@ own_event ops.Feed = None
 own_event (ops.Txg t) = None
 own_event (ops.Cap c) = None
 
+-- a block that was served from here comes with a hold; one that was read past the cache has none
+abbrev pub gives_hold : Served → Bool
+gives_hold served.Hit = true
+gives_hold served.Pool = true
+gives_hold served.L2 = true
+gives_hold served.Past = false
+
 -- a Load stands for a block that was brought
 abbrev pub loads_of : (n : ℕ) → Oid → Brought → List CellEvent
 loads_of n at Nothing = []
-loads_of n at (Loaded ptr from) = events.Load n at ∷ []
+loads_of n at (Loaded ptr from) = events.Load n at (gives_hold from) ∷ []
 loads_of n at (Refused ptr) = []
+
+-- which dbufs of a cell have a hold once the block was brought for the Oid of a line, where these had one before
+abbrev pub held_once : Oid → Brought → (Oid → Bool) → Oid → Bool
+held_once at Nothing held b = held b
+held_once at (Loaded ptr from) held b = if oid_eq at b then gives_hold from else held b
+held_once at (Refused ptr) held b = held b
 
 -- what is done to the cell of an answered line: the Load, the operation's own event right behind it, and evictions
 pub record NotesOwn (g : Config) (n : ℕ) (own : OwnEvent) (work : Work) : Type 0 where

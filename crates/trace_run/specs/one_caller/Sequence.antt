@@ -1,6 +1,6 @@
 -- One caller's lines in sequence: what each finds of the shards, of the cells, of the pool and of the cache device, and what it leaves of them (arc_read, dmu_read, dmu_write, spa_sync and
 -- l2arc_feed_thread, for a single thread). Each finds all that the lines before it did, and nothing else.
-use Rattle.std.specs.Prelude.{◌≡◌, ◌≢◌, ℕ, suc, List, [], ◌∷◌, ◌++◌, Option, None, Some, IfSome, length, map, slice_get}
+use Rattle.std.specs.Prelude.{◌≡◌, ◌≢◌, ℕ, zero, suc, List, [], ◌∷◌, ◌++◌, Option, None, Some, IfSome, length, map, slice_get}
 use Rattle.std.specs.List.{AllByRecursion, range_with_len}
 use Rattle.blk_ptr.specs.Hash.{shard_of}
 use Rattle.arc_core.specs.PlainShard.{PlainShard}
@@ -44,13 +44,15 @@ use Rattle.trace_run.specs.KeptBlocks.{held_in_shard}
 use Rattle.trace_run.specs.KeptReads.{KeptRead}
 use Rattle.trace_run.specs.Lines.{caller_of, shard_of_line}
 use Rattle.trace_run.specs.Meeting.{resizes_in}
+use Rattle.trace_run.specs.dbufs.CellEnds.{DropsKept}
+use Rattle.trace_run.specs.dbufs.Holders.{AreHolders}
 use Rattle.trace_run.specs.dbufs.ObjectLines.{OnObject, TellsBrought, brought_there, events_of_bringing, on_object}
 use Rattle.trace_run.specs.dbufs.ObjectReplies.{ActsFor, AnswersObject, BringsAt}
 use Rattle.trace_run.specs.dbufs.Objects.{Brought, Line, Loaded, Nothing, Refused, Work, no_work, own_event}
 use Rattle.trace_run.specs.Openings.{opening_map}
 use Rattle.trace_run.specs.Reads.{CameFromPool}
 use Rattle.trace_run.specs.Restores.{restores_in}
-use Rattle.trace_run.specs.Syncing.{inserts_noted, noted_of}
+use Rattle.trace_run.specs.Syncing.{AreHeldNew, inserts_noted, noted_of}
 use Rattle.trace_run.specs.Tally.{AnswersNow}
 use Rattle.trace_run.specs.callers.Together.{BetweenGroups, OfCells, StopsSync, SyncsGroup, between_groups}
 use Rattle.trace_run.specs.callers.WorkLines.{AsksBrought, calls_of_lines, effect_with}
@@ -137,6 +139,8 @@ TheseCells trace from before tick work cells xs = TakesCells trace from work cel
 -- what a sync's work makes of shards and cells, whatever it came to
 pub record LeavesSynced {P D : Type 0} (g : Config) (t : ℕ) (work : Work) (from to : BetweenLines P D) : Type 0 where
   pub goes_on : GoesOn g (λ shard. inserts_noted g t work.noted shard (from.shards shard)) work.noted from to
+  -- a block keeps a hold where its key was new
+  pub held : (shard : ℕ) → AreHeldNew g t work.noted shard (from.shards shard)
   pub device : to.device ≡ from.device
   pub kept : to.kept ≡ from.kept
 
@@ -161,7 +165,7 @@ module _ {P D : Type 0} (pools : Ghosts P) (devices : Devices D) (trace : Trace)
     pub brought : BringsAt (pools.size from.outside.pool) at (outline_behind trace from.cells (cell_of trace.config.cells at)) l.work.brought
     pub found : IsFoundIn trace.config (shard_behind trace.config from.shards) l.work.brought
     pub range : TellsBrought (pools.told from.outside.pool) l.work.brought
-    pub acts : ActsFor trace.config 0 (own_event l.op) (outline_behind trace from.cells (cell_of trace.config.cells at)) l.work l.reply
+    pub acts : ActsFor trace.config 0 (AreHolders (from.cells (cell_of trace.config.cells at))) (own_event l.op) (outline_behind trace from.cells (cell_of trace.config.cells at)) l.work l.reply
     pub answer : AnswersObject (pools.size from.outside.pool) (pools.told from.outside.pool) trace.config.dbuf_bytes (opening_map trace (cell_of trace.config.cells at)) (from.cells (cell_of trace.config.cells at)) l.work.brought l.op l.reply
     pub made : List Event
     pub kinds : AllByRecursion HasAct made
@@ -246,7 +250,14 @@ module _ {P D : Type 0} (pools : Ghosts P) (devices : Devices D) (trace : Trace)
 
 -- ---- the close
 
+-- Of so many cells, to which this was done, from the cell i on, each hold was dropped, of one cell after the other.
+abbrev pub GivesAllKept : Trace → (cells : ℕ → List CellEvent) → (i count : ℕ) → List Event → Type 0
+GivesAllKept trace cells i zero es = es ≡ []
+GivesAllKept trace cells i (suc count) es = (drops : List Event) × (rest : List Event) × (es ≡ drops ++ rest) × DropsKept trace.config i (outline_behind trace cells i) (AreHolders (cells i)) drops
+    × GivesAllKept trace cells (suc i) count rest
+
 -- Behind them the caller's kept reads are dropped, the oldest first, and then what cells keep, which are these drops; then each cell is ended. That is all of the histories.
 pub record ClosesThere {P D : Type 0} (trace : Trace) (at : BetweenLines P D) (ended : List Event) (closed : List OnHeap) (histories : List (List Event)) : Type 0 where
   pub shards : histories ≡ map (λ (shard : ℕ). (at.shards shard ++ events_of_drops 0 (held_in_shard trace.config shard at.kept)) ++ events_there trace.config shard ended) (range_with_len 0 trace.config.shards)
+  pub gives : GivesAllKept trace at.cells 0 trace.config.cells ended
   pub cells : (i : ℕ) (cell : OnHeap) → slice_get closed i ≡ Some cell → cell.value.history ≡ at.cells i ++ End trace.config.callers ∷ []

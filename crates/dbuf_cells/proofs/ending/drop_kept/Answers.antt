@@ -1,4 +1,5 @@
 use Rattle.std.proofs.Common.{refl, ◌∙◌}
+use Rattle.dbuf_cells.proofs.Holders.{none-held}
 use Rattle.dbuf_cells.proofs.ending.drop_kept.Goals as goal
 
 pub loop-at-init : goal.loop-at-init
@@ -14,3 +15,6 @@ loop-at-preserved g c =
       empties = λ p before h. e.empties p before (i.empties p before h);
       room = e.room ∙ i.room;
     }
+
+pub returns-clause-loose : goal.returns-clause-loose
+returns-clause-loose g c = none-held c.loop-at.cell.dbufs c.told.ensures.fit c.in_default.ensures

@@ -70,7 +70,7 @@ give-requires-2 g c =
     let b = begins-ending c.args.arcs.now c.args.i c.args.party.now k.result c.deref_mut-2.result.now k.new.party k.ensures.begins (subst (λ (x : CellLog Kept). IsRoomier k.result.value x) (sym c.deref_mut-2.ensures.value) log) in
     let e = c.drop_kept.ensures.empties c.args.party.now k.result b in
     let is = c.note.ensures ∙ ap (noted (End c.number-n.result)) (c.deref_mut-4.ensures.value ∙ (c.empty.ensures ∙ ap (λ (x : CellLog Kept). record x { dbufs = map cleared x.dbufs }) c.deref_mut-3.ensures.value)) in
-    ended-gives c.args.arcs.now c.args.i c.args.party.now k.result c.drop_kept.new.cell c.note.new.self c.drop_kept.new.party e c.number-n.result (c.number-n.ensures ∙ (k.ensures.begins.hand.party.number ∙ sym e.party.number)) is
+    ended-gives c.args.arcs.now c.args.i c.args.party.now k.result c.drop_kept.new.cell c.note.new.self c.drop_kept.new.party e c.number-n.result (c.number-n.ensures ∙ (k.ensures.begins.hand.party.number ∙ sym e.party.number)) is c.drop_kept.ensures.loose
 
 pub returns-clause-ok : goal.returns-clause-ok
 returns-clause-ok g c =
@@ -81,8 +81,8 @@ returns-clause-ok g c =
     let is = c.note.ensures ∙ ap (noted (End c.number-n.result)) (c.deref_mut-4.ensures.value ∙ (c.empty.ensures ∙ ap (λ (x : CellLog Kept). record x { dbufs = map cleared x.dbufs }) c.deref_mut-3.ensures.value)) in
     let who = c.number-n.ensures ∙ (k.ensures.begins.hand.party.number ∙ sym e.party.number) in
     let given = c.give-2.ensures.gives c.args.party.now k.result Never (End c.drop_kept.new.party.number ∷ []) e.es refl
-    (ended-hand c.args.arcs.now c.args.i c.args.party.now k.result c.drop_kept.new.cell c.note.new.self c.drop_kept.new.party e c.number-n.result who is) in
-    ends-cell c.args.arcs.now c.args.i c.args.party.now k.result c.drop_kept.new.cell c.note.new.self c.drop_kept.new.party e c.number-n.result who is c.give-2.new.party given c.drop_kept.ensures.none
+    (ended-hand c.args.arcs.now c.args.i c.args.party.now k.result c.drop_kept.new.cell c.note.new.self c.drop_kept.new.party e c.number-n.result who is c.drop_kept.ensures.loose) in
+    ends-cell c.args.arcs.now c.args.i c.args.party.now k.result c.drop_kept.new.cell c.note.new.self c.drop_kept.new.party e c.number-n.result who is c.drop_kept.ensures.loose c.give-2.new.party given c.drop_kept.ensures.none
 
 pub returns-clause-party : goal.returns-clause-party
 returns-clause-party g c =
@@ -93,7 +93,7 @@ returns-clause-party g c =
     let is = c.note.ensures ∙ ap (noted (End c.number-n.result)) (c.deref_mut-4.ensures.value ∙ (c.empty.ensures ∙ ap (λ (x : CellLog Kept). record x { dbufs = map cleared x.dbufs }) c.deref_mut-3.ensures.value)) in
     let who = c.number-n.ensures ∙ (k.ensures.begins.hand.party.number ∙ sym e.party.number) in
     (c.give-2.ensures.gives c.args.party.now k.result Never (End c.drop_kept.new.party.number ∷ []) e.es refl
-    (ended-hand c.args.arcs.now c.args.i c.args.party.now k.result c.drop_kept.new.cell c.note.new.self c.drop_kept.new.party e c.number-n.result who is)).party
+    (ended-hand c.args.arcs.now c.args.i c.args.party.now k.result c.drop_kept.new.cell c.note.new.self c.drop_kept.new.party e c.number-n.result who is c.drop_kept.ensures.loose)).party
 
 pub returns-clause-free : goal.returns-clause-free
 returns-clause-free g c =
@@ -104,7 +104,7 @@ returns-clause-free g c =
     let is = c.note.ensures ∙ ap (noted (End c.number-n.result)) (c.deref_mut-4.ensures.value ∙ (c.empty.ensures ∙ ap (λ (x : CellLog Kept). record x { dbufs = map cleared x.dbufs }) c.deref_mut-3.ensures.value)) in
     let who = c.number-n.ensures ∙ (k.ensures.begins.hand.party.number ∙ sym e.party.number) in
     (c.give-2.ensures.gives c.args.party.now k.result Never (End c.drop_kept.new.party.number ∷ []) e.es refl
-    (ended-hand c.args.arcs.now c.args.i c.args.party.now k.result c.drop_kept.new.cell c.note.new.self c.drop_kept.new.party e c.number-n.result who is)).held ∙ c.requires.free
+    (ended-hand c.args.arcs.now c.args.i c.args.party.now k.result c.drop_kept.new.cell c.note.new.self c.drop_kept.new.party e c.number-n.result who is c.drop_kept.ensures.loose)).held ∙ c.requires.free
 
 pub returns-clause-claims : goal.returns-clause-claims
 returns-clause-claims g c =
@@ -115,10 +115,10 @@ returns-clause-claims g c =
     let is = c.note.ensures ∙ ap (noted (End c.number-n.result)) (c.deref_mut-4.ensures.value ∙ (c.empty.ensures ∙ ap (λ (x : CellLog Kept). record x { dbufs = map cleared x.dbufs }) c.deref_mut-3.ensures.value)) in
     let who = c.number-n.ensures ∙ (k.ensures.begins.hand.party.number ∙ sym e.party.number) in
     let given = c.give-2.ensures.gives c.args.party.now k.result Never (End c.drop_kept.new.party.number ∷ []) e.es refl
-    (ended-hand c.args.arcs.now c.args.i c.args.party.now k.result c.drop_kept.new.cell c.note.new.self c.drop_kept.new.party e c.number-n.result who is) in
+    (ended-hand c.args.arcs.now c.args.i c.args.party.now k.result c.drop_kept.new.cell c.note.new.self c.drop_kept.new.party e c.number-n.result who is c.drop_kept.ensures.loose) in
     claims-through c.args.i k.new.party.number c.give-2.new.party.number k.result.value.dbufs c.note.new.self.dbufs c.args.party.now c.give-2.new.party k.ensures.claims c.give-2.ensures.claims
     (given.number ∙ sym k.ensures.begins.hand.party.number)
-    (ended-claims c.args.arcs.now c.args.i c.args.party.now k.result c.drop_kept.new.cell c.note.new.self c.drop_kept.new.party e c.number-n.result who is) given.others
+    (ended-claims c.args.arcs.now c.args.i c.args.party.now k.result c.drop_kept.new.cell c.note.new.self c.drop_kept.new.party e c.number-n.result who is c.drop_kept.ensures.loose) given.others
 
 pub returns-in-Err-clause-number : goal.returns-in-Err-clause-number
 returns-in-Err-clause-number g c =
@@ -136,4 +136,4 @@ returns-clause-number g c =
     let is = c.note.ensures ∙ ap (noted (End c.number-n.result)) (c.deref_mut-4.ensures.value ∙ (c.empty.ensures ∙ ap (λ (x : CellLog Kept). record x { dbufs = map cleared x.dbufs }) c.deref_mut-3.ensures.value)) in
     let who = c.number-n.ensures ∙ (k.ensures.begins.hand.party.number ∙ sym e.party.number) in
     (c.give-2.ensures.gives c.args.party.now k.result Never (End c.drop_kept.new.party.number ∷ []) e.es refl
-    (ended-hand c.args.arcs.now c.args.i c.args.party.now k.result c.drop_kept.new.cell c.note.new.self c.drop_kept.new.party e c.number-n.result who is)).number
+    (ended-hand c.args.arcs.now c.args.i c.args.party.now k.result c.drop_kept.new.cell c.note.new.self c.drop_kept.new.party e c.number-n.result who is c.drop_kept.ensures.loose)).number

@@ -48,7 +48,7 @@ pub returns-in-Ok : goal.returns-in-Ok
 returns-in-Ok g c =
     let k = c.retake-cell in
     ends-kept c.args.arcs.now c.args.i c.args.at c.args.ptr.now c.args.read c.args.party.now k.result k.new.party c.deref_mut.result.now c.deref_mut.ensures.value k.ensures.begins k.ensures.reading k.ensures.claimed
-    _ c.keep_read.new.party c.in-Ok.ensures.ok c.keep_read.ensures.unclaimed
+    _ c.keep_read.new.party c.in-Ok.ensures.ok c.keep_read.ensures.unclaimed c.in-Ok.ensures.held
 
 pub returns-in-Err : goal.returns-in-Err
 returns-in-Err g c =

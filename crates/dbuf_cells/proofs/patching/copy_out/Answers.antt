@@ -1,13 +1,13 @@
-use Rattle.std.proofs.Common.{length, sym, ap, ◌∙◌, subst}
+use Rattle.std.proofs.Common.{◌≡◌, false, length, refl, sym, ap, ◌∙◌, subst}
 use Rattle.std.proofs.lemmas.Bool.{false≢true}
 use Rattle.blk_ptr.specs.Size.{IsBlockSize}
 use Rattle.dbuf_state.specs.CellLog.{CellLog}
-use Rattle.dbuf_state.specs.Dbufs.{DbufHas, IsOfContent, cached_with, dbuf_at, dbuf_is, dbuf_oid, is_clean_in, is_evicting, may_dirty, with_dbuf}
+use Rattle.dbuf_state.specs.Dbufs.{DbufHas, IsOfContent, cached_with, dbuf_at, dbuf_is, dbuf_oid, is_cached, is_clean_in, is_evicting, may_dirty, with_dbuf}
 use Rattle.dbuf_state.specs.Oids.{has_item}
 use Rattle.dbuf_cells.specs.Kept.{bytes_of, key_of}
 use Rattle.dbuf_cells.specs.declared.kept.Kept.{Kept}
-use Rattle.dbuf_cells.proofs.Copies.{block-sized, put-back, taken-over, unkept-evicting, unkept-of, unkept-there}
-use Rattle.dbuf_cells.proofs.PutSteps.{may-write-out}
+use Rattle.dbuf_cells.proofs.Copies.{block-sized, dirty-else, put-back, taken-over, unkept-evicting, unkept-of, unkept-there}
+use Rattle.dbuf_cells.proofs.PutSteps.{may-write-out, none-held}
 use Rattle.dbuf_cells.proofs.patching.copy_out.Goals as goal
 
 pub dirty_with-requires-clause-free : goal.dirty_with-requires-clause-free
@@ -29,6 +29,19 @@ rekeep-requires-clause-of c =
     subst (λ (x : CellLog Kept). DbufHas (λ d. IsOfContent key_of bytes_of c.unkeep-kept.result d.content) (dbuf_at c.args.at x.dbufs)) (sym c.unkeep-kept.ensures.dbufs)
     (unkept-of c.unkeep-kept.result c.args.at c.args.cell.now.dbufs c.unkeep-kept.ensures.of)
 
+pub returns-then-not-is_kept-clause-ok : goal.returns-then-not-is_kept-clause-ok
+returns-then-not-is_kept-clause-ok c =
+    let none : dbuf_is (is_clean_in is_cached) c.args.at c.args.cell.now.dbufs ≡ false = sym c.is_kept.ensures ∙ c.if-not-is_kept.true in
+    record {
+      taken = tt;
+      cached = tt;
+      there = tt;
+      of = tt;
+      same = refl;
+      dirty = dirty-else c.args.at c.args.cell.now.dbufs c.requires.cached none;
+      loose = none-held c.args.at c.args.cell.now.dbufs c.told.ensures.fit none;
+    }
+
 pub returns-in-Ok-clause-ok : goal.returns-in-Ok-clause-ok
 returns-in-Ok-clause-ok c = record {
   taken = taken-over c.unkeep-kept.result c.args.at c.args.cell.now c.unkeep-kept.new.self c.dirty_with.new.self c.in-Ok.bytes.items _ c.unkeep-kept.ensures.of c.unkeep-kept.ensures.dbufs c.in-Ok.ensures c.dirty_with.ensures;
@@ -37,6 +50,7 @@ returns-in-Ok-clause-ok c = record {
   of = c.unkeep-kept.ensures.of;
   same = tt;
   dirty = tt;
+  loose = tt;
 }
 
 pub returns-in-Err-clause-err : goal.returns-in-Err-clause-err

@@ -3,7 +3,7 @@ use Rattle.std.specs.Prelude.{[], ◌∷◌}
 use Rattle.dbuf_state.specs.declared.event.CellEvent.TheVariants.{Unpin}
 use Rattle.dbuf_state.specs.CellLog.{CellLog}
 use Rattle.dbuf_cells.specs.InHand.{IsNotUnpinned, IsRoomier, IsUnpinned}
-use Rattle.dbuf_cells.specs.Turns.{OnHeap, Operates, PartyPlace}
+use Rattle.dbuf_cells.specs.Turns.{OnHeap, Operates, PartyPlace, held_in}
 use Rattle.dbuf_cells.specs.Unholding.{NotUnholds}
 use Rattle.dbuf_cells.specs.declared.kept.Kept.{Kept}
 use Rattle.dbuf_cells.proofs.Claims.{rest-claims, roomy-claims}
@@ -31,7 +31,7 @@ returns-in-Ok-clause-answer g c =
     let k = c.take_at_rest-cell in
     let is = subst (λ (x : CellLog Kept). IsUnpinned c.number-n.result c.args.at x c.unpin.new.cell) c.deref_mut.ensures.value c.in-Ok.ensures.ok in
     once-at-rest c.args.arcs.now c.cell_of-i.result c.args.at c.args.party.now c.requires.party k.new.party c.finish.new.party k.result
-    (λ (j : ℕ) (b : OnHeap) (r s : PartyPlace). Operates c.args.arcs.now.config j b (Unpin r.number c.args.at ∷ []) [] r s) c.cell_of-i.ensures.cell k.ensures
+    (λ (j : ℕ) (b : OnHeap) (r s : PartyPlace). Operates c.args.arcs.now.config j b (held_in b) (Unpin r.number c.args.at ∷ []) [] r s) c.cell_of-i.ensures.cell k.ensures
     (unpin-operates c.args.arcs.now c.cell_of-i.result c.args.at c.args.party.now k.result k.new.party k.ensures c.number-n.result c.number-n.ensures c.unpin.new.cell c.finish.new.party is c.finish.ensures.finishes)
 
 pub returns-in-Ok-clause-party : goal.returns-in-Ok-clause-party
