@@ -27,13 +27,13 @@ use Rattle.trace_run.specs.declared.groups.Crew.{Crew}
 use Rattle.trace_run.specs.declared.kept_blocks.KeptBlock.{KeptBlock}
 use Rattle.trace_run.specs.declared.ran.Ending.{Ending}
 use Rattle.trace_run.specs.declared.ran.Ending.TheVariants.{Fork, Full, Sync, Whole}
-use Rattle.trace_run.specs.Deeds.{events_of_cell}
+use Rattle.trace_run.specs.Deeds.{Noted, events_of_cell}
 use Rattle.trace_run.specs.KeptBlocks.{read_of}
 use Rattle.trace_run.specs.Meeting.{Resized, SeesEntries, resizes_in}
 use Rattle.trace_run.specs.dbufs.Objects.{Line, Work}
 use Rattle.trace_run.specs.Openings.{Knows, opening_map, openings_of}
 use Rattle.trace_run.specs.RunWork.{RunWork}
-use Rattle.trace_run.specs.Syncing.{SyncsJoined, inserts_in, inserts_noted, lines_of, noted_of}
+use Rattle.trace_run.specs.Syncing.{SyncsJoined, inserts_in, inserts_noted, lines_of, noted_of, AreHeldNew}
 use Rattle.trace_run.specs.callers.Groups.{DidCap}
 use Rattle.trace_run.specs.callers.Together.{BetweenGroups, StoppedAt, StopsSync, SyncsGroup, between_groups}
 use Rattle.trace_run.specs.one_caller.InTurn.{GoInSequence, IsOfTrace, StandAt}
@@ -139,7 +139,14 @@ module _ {P D : Type 0} (trace : Trace) (cache : Cache) (config : cache.config �
     }
 
     synced-leaves : (pool : BetweenGroups P) → LeavesSynced trace.config t work at (synced pool)
-    synced-leaves pool = record { goes_on = record { shards = λ shard. refl; cells = λ i in_range. refl }; device = refl; kept = refl }
+    synced-leaves pool = record {
+      goes_on = record { shards = λ shard. refl; cells = λ i in_range. refl };
+      held = λ shard.
+          let noted : noted_of old.feeder.number xs ≡ work.noted = ap (λ (n : ℕ). noted_of n xs) these.number ∙ sym these.noted in
+          subst (λ (y : Config × List Noted × List Event). AreHeldNew y.0 t y.1 shard y.2) (λ i. (config i, noted i, front shard i)) (j.held shard);
+      device = refl;
+      kept = refl;
+    }
 
     takes : TakesCells trace at.cells work these.cells xs
     takes = record {
