@@ -162,10 +162,10 @@ step-used owner c (Put n at size fill) base legal all =
 step-used owner c (Patch n at from bytes) base legal all = (owned owner (c.events + 1) at, use-changed owner c.events at (with_block (λ _. Dirty (patched from bytes base))) (λ d. refl) c.dbufs all)
 step-used owner c (Pin n at) base legal all = (owned owner (c.events + 1) at, use-changed owner c.events at (with_pins (pinned n)) (λ d. refl) c.dbufs all)
 step-used owner c (Unpin n at) base legal all = (owned owner (c.events + 1) at, use-changed owner c.events at (with_pins (unpinned n)) (λ d. refl) c.dbufs all)
-step-used owner c (Load n at) base legal all = (owned owner (c.events + 1) at, use-changed owner c.events at (with_block loaded) (λ d. refl) c.dbufs all)
+step-used owner c (Load n at keeps) base legal all = (owned owner (c.events + 1) at, use-changed owner c.events at (with_block loaded) (λ d. refl) c.dbufs all)
 step-used owner c (Evict n at) base legal all =
     (owner, changed-all (IsUsedBy owner c.events) (IsUsedBy owner (c.events + 1)) at (with_block evicted) c.dbufs (stays-used owner c.events) (λ d found its u. lets-go owner c.events d u) all)
-step-used owner c (Synced n at ptr) base legal all =
+step-used owner c (Synced n at ptr keeps) base legal all =
     (owner, changed-all (IsUsedBy owner c.events) (IsUsedBy owner (c.events + 1)) at (with_block (λ _. Cached ptr)) c.dbufs (stays-used owner c.events) now all)
   where
     now : (d : PlainDbuf) → item_at dbuf_oid at c.dbufs ≡ Some d → oid_eq at d.at ≡ true → IsUsedBy owner c.events d → IsUsedBy owner (c.events + 1) (with_block (λ _. Cached ptr) d)

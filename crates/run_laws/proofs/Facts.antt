@@ -45,8 +45,8 @@ is_eviction (events.Put n at size fill) = false
 is_eviction (events.Patch n at from bytes) = false
 is_eviction (events.Pin n at) = false
 is_eviction (events.Unpin n at) = false
-is_eviction (events.Load n at) = false
-is_eviction (events.Synced n at ptr) = false
+is_eviction (events.Load n at keeps) = false
+is_eviction (events.Synced n at ptr keeps) = false
 is_eviction (events.End n) = false
 
 module _ {P D : Type 0} (pools : Ghosts P) (devices : Devices D) (trace : Trace) where

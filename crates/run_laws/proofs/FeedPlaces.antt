@@ -4,7 +4,7 @@ use Rattle.std.proofs.Common.{◌≡◌, ◌≢◌, ◌⊎◌, ◌++◌, ℕ, ze
 use Rattle.std.specs.Prelude.{◌==◌, if◌then◌else◌}
 use Rattle.std.specs.List.{filter}
 use Rattle.std.specs.Option.{option_and_then, option_map_or}
-use Rattle.std.proofs.lemmas.Bool.{cases_Bool, false≢true}
+use Rattle.std.proofs.lemmas.Bool.{and_parts, cases_Bool, false≢true}
 use Rattle.blk_ptr.specs.Hash.{shard_of}
 use Rattle.blk_ptr.specs.Order.{key_eq}
 use Rattle.blk_ptr.specs.declared.key.Key.{Key}
@@ -20,7 +20,6 @@ use Rattle.arc_core.specs.Step.{after, legal}
 use Rattle.arc_core.proofs.Others.{own-entry}
 use Rattle.arc_core.proofs.Places.{taking-places}
 use Rattle.arc_core.proofs.Stepping.{prefix-legal, replay-append}
-use Rattle.arc_lists.proofs.Standing.{and_left}
 use Rattle.arc_table.specs.feeder.Feeding.{has_place}
 use Rattle.l2_ring.specs.declared.live.Live.{Live}
 use Rattle.l2_ring.specs.declared.live.Written.{Written}
@@ -135,7 +134,7 @@ module _ (g : Config) (n : ℕ) (k : Key) where
 
       go : (b : Bool) → (shard_of g.shards j == sh) ≡ b → IsTrue (is_legal_history (s sh) (if b then (event.Set n j y ∷ []) else [])) → place_of k (replay (s sh) (if b then (event.Set n j y ∷ []) else [])) ≡ Some x
           → (place_in s ≡ Some x) ⊎ (Placed j y ≡ Placed k x)
-      go true is ok there = set-here (and_left (legal (s sh) (event.Set n j y)) true ok) there
+      go true is ok there = set-here (and_parts (legal (s sh) (event.Set n j y)) true ok).0 there
       go false is ok there = inl there
 
   act-takes : (s : ℕ → PlainShard) (act : Act) (acts : List Act) → MayDo s (act ∷ acts) → (x : ℕ) → place_in (shards_after g n s act) ≡ Some x → (place_in s ≡ Some x) ⊎ (act ≡ Placed k x)
@@ -152,7 +151,7 @@ module _ (g : Config) (n : ℕ) (k : Key) where
   clear-gone s y acts may x at =
       let its : (sh == sh) ≡ true = eq-eqb sh sh refl in
       let ok : IsTrue (is_legal_history (s sh) (event.Clear n k ∷ [])) = rw its at (first-legal s (Cleared k y) acts may) in
-      let own = own-entry (s sh) (event.Clear n k) k may.sound (and_left (legal (s sh) (event.Clear n k)) true ok) refl in
+      let own = own-entry (s sh) (event.Clear n k) k may.sound (and_parts (legal (s sh) (event.Clear n k)) true ok).0 refl in
       let none : place_of k (after (s sh) (event.Clear n k)) ≡ None = ap (option_and_then (λ (e : Entry). e.place)) own ∙ none_placed (entry_of k (s sh)) in
       let there : place_of k (replay (s sh) (here_of (Cleared k y))) ≡ Some x = sym (ap (place_of k) (after-act s (Cleared k y))) ∙ at in
       let here : place_of k (after (s sh) (event.Clear n k)) ≡ Some x = rw its at there in

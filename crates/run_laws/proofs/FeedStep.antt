@@ -192,7 +192,7 @@ module _ {P D : Type 0} (pools : Ghosts P) (devices : Devices D) (trace : Trace)
   pub feed-step : (r q : Reply) (v w : Work) (here there : List FeedDone) (from to other other_to : BetweenLines P D) (did : DoesFeed pools devices trace r here from to) (other_did : DoesFeed pools devices trace q there other other_to)
       → v ≡ no_work → w ≡ no_work → IsConfig g → AreLegalShards trace to.shards → AreAlike pools devices trace from other → (a b c d : CursorState) → GoOn here a b → GoOn there c d → AllByRecursion (IsFeedOf g.shards) here → AllByRecursion (IsFeedOf g.shards) there → AreCursorsAlike a c
       → PlacesLive g (shard_behind g from.shards) a.ring.live → AreAlikeSoFar (feed_answers here) (feed_answers there)
-      → (StepAlike pools devices trace (fed_line r v) (fed_line q w) here there from to other other_to did other_did × AreCursorsAlike b d) ⊎ PartsAt pools devices trace from.cells from.shards (fed_line r v) (fed_line q w) here there
+      → (StepAlike pools devices trace (fed_line r v) (fed_line q w) here there from to other other_to did other_did × AreCursorsAlike b d) ⊎ PartsAt pools devices trace from.cells (fed_line r v) (fed_line q w) here there
   feed-step r q v w here there from to other other_to did other_did none other_none valid legal like a b c d on other_on shapes other_shapes cursors placed rows =
       let fits : AllByRecursion (IsFeedHere g (shard_behind g from.shards)) there =
       subst (λ (s : ℕ → PlainShard). AllByRecursion (IsFeedHere g s) there) (λ i shard. same-shard pools devices trace from other like shard i) other_did.here in

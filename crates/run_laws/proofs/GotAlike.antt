@@ -31,7 +31,6 @@ use Rattle.trace_text.specs.declared.trace.Trace.{Trace}
 use Rattle.trace_run.specs.Feeds.{FeedDone}
 use Rattle.trace_run.specs.Openings.{opening_map}
 use Rattle.trace_run.specs.dbufs.Objects.{Work}
-use Rattle.arc_core.specs.declared.event.Event.{Event}
 use Rattle.arc_table.specs.Geometry.{IsCell}
 use Rattle.dbuf_cells.specs.Places.{cell_of}
 use Rattle.run_laws.specs.Alike.{GotDirty, TwoContents}
@@ -196,11 +195,11 @@ answers-got limit opening front at window size z xs ys one other =
 
 module _ {P D : Type 0} (pools : Ghosts P) (devices : Devices D) (trace : Trace) where
   -- A get of a block of a cell that came to this is answered the same in two runs, or they part at it.
-  pub got-alike : (cells : ℕ → List CellEvent) (shards : ℕ → List Event) (n t : ℕ) (at : Oid) (window : Window) (size z : ℕ) (shown s : List ℕ) (w v : Work) (here there : List FeedDone) → IsCell trace.config (cell_of trace.config.cells at)
+  pub got-alike : (cells : ℕ → List CellEvent) (n t : ℕ) (at : Oid) (window : Window) (size z : ℕ) (shown s : List ℕ) (w v : Work) (here there : List FeedDone) → IsCell trace.config (cell_of trace.config.cells at)
       → IsAnswerAfter trace.config.dbuf_bytes (opening_map trace (cell_of trace.config.cells at)) (cells (cell_of trace.config.cells at)) at window size shown
       → IsAnswerAfter trace.config.dbuf_bytes (opening_map trace (cell_of trace.config.cells at)) (cells (cell_of trace.config.cells at)) at window z s
-      → (Got z s ≡ Got size shown) ⊎ PartsAt pools devices trace cells shards (record { op = ops.Get n t at window; reply = Got size shown; work = w }) (record { op = ops.Get n t at window; reply = Got z s; work = v }) here there
-  got-alike cells shards n t at window size z shown s w v here there is one other =
+      → (Got z s ≡ Got size shown) ⊎ PartsAt pools devices trace cells (record { op = ops.Get n t at window; reply = Got size shown; work = w }) (record { op = ops.Get n t at window; reply = Got z s; work = v }) here there
+  got-alike cells n t at window size z shown s w v here there is one other =
       let i : ℕ = cell_of trace.config.cells at in
       elim (answers-got trace.config.dbuf_bytes (opening_map trace i) (cells i) at window size z shown s one other) [
         | inl came ↦ elim came [

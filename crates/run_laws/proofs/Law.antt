@@ -1,12 +1,8 @@
 -- Two runs of one trace by one caller come to the same, or they may part: all lines, the sync that stopped, and the close.
-use Rattle.std.proofs.Common.{◌≡◌, ℕ, zero, suc, List, [], ◌∷◌, ◌++◌, length, take, Option, None, Some, refl, sym, ap, ◌∙◌, subst, inl, inr, append-nil, arith}
+use Rattle.std.proofs.Common.{◌≡◌, ℕ, zero, suc, List, [], ◌∷◌, ◌++◌, length, Option, None, Some, refl, sym, ap, ◌∙◌, subst, inl, inr, arith}
 use Rattle.std.specs.Prelude.{◌⊎◌, slice_get}
 use Rattle.std.proofs.lemmas.Option.{slice_get_within}
 use Rattle.arc_core.specs.Config.{IsConfig}
-use Rattle.arc_core.specs.declared.event.Event.{Event}
-use Rattle.arc_table.specs.Geometry.{IsCell, cell_number}
-use Rattle.dbuf_state.specs.Outline.{outline_after}
-use Rattle.dbuf_state.specs.declared.event.CellEvent.{CellEvent}
 use Rattle.vdev_io.specs.Calls.{Call}
 use Rattle.vdev_io.specs.declared.device.CacheDev.{Ghosts as Devices}
 use Rattle.vdev_io.specs.declared.pool.Pool.{Ghosts}
@@ -17,21 +13,17 @@ use Rattle.trace_text.specs.declared.reply.Reply.{Reply}
 use Rattle.trace_text.specs.declared.trace.Trace.{Trace}
 use Rattle.trace_run.specs.declared.ran.Ending.{Ending}
 use Rattle.trace_run.specs.declared.ran.Ending.TheVariants.{Fork, Full, Sync, Whole}
-use Rattle.trace_run.specs.Deeds.{events_of_cell}
 use Rattle.trace_run.specs.Lines.{caller_of}
-use Rattle.trace_run.specs.Openings.{opening_map}
 use Rattle.trace_run.specs.RunWork.{FitsBy, IsSyncWork}
 use Rattle.trace_run.specs.callers.Together.{StopsAtSync}
 use Rattle.trace_run.specs.callers.WorkLines.{IsWorkOf}
-use Rattle.trace_run.specs.dbufs.Objects.{Line, Work, ops_of}
-use Rattle.trace_run.specs.KeptBlocks.{held_in_shard}
-use Rattle.trace_run.specs.one_caller.OneCaller.{events_of_drops}
-use Rattle.trace_run.specs.one_caller.Sequence.{BetweenLines, DoesAnyLine, DoesSync, EndsThere, outline_behind}
+use Rattle.trace_run.specs.dbufs.Objects.{Line, ops_of}
+use Rattle.trace_run.specs.one_caller.Sequence.{BetweenLines, DoesAnyLine, DoesSync, EndsThere}
 use Rattle.trace_run.proofs.callers.GroupLists.{some-same}
-use Rattle.run_laws.specs.Alike.{AreAlikeSoFar, BeginAlike, ComeToTheSame, FailAlike, MayPart, OneRun, SameUpTo, HoldsFewer, answers_at_stop, at_stop, before_close as fewer_before_close, begun, done_to, front_at, front_last, pool_answers_to, shard_closing, fewer as may_fewer}
+use Rattle.run_laws.specs.Alike.{AreAlikeSoFar, BeginAlike, ComeToTheSame, FailAlike, MayPart, OneRun, answers_at_stop, at_stop, begun, pool_answers_to}
 use Rattle.run_laws.proofs.Begins.{start-same}
 use Rattle.run_laws.proofs.Closing.{EndAlike, close-alike}
-use Rattle.run_laws.proofs.EndedOrder.{SomeHoldsFewer, drops-or}
+use Rattle.run_laws.proofs.EndedOrder.{ended-same}
 use Rattle.run_laws.proofs.Facts.{AreCachedValid, AreSettled, OfEachLine}
 use Rattle.run_laws.proofs.LinesAlike.{Caps, ComeTo, Feeds, GoesFurther, Kind, Objects, Reads, StepsAlike, Syncs, Together, kind_of, one_further, other_further, parted, together}
 use Rattle.run_laws.proofs.Parting.{parts-may, replays-part, same-there}
@@ -67,24 +59,7 @@ IsSyncLine (ops.Unpin n at) = ⊥
 IsSyncLine ops.Feed = ⊥
 IsSyncLine (ops.Cap c) = ⊥
 
-take-whole : {X : Type 0} (xs : List X) → take (length xs) xs ≡ xs
-take-whole [] = refl
-take-whole (x ∷ xs) = ap (λ (l : List _). x ∷ l) (take-whole xs)
-
--- the front before the place behind all lines is what all did
-front-whole : (ls : List Line) (i : ℕ) → front_at ls (length ls) i ≡ done_to i ls
-front-whole ls i = ap (done_to i) (take-whole ls)
-
 module _ {P D : Type 0} (pools : Ghosts P) (devices : Devices D) (trace : Trace) where
-  -- what a sync that stopped did to a cell, or nothing
-  ends-notes : (replies : List Reply) (work : Work) (ending : Ending) (from : BetweenLines P D) (after : P) (to : BetweenLines P D) → EndsThere pools devices trace replies work ending from after to → (i : ℕ) → IsCell trace.config i
-      → to.cells i ≡ from.cells i ++ events_of_cell i work.noted
-  ends-notes replies work Whole from after to ends i is_cell =
-      ap (λ (at : BetweenLines P D). at.cells i) ends.2 ∙ (sym (append-nil (from.cells i)) ∙ ap (λ (w : Work). from.cells i ++ events_of_cell i w.noted) (sym ends.0))
-  ends-notes replies work Fork from after to ends i is_cell = absurd ends
-  ends-notes replies work Sync from after to ends i is_cell = ends.leaves.goes_on.cells i is_cell
-  ends-notes replies work (Full need left) from after to ends i is_cell = ends.leaves.goes_on.cells i is_cell
-
   -- What is known of a line of one run by itself: its work fits it; no eviction is left over before it and behind it; each block that is cached has a valid key; and what was done to each shard by then was legal.
   pub record IsKnown (l : Line) (from to : BetweenLines P D) : Type 0 where
     pub fits : FitsBy trace.config (caller_of l.op) l
@@ -212,40 +187,10 @@ module _ {P D : Type 0} (pools : Ghosts P) (devices : Devices D) (pool_len : (p 
           dropped = dropped;
         }
 
-        -- what stands behind all that both did before the close is what the lines and the sync that stopped did
-        before-close : SameUpTo trace one.run.work.lines other.run.work.lines (length one.run.work.lines)
-        before-close = same-there pools devices trace one other (length one.run.work.lines) one.in_turn.reached.cells t.there
-
-        last-is : (i : ℕ) → IsCell trace.config i → one.in_turn.last_line.cells i ≡ front_last one.run.work.lines one.run.work.stopped i
-        last-is i is_cell = ends-notes pools devices trace one.report.replies one.run.work.stopped one.ending one.in_turn.reached one.after one.in_turn.last_line one.in_turn.ended i is_cell
-            ∙ ap (λ (es : List CellEvent). es ++ events_of_cell i one.run.work.stopped.noted) (t.there.did i is_cell ∙ front-whole one.run.work.lines i)
-
-        other-last-is : (i : ℕ) → IsCell trace.config i → other.in_turn.last_line.cells i ≡ front_last other.run.work.lines other.run.work.stopped i
-        other-last-is i is_cell = ends-notes pools devices trace one.report.replies other.run.work.stopped other.ending other.in_turn.reached other.after other.in_turn.last_line other-ends i is_cell
-            ∙ ap (λ (es : List CellEvent). es ++ events_of_cell i other.run.work.stopped.noted)
-            (t.then.cells i is_cell ∙ (t.there.other_did i is_cell ∙ (ap (λ (n : ℕ). front_at other.run.work.lines n i) lines-many ∙ front-whole other.run.work.lines i)))
-
-        last-both : StopsSame → (i : ℕ) → IsCell trace.config i → front_last other.run.work.lines other.run.work.stopped i ≡ front_last one.run.work.lines one.run.work.stopped i
-        last-both last i is_cell = sym (other-last-is i is_cell) ∙ (last.cells i is_cell ∙ last-is i is_cell)
-
-        -- what the shards are before the close
-        abbrev closing_shards : ℕ → List Event
-        closing_shards shard = one.in_turn.last_line.shards shard ++ events_of_drops 0 (held_in_shard trace.config shard one.in_turn.last_line.kept)
-
-        fewer-last : StopsSame → SomeHoldsFewer trace formed.apart one.in_turn.last_line.cells closing_shards one.run.work.ended → MayPart pools devices trace one other
-        fewer-last last s =
-            let both : HoldsFewer (cell_number trace.config s.i) (outline_behind trace (front_last one.run.work.lines one.run.work.stopped) s.i) (shard_closing pools devices trace one s.drops)
-            = subst (λ (es : List CellEvent). HoldsFewer (cell_number trace.config s.i) (outline_after trace.config.dbuf_bytes (opening_map trace s.i) es) (shard_closing pools devices trace one s.drops)) (last-is s.i s.in_range) s.fewer in
-            may_fewer (fewer_before_close before-close (sym lines-many) (last-both last) s.i s.in_range s.drops s.rest s.are both)
-
-        close-or : StopsSame → (other.run.work.ended ≡ one.run.work.ended) ⊎ SomeHoldsFewer trace formed.apart one.in_turn.last_line.cells closing_shards one.run.work.ended
-        close-or last = drops-or pools devices trace formed.apart one other last.shards last.cells last.kept
-
         close : StopsSame → SameOrParts
-        close last = elim (close-or last) [
-          | inl dropped ↦ inl (close-alike pools devices trace one other (last-same last dropped) (start-same pools devices trace one other begin fail).found)
-          | inr s ↦ inr (fewer-last last s)
-        ]
+        close last =
+            let dropped = ended-same pools devices trace formed.apart one other last.cells in
+            inl (close-alike pools devices trace one other (last-same last dropped) (start-same pools devices trace one other begin fail).found)
 
         come-together : SameOrParts
         come-together = elim stops-same [

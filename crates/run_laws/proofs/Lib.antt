@@ -14,7 +14,6 @@ pub mod FeedRanges
 pub mod FeedRows
 pub mod FeedStep
 pub mod FeedWrites
-pub mod Fewer
 pub mod GotAlike
 pub mod Law
 pub mod LinePlaces

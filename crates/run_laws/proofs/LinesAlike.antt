@@ -5,7 +5,6 @@ use Rattle.std.specs.List.{AllByRecursion}
 use Rattle.blk_ptr.specs.Hash.{shard_of}
 use Rattle.arc_core.specs.Config.{IsConfig}
 use Rattle.arc_core.specs.PlainShard.{PlainShard, place_of}
-use Rattle.arc_core.specs.declared.event.Event.{Event}
 use Rattle.arc_table.specs.Geometry.{IsCell}
 use Rattle.dbuf_state.specs.declared.event.CellEvent.{CellEvent}
 use Rattle.l2_dev.specs.Cursor.{CursorState}
@@ -25,7 +24,7 @@ use Rattle.trace_run.specs.Lines.{caller_of}
 use Rattle.trace_run.specs.RunWork.{FitsBy}
 use Rattle.trace_run.specs.dbufs.Objects.{Line, Work, ops_of, replies_of}
 use Rattle.trace_run.specs.one_caller.Sequence.{AreInSequence, BetweenLines, DoesAnyLine, shard_behind}
-use Rattle.run_laws.specs.Alike.{AreAlike, AreAlikeSoFar, AreDevicesAlike, device_answers, device_answers_to, feeds_at, front_at, stands_at, pool_answers, pool_answers_to}
+use Rattle.run_laws.specs.Alike.{AreAlike, AreAlikeSoFar, AreDevicesAlike, device_answers, device_answers_to, feeds_at, front_at, pool_answers, pool_answers_to}
 use Rattle.run_laws.proofs.Behind.{same-shard}
 use Rattle.run_laws.proofs.Facts.{OfEachLine}
 use Rattle.run_laws.proofs.LinePlaces.{line-live}
@@ -143,9 +142,7 @@ module _ {P D : Type 0} (pools : Ghosts P) (devices : Devices D) (trace : Trace)
     pub same : other_line.op ≡ line.op
     pub cells : ℕ → List CellEvent
     pub there : ComeThere ls ms from other place cells
-    pub shards : ℕ → List Event
-    pub stands : (stands_at pools devices trace ls fs from to did place).shards ≡ shards
-    pub parts : PartsAt pools devices trace cells shards line other_line (feeds_at pools devices trace ls fs from to did place) (feeds_at pools devices trace ms es other other_to other_did place)
+    pub parts : PartsAt pools devices trace cells line other_line (feeds_at pools devices trace ls fs from to did place) (feeds_at pools devices trace ms es other other_to other_did place)
 
   -- ---- one line
 
@@ -169,7 +166,7 @@ module _ {P D : Type 0} (pools : Ghosts P) (devices : Devices D) (trace : Trace)
     abbrev pub AlikeOrParts : (l m : Line) (here there : List FeedDone) (from to other other_to : BetweenLines P D) (did : DoesAnyLine pools devices trace (caller_of l.op) l here from to)
         (other_did : DoesAnyLine pools devices trace (caller_of m.op) m there other other_to) (b d : CursorState) → Type 0
     AlikeOrParts l m here there from to other other_to did other_did b d =
-        (StepAlike pools devices trace l m here there from to other other_to did other_did × AreCursorsAlike b d) ⊎ PartsAt pools devices trace from.cells from.shards l m here there
+        (StepAlike pools devices trace l m here there from to other other_to did other_did × AreCursorsAlike b d) ⊎ PartsAt pools devices trace from.cells l m here there
 
     -- so it is of each line of this kind
     abbrev pub StepsAlike : Kind → Type 0
@@ -279,7 +276,7 @@ module _ {P D : Type 0} (pools : Ghosts P) (devices : Devices D) (trace : Trace)
         device = so-far-rest (device_answers_to pools devices trace (caller_of l.op) l did.1 from did.0 did.4) _ (device_answers_to pools devices trace (caller_of m.op) m other_did.1 other other_did.0 other_did.4) _ s.device both.device;
       }
 
-      parts-here : PartsAt pools devices trace from.cells from.shards l m did.1 other_did.1 → PartsSomewhere (l ∷ ls) (m ∷ ms) fs es from to other other_to did other_did
+      parts-here : PartsAt pools devices trace from.cells l m did.1 other_did.1 → PartsSomewhere (l ∷ ls) (m ∷ ms) fs es from to other other_to did other_did
       parts-here p = record {
         place = 0;
         line = l;
@@ -289,8 +286,6 @@ module _ {P D : Type 0} (pools : Ghosts P) (devices : Devices D) (trace : Trace)
         same = sym both.same.0;
         cells = from.cells;
         there = there-now (l ∷ ls) (m ∷ ms) from other both.alike;
-        shards = from.shards;
-        stands = refl;
         parts = p;
       }
 
@@ -306,8 +301,6 @@ module _ {P D : Type 0} (pools : Ghosts P) (devices : Devices D) (trace : Trace)
           same = p.same;
           cells = p.cells;
           there = there-more l m from did.0 other other_did.0 reply notes other_notes ls ms p.place p.cells p.there;
-          shards = p.shards;
-          stands = p.stands;
           parts = p.parts;
         }
 

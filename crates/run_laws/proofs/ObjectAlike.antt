@@ -41,7 +41,7 @@ use Rattle.trace_text.specs.declared.reply.Reply.TheVariants as replies
 use Rattle.trace_run.specs.Deeds.{HasAct, act_of_event, acts_of_events, events_of_cell, events_there}
 use Rattle.trace_run.specs.dbufs.ObjectLines.{EndsInside, TellsBrought, WasToBring}
 use Rattle.trace_run.specs.dbufs.ObjectReplies.{ActsAt, ActsBy, AnswersObject, BringsAt, RefusesAt, RefusesPin, RefusesWhole}
-use Rattle.trace_run.specs.dbufs.Objects.{Brought, GoesTogether, IsAnswered, Loaded, Nothing, OwnEvent, Refused, Work, loads_of}
+use Rattle.trace_run.specs.dbufs.Objects.{Brought, GoesTogether, IsAnswered, Loaded, Nothing, OwnEvent, Refused, Work, gives_hold, loads_of}
 use Rattle.trace_run.proofs.deeds.NotedCells.{noted-here}
 use Rattle.trace_run.proofs.in_place.Mapped.{mapped-all}
 use Rattle.run_laws.proofs.BringAlike.{AsksSo, IsNothing, TellsRefusal, refusal_of}
@@ -103,7 +103,7 @@ bytes-there at o d is there ptr was = not-to-bring d.block ptr there (sym (mappe
 -- a Load changes nothing of the object map
 mapped-loads : (at : Oid) (o : Outline) (brought : Brought) → mapped_at at (after_all o (loads_of 0 at brought)) ≡ mapped_at at o
 mapped-loads at o Nothing = refl
-mapped-loads at o (Loaded ptr from) = mapped-all at o (events.Load 0 at ∷ [])
+mapped-loads at o (Loaded ptr from) = mapped-all at o (events.Load 0 at (gives_hold from) ∷ [])
 mapped-loads at o (Refused ptr) = refl
 
 -- ---- events that need a block's bytes

@@ -2,11 +2,9 @@
 -- or the cell has come to two states by one history (dbuf_hold, dbuf_read and dbuf_dirty of dbuf.c, for a single thread).
 use Rattle.std.proofs.Common.{◌≡◌, ◌⊎◌, ℕ, ◌+◌, ◌<◌, Bool, IsTrue, List, ◌++◌, length, Option, Some, None, inl, inr, refl, sym, ap, subst, ◌∙◌, append_assoc, arith}
 use Rattle.blk_ptr.specs.Key.{IsValid}
-use Rattle.blk_ptr.specs.declared.key.Key.{Key}
 use Rattle.arc_core.specs.Config.{IsConfig}
 use Rattle.arc_core.specs.declared.config.Config.{Config}
 use Rattle.arc_core.specs.declared.event.Event.{Event}
-use Rattle.arc_core.specs.PlainShard.{PlainShard}
 use Rattle.arc_core.specs.Replay.{is_legal_history}
 use Rattle.arc_table.specs.Geometry.{IsCell, cell_number}
 use Rattle.arc_table.specs.Telling.{opening_of}
@@ -32,13 +30,14 @@ use Rattle.trace_run.specs.Feeds.{FeedDone}
 use Rattle.trace_run.specs.Lines.{caller_of}
 use Rattle.trace_run.specs.Openings.{opening_map}
 use Rattle.trace_run.specs.callers.WorkLines.{IsWorkOf, effect_with}
-use Rattle.trace_run.specs.dbufs.ObjectLines.{OnObject, TellsBrought, brought_there, events_of_bringing, on_object}
+use Rattle.trace_run.specs.dbufs.Holders.{AreHolders}
+use Rattle.trace_run.specs.dbufs.ObjectLines.{TellsBrought, brought_there, events_of_bringing}
 use Rattle.trace_run.specs.dbufs.ObjectReplies.{ActsAt, ActsBy, AnswersDone, AnswersObject, AnswersWindow, BringsAt, RefusesAt, RefusesWhole}
 use Rattle.trace_run.specs.dbufs.Objects.{Brought, GoesTogether, NotesNothing, OwnEvent, Work}
-use Rattle.trace_run.specs.one_caller.Sequence.{BetweenLines, DoesAnyLine, DoesLine, DoesObject, bringing_in, outline_behind, shard_behind, shard_found}
+use Rattle.trace_run.specs.one_caller.Sequence.{BetweenLines, DoesAnyLine, DoesLine, DoesObject, bringing_in, outline_behind, shard_behind}
 use Rattle.trace_run.proofs.deeds.OperatesDone.{cell-there}
-use Rattle.run_laws.specs.Alike.{AreAlike, AreAlikeSoFar, AreDevicesAlike, HoldsFewer, device_answers_to, pool_answers_to, writes_of}
-use Rattle.run_laws.proofs.ActsAlike.{IsHeldSo, acts-alike}
+use Rattle.run_laws.specs.Alike.{AreAlike, AreAlikeSoFar, AreDevicesAlike, device_answers_to, pool_answers_to, writes_of}
+use Rattle.run_laws.proofs.ActsAlike.{acts-alike}
 use Rattle.run_laws.proofs.Behind.{caller-then, goes-cell, goes-shard, same-shard}
 use Rattle.run_laws.proofs.BringAlike.{IsKeptValid, bringing_row, brought-alike, device-same, refusal_of}
 use Rattle.run_laws.proofs.Facts.{AreCachedValid, AreSettled, IsSettled}
@@ -47,7 +46,7 @@ use Rattle.run_laws.proofs.ObjectAlike.{AreLegalBehind, Asks, LooksSo, get-asks,
 use Rattle.run_laws.proofs.ReadStep.{line_of}
 use Rattle.run_laws.proofs.Rows.{so-far-front}
 use Rattle.run_laws.proofs.ShardsLegal.{AreLegalShards}
-use Rattle.run_laws.proofs.Steps.{PartsAt, StepAlike, fewer}
+use Rattle.run_laws.proofs.Steps.{PartsAt, StepAlike}
 
 -- ---- replies
 
@@ -94,13 +93,11 @@ MustFollow own = (x : Evicting) → evicting_after x own.event ≡ Must
 abbrev pub IsSameWork : Work → Work → Type 0
 IsSameWork w v = (v.noted ≡ w.noted) × (v.acts ≡ w.acts)
 
--- so it is, or the cell holds fewer entries under a key than it has blocks cached
-work-or : (g : Config) (limit : ℕ) (opening : List Mapping) (front : List CellEvent) (s : Key → PlainShard) (own : OwnEvent) (w v : Work) (refused : Option Refusal) → MustFollow own
+work-same : (g : Config) (limit : ℕ) (opening : List Mapping) (front : List CellEvent) (own : OwnEvent) (w v : Work) (refused : Option Refusal) → MustFollow own
     → IsSettled limit opening (front ++ events_of_cell (cell_of g.cells own.at) w.noted) → IsSettled limit opening (front ++ events_of_cell (cell_of g.cells own.at) v.noted)
-    → ActsSo (IsHeldSo g own (outline_after limit opening front) s) own (outline_after limit opening front) g w refused → ActsSo (IsHeldSo g own (outline_after limit opening front) s) own (outline_after limit opening front) g v refused
-    → v.brought ≡ w.brought → IsSameWork w v ⊎ HoldsFewer (cell_number g (cell_of g.cells own.at)) (outline_after limit opening front) s
-work-or g limit opening front s own w v None must rests other_rests so other_so brings = acts-alike g limit opening front s own w v must rests other_rests so other_so brings
-work-or g limit opening front s own w v (Some refusal) must rests other_rests so other_so brings = inl (other_so.0 ∙ sym so.0, other_so.1 ∙ sym so.1)
+    → ActsSo (AreHolders front) own (outline_after limit opening front) g w refused → ActsSo (AreHolders front) own (outline_after limit opening front) g v refused → v.brought ≡ w.brought → IsSameWork w v
+work-same g limit opening front own w v None must rests other_rests so other_so brings = acts-alike g limit opening front own w v must rests other_rests so other_so brings
+work-same g limit opening front own w v (Some refusal) must rests other_rests so other_so brings = (other_so.0 ∙ sym so.0, other_so.1 ∙ sym so.1)
 
 -- the operation is on an object
 abbrev pub IsOnObject : Op → Type 0
@@ -129,16 +126,11 @@ module _ {P D : Type 0} (pools : Ghosts P) (devices : Devices D) (pool_len : (p 
   abbrev its_outline : (own : OwnEvent) → BetweenLines P D → Outline
   its_outline own from = outline_behind trace from.cells (cell_of trace.config.cells own.at)
 
-  -- what is so of the dbufs that had a hold, where the cell had come to this, and the shards too
-  abbrev its_held : (own : OwnEvent) → List CellEvent → (shards : ℕ → List Event) → (tick : ℕ) → Brought → (Oid → Bool) → Type 0
-  its_held own front shards tick brought = IsHeldSo trace.config own (outline_after trace.config.dbuf_bytes (opening_map trace (cell_of trace.config.cells own.at)) front) (shard_found trace.config shards tick brought)
-
-  abbrev Looks : (image : List ℕ) → List CellEvent → (shards : ℕ → List Event) → (tick : ℕ) → OwnEvent → Op → Reply → Work → Type 0
-  Looks image front shards tick own op reply work =
-      LooksSo trace.config image trace.config.dbuf_bytes (opening_map trace (cell_of trace.config.cells own.at)) front (its_held own front shards tick work.brought) own op reply work
+  abbrev Looks : (image : List ℕ) → List CellEvent → OwnEvent → Op → Reply → Work → Type 0
+  Looks image front own op reply work = LooksSo trace.config image trace.config.dbuf_bytes (opening_map trace (cell_of trace.config.cells own.at)) front (AreHolders front) own op reply work
 
   one-looks : (op : Op) (own : OwnEvent) (tick : ℕ) (r : Reply) (w : Work) (from to : BetweenLines P D) (image : List ℕ) → pools.told from.outside.pool ≡ Some image → DoesObject pools devices trace own.at tick (line_of op r w) from to
-      → ActsBy trace.config 0 (its_held own (its_front own from) from.shards tick w.brought) own (its_outline own from) w r → GoesTogether op r w.brought → AreSettled trace to.cells → Looks image (its_front own from) from.shards tick own op r w
+      → ActsBy trace.config 0 (AreHolders (its_front own from)) own (its_outline own from) w r → GoesTogether op r w.brought → AreSettled trace to.cells → Looks image (its_front own from) own op r w
   one-looks op own tick r w from to image told did acts together settled =
       let i : ℕ = cell_of trace.config.cells own.at in
       let is_cell : IsCell trace.config i = cell-there trace.config valid own.at in
@@ -161,8 +153,8 @@ module _ {P D : Type 0} (pools : Ghosts P) (devices : Devices D) (pool_len : (p 
     pub must : MustFollow own
     pub did : DoesObject pools devices trace own.at tick (line_of op r w) from to
     pub other_did : DoesObject pools devices trace own.at tick (line_of op q v) other other_to
-    pub looks : Looks alike.image (its_front own from) from.shards tick own op r w
-    pub other_looks : Looks alike.image (its_front own from) from.shards tick own op q v
+    pub looks : Looks alike.image (its_front own from) own op r w
+    pub other_looks : Looks alike.image (its_front own from) own op q v
     pub kept : IsKeptValid alike.image own.at (its_outline own from)
     pub legal : AreLegalShards trace to.shards
     pub other_legal : AreLegalShards trace other_to.shards
@@ -172,8 +164,8 @@ module _ {P D : Type 0} (pools : Ghosts P) (devices : Devices D) (pool_len : (p 
 
   module _ (op : Op) (own : OwnEvent) (tick : ℕ) (r q : Reply) (w v : Work) (from to other other_to : BetweenLines P D) (both : BothOn op own tick r q w v from to other other_to) where
     -- one block is brought, or none, and both are answered or refused for one cause
-    asks-alike : (last : ℕ) → Asks trace.config both.alike.image trace.config.dbuf_bytes (opening_map trace (cell_of trace.config.cells own.at)) (its_front own from) (its_held own (its_front own from) from.shards tick w.brought) own.at last w.brought r
-        → Asks trace.config both.alike.image trace.config.dbuf_bytes (opening_map trace (cell_of trace.config.cells own.at)) (its_front own from) (its_held own (its_front own from) from.shards tick v.brought) own.at last v.brought q → (v.brought ≡ w.brought) × (refusal_of q ≡ refusal_of r)
+    asks-alike : (last : ℕ) → Asks trace.config both.alike.image trace.config.dbuf_bytes (opening_map trace (cell_of trace.config.cells own.at)) (its_front own from) (AreHolders (its_front own from)) own.at last w.brought r
+        → Asks trace.config both.alike.image trace.config.dbuf_bytes (opening_map trace (cell_of trace.config.cells own.at)) (its_front own from) (AreHolders (its_front own from)) own.at last v.brought q → (v.brought ≡ w.brought) × (refusal_of q ≡ refusal_of r)
     asks-alike last asks other_asks =
         brought-alike pools devices trace (shard_behind trace.config from.shards) (shard_behind trace.config other.shards) (same-shard pools devices trace from other both.alike)
         from.device to.device other.device other_to.device both.alike.device both.alike.image trace.config.dbuf_bytes (opening_map trace (cell_of trace.config.cells own.at)) (its_front own from) own.at last w.brought v.brought r q
@@ -184,15 +176,14 @@ module _ {P D : Type 0} (pools : Ghosts P) (devices : Devices D) (pool_len : (p 
     brings_in brought at shard = bringing_in trace.config (shard_behind trace.config at.shards) 0 tick (cell_number trace.config (cell_of trace.config.cells own.at)) brought shard
 
     module _ (brings : v.brought ≡ w.brought) (same : q ≡ r) where
-      -- both noted the same and made the same acts, or the cell holds fewer entries under a key than it has blocks cached
-      works-or : IsSameWork w v ⊎ HoldsFewer (cell_number trace.config (cell_of trace.config.cells own.at)) (its_outline own from) (shard_found trace.config from.shards tick w.brought)
-      works-or =
+      -- both noted the same and made the same acts
+      works : IsSameWork w v
+      works =
           let o : Outline = its_outline own from in
-          let Held : Brought → (Oid → Bool) → Type 0 = its_held own (its_front own from) from.shards tick in
-          let mine = acts-so trace.config (Held w.brought) own o w r both.looks.acts in
-          let its = subst (λ (z : Brought × Option Refusal). ActsSo (Held z.0) own o trace.config v z.1) (λ h. (brings h, refusal_of (same h))) (acts-so trace.config (Held v.brought) own o v q both.other_looks.acts) in
-          work-or trace.config trace.config.dbuf_bytes (opening_map trace (cell_of trace.config.cells own.at)) (its_front own from) (shard_found trace.config from.shards tick w.brought) own w v (refusal_of r) both.must
-          both.looks.settled both.other_looks.settled mine its brings
+          let Held : (Oid → Bool) → Type 0 = AreHolders (its_front own from) in
+          let mine = acts-so trace.config Held own o w r both.looks.acts in
+          let its = subst (λ (z : Option Refusal). ActsSo Held own o trace.config v z) (λ h. refusal_of (same h)) (acts-so trace.config Held own o v q both.other_looks.acts) in
+          work-same trace.config trace.config.dbuf_bytes (opening_map trace (cell_of trace.config.cells own.at)) (its_front own from) own w v (refusal_of r) both.must both.looks.settled both.other_looks.settled mine its brings
 
       brings-same : (shard : ℕ) → brings_in v.brought other shard ≡ brings_in w.brought from shard
       brings-same shard = λ h. brought_there trace.config.shards shard (brings h)
@@ -221,29 +212,28 @@ module _ {P D : Type 0} (pools : Ghosts P) (devices : Devices D) (pool_len : (p 
       device-then = device-same pools devices trace (shard_behind trace.config from.shards) (shard_behind trace.config other.shards) (same-shard pools devices trace from other both.alike) from.device to.device other.device other_to.device both.alike.device
           w.brought v.brought r q brings same both.did.asks both.other_did.asks both.rows
 
-      module _ (works : IsSameWork w v) where
-        -- and the same events
-        made-same : both.other_did.made ≡ both.did.made
-        made-same = made-one trace.config (opening_of trace.config) shards_there fronts both.did.made both.other_did.made both.did.kinds both.other_did.kinds
-            (sym both.other_did.are ∙ (works.1 ∙ both.did.are)) mine-legal its-legal
+      -- and the same events
+      made-same : both.other_did.made ≡ both.did.made
+      made-same = made-one trace.config (opening_of trace.config) shards_there fronts both.did.made both.other_did.made both.did.kinds both.other_did.kinds
+          (sym both.other_did.are ∙ (works.1 ∙ both.did.are)) mine-legal its-legal
 
-        -- so what stands behind the line is alike
-        object-then : DoesLine pools devices trace (line_of op r w) from to → DoesLine pools devices trace (line_of op q v) other other_to → AreAlike pools devices trace to other_to
-        object-then does other_does =
-            let es : ℕ → List Event = λ shard. brings_in w.brought from shard ++ events_there trace.config shard both.did.made in
-            let fs : ℕ → List Event = λ shard. brings_in v.brought other shard ++ events_there trace.config shard both.other_did.made in
-            let same_events : (shard : ℕ) → fs shard ≡ es shard = λ shard h. brings-same shard h ++ events_there trace.config shard (made-same h) in
-            caller-then pools devices trace valid (line_of op r w) (line_of op q v) from to other other_to both.alike does other_does both.legal device-then.1
-            (λ shard. goes-shard trace.config es fs w.noted v.noted from to other other_to both.did.goes_on both.other_did.goes_on shard (both.alike.shards shard) (same_events shard))
-            (λ i is. goes-cell trace.config es fs w.noted v.noted from to other other_to both.did.goes_on both.other_did.goes_on i is (both.alike.cells i is) works.0)
-            (both.other_did.kept ∙ (both.alike.kept ∙ sym both.did.kept))
+      -- so what stands behind the line is alike
+      object-then : DoesLine pools devices trace (line_of op r w) from to → DoesLine pools devices trace (line_of op q v) other other_to → AreAlike pools devices trace to other_to
+      object-then does other_does =
+          let es : ℕ → List Event = λ shard. brings_in w.brought from shard ++ events_there trace.config shard both.did.made in
+          let fs : ℕ → List Event = λ shard. brings_in v.brought other shard ++ events_there trace.config shard both.other_did.made in
+          let same_events : (shard : ℕ) → fs shard ≡ es shard = λ shard h. brings-same shard h ++ events_there trace.config shard (made-same h) in
+          caller-then pools devices trace valid (line_of op r w) (line_of op q v) from to other other_to both.alike does other_does both.legal device-then.1
+          (λ shard. goes-shard trace.config es fs w.noted v.noted from to other other_to both.did.goes_on both.other_did.goes_on shard (both.alike.shards shard) (same_events shard))
+          (λ i is. goes-cell trace.config es fs w.noted v.noted from to other other_to both.did.goes_on both.other_did.goes_on i is (both.alike.cells i is) works.0)
+          (both.other_did.kept ∙ (both.alike.kept ∙ sym both.did.kept))
 
   -- ---- what both lines come to
 
   abbrev pub ComesOn : (op : Op) (r q : Reply) (w v : Work) (here there : List FeedDone) (from to other other_to : BetweenLines P D) → DoesAnyLine pools devices trace (caller_of op) (line_of op r w) here from to
       → DoesAnyLine pools devices trace (caller_of op) (line_of op q v) there other other_to → Type 0
   ComesOn op r q w v here there from to other other_to did other_did =
-      StepAlike pools devices trace (line_of op r w) (line_of op q v) here there from to other other_to did other_did ⊎ PartsAt pools devices trace from.cells from.shards (line_of op r w) (line_of op q v) here there
+      StepAlike pools devices trace (line_of op r w) (line_of op q v) here there from to other other_to did other_did ⊎ PartsAt pools devices trace from.cells (line_of op r w) (line_of op q v) here there
 
   -- What is known of two lines of one operation: what stood before them was alike; each line's work fits its reply; each leaves its cell with no eviction due; a cached block's key is valid; the histories of shards behind them are legal; and of their calls the same failed.
   pub record BothObjects (op : Op) (r q : Reply) (w v : Work) (here there : List FeedDone) (from to other other_to : BetweenLines P D) (did : DoesAnyLine pools devices trace (caller_of op) (line_of op r w) here from to)
@@ -263,7 +253,7 @@ module _ {P D : Type 0} (pools : Ghosts P) (devices : Devices D) (pool_len : (p 
       (other_line : DoesAnyLine pools devices trace (caller_of op) (line_of op q v) there other other_to) (b : BothObjects op r q w v here there from to other other_to line other_line) where
     -- so both are known by one front of the cell's history
     both-on : MustFollow own → (did : DoesObject pools devices trace own.at tick (line_of op r w) from to) (other_did : DoesObject pools devices trace own.at tick (line_of op q v) other other_to)
-        → ActsBy trace.config 0 (its_held own (its_front own from) from.shards tick w.brought) own (its_outline own from) w r → ActsBy trace.config 0 (its_held own (its_front own other) other.shards tick v.brought) own (its_outline own other) v q
+        → ActsBy trace.config 0 (AreHolders (its_front own from)) own (its_outline own from) w r → ActsBy trace.config 0 (AreHolders (its_front own other)) own (its_outline own other) v q
         → AreAlikeSoFar (bringing_row pools devices trace (shard_behind trace.config from.shards) w.brought r from.device to.device did.asks)
         (bringing_row pools devices trace (shard_behind trace.config other.shards) v.brought q other.device other_to.device other_did.asks)
         → BothOn op own tick r q w v from to other other_to
@@ -271,8 +261,8 @@ module _ {P D : Type 0} (pools : Ghosts P) (devices : Devices D) (pool_len : (p 
         let i : ℕ = cell_of trace.config.cells own.at in
         let is_cell : IsCell trace.config i = cell-there trace.config valid own.at in
         let alike = b.alike in
-        let mine : Looks alike.image (its_front own from) from.shards tick own op r w = one-looks op own tick r w from to alike.image alike.told did acts b.fits.together b.settled in
-        let its : Looks alike.image (its_front own other) other.shards tick own op q v = one-looks op own tick q v other other_to alike.image alike.other_told other_did other_acts b.other_fits.together b.other_settled in
+        let mine : Looks alike.image (its_front own from) own op r w = one-looks op own tick r w from to alike.image alike.told did acts b.fits.together b.settled in
+        let its : Looks alike.image (its_front own other) own op q v = one-looks op own tick q v other other_to alike.image alike.other_told other_did other_acts b.other_fits.together b.other_settled in
         let size : pools.size from.outside.pool ≡ length alike.image = sym (pool_len from.outside.pool alike.image alike.told) in
         record {
           alike = alike;
@@ -280,7 +270,7 @@ module _ {P D : Type 0} (pools : Ghosts P) (devices : Devices D) (pool_len : (p 
           did = did;
           other_did = other_did;
           looks = mine;
-          other_looks = subst (λ (z : List CellEvent × (ℕ → List Event)). Looks alike.image z.0 z.1 tick own op q v) (λ h. (alike.cells i is_cell h, λ shard. alike.shards shard h)) its;
+          other_looks = subst (λ (z : List CellEvent). Looks alike.image z own op q v) (alike.cells i is_cell) its;
           kept = λ ptr cached mapped. subst (λ (n : ℕ). IsValid n ptr.key) size (b.cached i is_cell own.at ptr cached mapped);
           legal = b.legal;
           other_legal = b.other_legal;
@@ -298,25 +288,18 @@ module _ {P D : Type 0} (pools : Ghosts P) (devices : Devices D) (pool_len : (p 
   -- ---- by the operation
 
   -- a get shows the same in both runs, or they part at it
-  get-reply : (cells : ℕ → List CellEvent) (shards : ℕ → List Event) (n t : ℕ) (at : Oid) (window : Window) (image : List ℕ) (r q : Reply) (w v : Work) (here there : List FeedDone)
+  get-reply : (cells : ℕ → List CellEvent) (n t : ℕ) (at : Oid) (window : Window) (image : List ℕ) (r q : Reply) (w v : Work) (here there : List FeedDone)
       → AnswersWindow (length image) (Some image) trace.config.dbuf_bytes (opening_map trace (cell_of trace.config.cells at)) (cells (cell_of trace.config.cells at)) w.brought at window r
       → AnswersWindow (length image) (Some image) trace.config.dbuf_bytes (opening_map trace (cell_of trace.config.cells at)) (cells (cell_of trace.config.cells at)) v.brought at window q → refusal_of q ≡ refusal_of r
-      → (q ≡ r) ⊎ PartsAt pools devices trace cells shards (line_of (ops.Get n t at window) r w) (line_of (ops.Get n t at window) q v) here there
-  get-reply cells shards n t at window image (replies.Got size shown) (replies.Got z s) w v here there answer other_answer same =
-      got-alike pools devices trace cells shards n t at window size z shown s w v here there (cell-there trace.config valid at) answer other_answer
-  get-reply cells shards n t at window image (replies.Got size shown) (replies.Refused y) w v here there answer other_answer same = absurd (not-refused y same)
-  get-reply cells shards n t at window image (replies.Got size shown) q w v here there answer other_answer same = absurd other_answer
-  get-reply cells shards n t at window image (replies.Refused x) (replies.Got z s) w v here there answer other_answer same = absurd (not-refused x (sym same))
-  get-reply cells shards n t at window image (replies.Refused x) (replies.Refused y) w v here there answer other_answer same = inl (same-refusal x y same)
-  get-reply cells shards n t at window image (replies.Refused x) q w v here there answer other_answer same = absurd other_answer
-  get-reply cells shards n t at window image r q w v here there answer other_answer same = absurd answer
-
-  -- the line did the same in both, and then both come to the same; or its cell holds fewer entries under a key than it has blocks cached
-  come-or : (op : Op) (r q : Reply) (w v : Work) (here there : List FeedDone) (from to other other_to : BetweenLines P D) (line : DoesAnyLine pools devices trace (caller_of op) (line_of op r w) here from to)
-      (other_line : DoesAnyLine pools devices trace (caller_of op) (line_of op q v) there other other_to) (on : OnObject) → on_object op ≡ Some on → IsSameWork w v ⊎ HoldsFewer (cell_number trace.config (cell_of trace.config.cells on.at)) (outline_behind trace from.cells (cell_of trace.config.cells on.at)) (shard_found trace.config from.shards on.tick w.brought)
-      → (IsSameWork w v → StepAlike pools devices trace (line_of op r w) (line_of op q v) here there from to other other_to line other_line) → ComesOn op r q w v here there from to other other_to line other_line
-  come-or op r q w v here there from to other other_to line other_line on is (inl works) then = inl (then works)
-  come-or op r q w v here there from to other other_to line other_line on is (inr both) then = inr (fewer on is both)
+      → (q ≡ r) ⊎ PartsAt pools devices trace cells (line_of (ops.Get n t at window) r w) (line_of (ops.Get n t at window) q v) here there
+  get-reply cells n t at window image (replies.Got size shown) (replies.Got z s) w v here there answer other_answer same =
+      got-alike pools devices trace cells n t at window size z shown s w v here there (cell-there trace.config valid at) answer other_answer
+  get-reply cells n t at window image (replies.Got size shown) (replies.Refused y) w v here there answer other_answer same = absurd (not-refused y same)
+  get-reply cells n t at window image (replies.Got size shown) q w v here there answer other_answer same = absurd other_answer
+  get-reply cells n t at window image (replies.Refused x) (replies.Got z s) w v here there answer other_answer same = absurd (not-refused x (sym same))
+  get-reply cells n t at window image (replies.Refused x) (replies.Refused y) w v here there answer other_answer same = inl (same-refusal x y same)
+  get-reply cells n t at window image (replies.Refused x) q w v here there answer other_answer same = absurd other_answer
+  get-reply cells n t at window image r q w v here there answer other_answer same = absurd answer
 
   -- Two lines of one operation on an object, over cells, shards, pools and devices that are alike, come to the same; or the runs part there.
   pub object-step : (op : Op) → IsOnObject op → (r q : Reply) (w v : Work) (here there : List FeedDone) (from to other other_to : BetweenLines P D) (line : DoesAnyLine pools devices trace (caller_of op) (line_of op r w) here from to)
@@ -329,16 +312,16 @@ module _ {P D : Type 0} (pools : Ghosts P) (devices : Devices D) (pool_len : (p 
       let did = line.1.did in
       let other_did = other_line.1.did in
       let both : BothOn op own t r q w v from to other other_to = both-on op own t r q w v here there from to other other_to line other_line b (λ x. refl) did other_did did.acts other_did.acts b.device in
-      let held : Brought → (Oid → Bool) → Type 0 = its_held own (its_front own from) from.shards t in
+      let held : (Oid → Bool) → Type 0 = AreHolders (its_front own from) in
       let limit : ℕ = trace.config.dbuf_bytes in
       let opening : List Mapping = opening_map trace (cell_of trace.config.cells at) in
       let came = asks-alike op own t r q w v from to other other_to both (window.at + window.len)
-      (get-asks trace.config both.alike.image limit opening (its_front own from) (held w.brought) n t at window r w both.looks) (get-asks trace.config both.alike.image limit opening (its_front own from) (held v.brought) n t at window q v both.other_looks) in
-      elim (get-reply from.cells from.shards n t at window both.alike.image r q w v here there both.looks.answer both.other_looks.answer came.1) [
-        | inl same ↦ come-or op r q w v here there from to other other_to line other_line (record { at = at; tick = t }) refl (works-or op own t r q w v from to other other_to both came.0 same) (λ works. record {
-          then = object-then op own t r q w v from to other other_to both came.0 same works line.1 other_line.1;
+      (get-asks trace.config both.alike.image limit opening (its_front own from) held n t at window r w both.looks) (get-asks trace.config both.alike.image limit opening (its_front own from) held n t at window q v both.other_looks) in
+      elim (get-reply from.cells n t at window both.alike.image r q w v here there both.looks.answer both.other_looks.answer came.1) [
+        | inl same ↦ inl (record {
+          then = object-then op own t r q w v from to other other_to both came.0 same line.1 other_line.1;
           reply = same;
-          pool = pool-then op r q w v came.0 same works;
+          pool = pool-then op r q w v came.0 same (works op own t r q w v from to other other_to both came.0 same);
           device = (device-then op own t r q w v from to other other_to both came.0 same).0;
           many = ap (λ (fs : List FeedDone). length fs) (other_line.0 ∙ sym line.0);
         })
@@ -350,17 +333,17 @@ module _ {P D : Type 0} (pools : Ghosts P) (devices : Devices D) (pool_len : (p 
       let did = line.1.did in
       let other_did = other_line.1.did in
       let both : BothOn op own t r q w v from to other other_to = both-on op own t r q w v here there from to other other_to line other_line b (λ x. refl) did other_did did.acts other_did.acts b.device in
-      let held : Brought → (Oid → Bool) → Type 0 = its_held own (its_front own from) from.shards t in
+      let held : (Oid → Bool) → Type 0 = AreHolders (its_front own from) in
       let limit : ℕ = trace.config.dbuf_bytes in
       let opening : List Mapping = opening_map trace (cell_of trace.config.cells at) in
       let came = asks-alike op own t r q w v from to other other_to both (start + length bytes)
-      (patch-asks trace.config both.alike.image limit opening (its_front own from) (held w.brought) n t at start bytes r w both.looks) (patch-asks trace.config both.alike.image limit opening (its_front own from) (held v.brought) n t at start bytes q v both.other_looks) in
+      (patch-asks trace.config both.alike.image limit opening (its_front own from) held n t at start bytes r w both.looks) (patch-asks trace.config both.alike.image limit opening (its_front own from) held n t at start bytes q v both.other_looks) in
       let why : Brought → Refusal → Type 0 = λ brought. RefusesAt (length both.alike.image) (Some both.alike.image) limit opening (its_front own from) brought at (start + length bytes) in
       let same : q ≡ r = done-reply (length both.alike.image) (Some both.alike.image) limit opening (its_front own from) w.brought v.brought (why w.brought) (why v.brought) r q both.looks.answer both.other_looks.answer came.1 in
-      come-or op r q w v here there from to other other_to line other_line (record { at = at; tick = t }) refl (works-or op own t r q w v from to other other_to both came.0 same) (λ works. record {
-        then = object-then op own t r q w v from to other other_to both came.0 same works line.1 other_line.1;
+      inl (record {
+        then = object-then op own t r q w v from to other other_to both came.0 same line.1 other_line.1;
         reply = same;
-        pool = pool-then op r q w v came.0 same works;
+        pool = pool-then op r q w v came.0 same (works op own t r q w v from to other other_to both came.0 same);
         device = (device-then op own t r q w v from to other other_to both came.0 same).0;
         many = ap (λ (fs : List FeedDone). length fs) (other_line.0 ∙ sym line.0);
       })
@@ -370,17 +353,17 @@ module _ {P D : Type 0} (pools : Ghosts P) (devices : Devices D) (pool_len : (p 
       let did = line.1.did in
       let other_did = other_line.1.did in
       let both : BothOn op own t r q w v from to other other_to = both-on op own t r q w v here there from to other other_to line other_line b (λ x. refl) did other_did did.acts other_did.acts b.device in
-      let held : Brought → (Oid → Bool) → Type 0 = its_held own (its_front own from) from.shards t in
+      let held : (Oid → Bool) → Type 0 = AreHolders (its_front own from) in
       let limit : ℕ = trace.config.dbuf_bytes in
       let opening : List Mapping = opening_map trace (cell_of trace.config.cells at) in
       let came = asks-alike op own t r q w v from to other other_to both 0
-      (pin-asks trace.config both.alike.image limit opening (its_front own from) (held w.brought) n t at r w both.looks) (pin-asks trace.config both.alike.image limit opening (its_front own from) (held v.brought) n t at q v both.other_looks) in
+      (pin-asks trace.config both.alike.image limit opening (its_front own from) held n t at r w both.looks) (pin-asks trace.config both.alike.image limit opening (its_front own from) held n t at q v both.other_looks) in
       let why : Brought → Refusal → Type 0 = λ brought. RefusesWhole (length both.alike.image) (Some both.alike.image) limit opening (its_front own from) brought at in
       let same : q ≡ r = done-reply (length both.alike.image) (Some both.alike.image) limit opening (its_front own from) w.brought v.brought (why w.brought) (why v.brought) r q both.looks.answer both.other_looks.answer came.1 in
-      come-or op r q w v here there from to other other_to line other_line (record { at = at; tick = t }) refl (works-or op own t r q w v from to other other_to both came.0 same) (λ works. record {
-        then = object-then op own t r q w v from to other other_to both came.0 same works line.1 other_line.1;
+      inl (record {
+        then = object-then op own t r q w v from to other other_to both came.0 same line.1 other_line.1;
         reply = same;
-        pool = pool-then op r q w v came.0 same works;
+        pool = pool-then op r q w v came.0 same (works op own t r q w v from to other other_to both came.0 same);
         device = (device-then op own t r q w v from to other other_to both came.0 same).0;
         many = ap (λ (fs : List FeedDone). length fs) (other_line.0 ∙ sym line.0);
       })
@@ -390,15 +373,15 @@ module _ {P D : Type 0} (pools : Ghosts P) (devices : Devices D) (pool_len : (p 
       let did = line.1.did in
       let other_did = other_line.1.did in
       let both : BothOn op own 0 r q w v from to other other_to = both-on op own 0 r q w v here there from to other other_to line other_line b (λ x. refl) did other_did did.acts other_did.acts b.device in
-      let held : Brought → (Oid → Bool) → Type 0 = its_held own (its_front own from) from.shards 0 in
+      let held : (Oid → Bool) → Type 0 = AreHolders (its_front own from) in
       let limit : ℕ = trace.config.dbuf_bytes in
       let opening : List Mapping = opening_map trace (cell_of trace.config.cells at) in
       let brings : v.brought ≡ w.brought = both.other_looks.together ∙ sym both.looks.together in
-      let same : q ≡ r = put-done trace.config both.alike.image limit opening (its_front own from) (held v.brought) n t at size fill q v both.other_looks ∙ sym (put-done trace.config both.alike.image limit opening (its_front own from) (held w.brought) n t at size fill r w both.looks) in
-      come-or op r q w v here there from to other other_to line other_line (record { at = at; tick = 0 }) refl (works-or op own 0 r q w v from to other other_to both brings same) (λ works. record {
-        then = object-then op own 0 r q w v from to other other_to both brings same works line.1 other_line.1;
+      let same : q ≡ r = put-done trace.config both.alike.image limit opening (its_front own from) held n t at size fill q v both.other_looks ∙ sym (put-done trace.config both.alike.image limit opening (its_front own from) held n t at size fill r w both.looks) in
+      inl (record {
+        then = object-then op own 0 r q w v from to other other_to both brings same line.1 other_line.1;
         reply = same;
-        pool = pool-then op r q w v brings same works;
+        pool = pool-then op r q w v brings same (works op own 0 r q w v from to other other_to both brings same);
         device = (device-then op own 0 r q w v from to other other_to both brings same).0;
         many = ap (λ (fs : List FeedDone). length fs) (other_line.0 ∙ sym line.0);
       })
@@ -408,15 +391,15 @@ module _ {P D : Type 0} (pools : Ghosts P) (devices : Devices D) (pool_len : (p 
       let did = line.1.did in
       let other_did = other_line.1.did in
       let both : BothOn op own 0 r q w v from to other other_to = both-on op own 0 r q w v here there from to other other_to line other_line b (λ x. refl) did other_did did.acts other_did.acts b.device in
-      let held : Brought → (Oid → Bool) → Type 0 = its_held own (its_front own from) from.shards 0 in
+      let held : (Oid → Bool) → Type 0 = AreHolders (its_front own from) in
       let limit : ℕ = trace.config.dbuf_bytes in
       let opening : List Mapping = opening_map trace (cell_of trace.config.cells at) in
       let brings : v.brought ≡ w.brought = both.other_looks.together ∙ sym both.looks.together in
-      let same : q ≡ r = unpin-done trace.config both.alike.image limit opening (its_front own from) (held v.brought) n at q v both.other_looks ∙ sym (unpin-done trace.config both.alike.image limit opening (its_front own from) (held w.brought) n at r w both.looks) in
-      come-or op r q w v here there from to other other_to line other_line (record { at = at; tick = 0 }) refl (works-or op own 0 r q w v from to other other_to both brings same) (λ works. record {
-        then = object-then op own 0 r q w v from to other other_to both brings same works line.1 other_line.1;
+      let same : q ≡ r = unpin-done trace.config both.alike.image limit opening (its_front own from) held n at q v both.other_looks ∙ sym (unpin-done trace.config both.alike.image limit opening (its_front own from) held n at r w both.looks) in
+      inl (record {
+        then = object-then op own 0 r q w v from to other other_to both brings same line.1 other_line.1;
         reply = same;
-        pool = pool-then op r q w v brings same works;
+        pool = pool-then op r q w v brings same (works op own 0 r q w v from to other other_to both brings same);
         device = (device-then op own 0 r q w v from to other other_to both brings same).0;
         many = ap (λ (fs : List FeedDone). length fs) (other_line.0 ∙ sym line.0);
       })

@@ -1,12 +1,9 @@
--- Where two runs part at a line, or at a sync at which both stopped, two contents of one digest are in hand, or a feed wanted memory, or two dbufs of a cell are cached under one key: what was done to a cell by then is what the lines before that place did.
+-- Where two runs part at a line, or at a sync at which both stopped, two contents of one digest are in hand, or a feed wanted memory: what was done to a cell by then is what the lines before that place did.
 use Rattle.std.proofs.Common.{◌≡◌, ℕ, List, subst, sym, ◌∙◌}
 use Rattle.std.specs.Prelude.{Some}
-use Rattle.blk_ptr.specs.declared.key.Key.{Key}
 use Rattle.blk_ptr.specs.declared.ptr.Ptr.{Ptr}
-use Rattle.arc_core.specs.PlainShard.{PlainShard}
-use Rattle.arc_core.specs.declared.event.Event.{Event}
 use Rattle.arc_core.specs.Config.{IsConfig}
-use Rattle.arc_table.specs.Geometry.{IsCell, cell_number}
+use Rattle.arc_table.specs.Geometry.{IsCell}
 use Rattle.dbuf_cells.specs.Places.{cell_of}
 use Rattle.dbuf_state.specs.History.{Collide, Leads}
 use Rattle.dbuf_state.specs.Objects.{PlainCell, opening_cell}
@@ -20,12 +17,10 @@ use Rattle.trace_text.specs.declared.op.Op.TheVariants as ops
 use Rattle.trace_text.specs.declared.reply.Reply.{Reply}
 use Rattle.trace_text.specs.declared.trace.Trace.{Trace}
 use Rattle.trace_run.specs.Openings.{opening_map}
-use Rattle.trace_run.specs.dbufs.ObjectLines.{OnObject}
-use Rattle.trace_run.specs.one_caller.Sequence.{outline_behind, shard_found}
 use Rattle.trace_run.proofs.deeds.OperatesDone.{cell-there}
-use Rattle.run_laws.specs.Alike.{MayPart, OneRun, SameUpTo, HoldsFewer, SeenAt, ShowsBoth, TwoContents, at_line, before_line, begun, feeds_of, front_at, memory as may_memory, picks as may_pick, replays as may_replay, fewer as may_fewer, shows as may_show}
+use Rattle.run_laws.specs.Alike.{MayPart, OneRun, SameUpTo, SeenAt, ShowsBoth, TwoContents, at_line, begun, feeds_of, front_at, memory as may_memory, picks as may_pick, replays as may_replay, shows as may_show}
 use Rattle.run_laws.proofs.LinesAlike.{ComeThere, PartsSomewhere}
-use Rattle.run_laws.proofs.Steps.{PartsAt, fewer, memory, picks, replays, shows}
+use Rattle.run_laws.proofs.Steps.{PartsAt, memory, picks, replays, shows}
 
 -- two replies show what they do of cells to which the same was done
 shows-front : (trace : Trace) (valid : IsConfig trace.config) (cells front : ℕ → List CellEvent) → ((i : ℕ) → IsCell trace.config i → cells i ≡ front i) → (op : Op) (ptr : Ptr) (bytes others : List ℕ) (reply other : Reply)
@@ -47,14 +42,6 @@ shows-front trace valid cells front are (ops.Unpin n at) ptr bytes others reply 
 shows-front trace valid cells front are ops.Feed ptr bytes others reply other shown = absurd shown
 shows-front trace valid cells front are (ops.Txg t) ptr bytes others reply other shown = absurd shown
 shows-front trace valid cells front are (ops.Cap c) ptr bytes others reply other shown = absurd shown
-
--- and so it is of a cell that holds fewer entries under a key than it has blocks cached
-fewer-front : (trace : Trace) (valid : IsConfig trace.config) (cells front : ℕ → List CellEvent) → ((i : ℕ) → IsCell trace.config i → cells i ≡ front i) → (on : OnObject) (s : Key → PlainShard)
-    → HoldsFewer (cell_number trace.config (cell_of trace.config.cells on.at)) (outline_behind trace cells (cell_of trace.config.cells on.at)) s
-    → HoldsFewer (cell_number trace.config (cell_of trace.config.cells on.at)) (outline_behind trace front (cell_of trace.config.cells on.at)) s
-fewer-front trace valid cells front are on s both =
-    let i : ℕ = cell_of trace.config.cells on.at in
-    subst (λ (es : List CellEvent). HoldsFewer (cell_number trace.config i) (outline_after trace.config.dbuf_bytes (opening_map trace i) es) s) (are i (cell-there trace.config valid on.at)) both
 
 module _ {P D : Type 0} (pools : Ghosts P) (devices : Devices D) (trace : Trace) where
   -- before the first line nothing was done to cells, so the lines before a place did all
@@ -110,15 +97,9 @@ module _ {P D : Type 0} (pools : Ghosts P) (devices : Devices D) (trace : Trace)
       pub parts-may : MayPart pools devices trace one other
       parts-may = go p.parts
         where
-          go : PartsAt pools devices trace p.cells p.shards p.line p.other_line (feeds_of pools devices trace one p.place) (feeds_of pools devices trace other p.place) → MayPart pools devices trace one other
+          go : PartsAt pools devices trace p.cells p.line p.other_line (feeds_of pools devices trace one p.place) (feeds_of pools devices trace other p.place) → MayPart pools devices trace one other
           go (shows ptr two shown) = shows-part ptr two shown
           go (replays i is_cell xs ys a b leads other_leads collide sees) =
               replays-part p.place p.cells before p.there.did i is_cell xs ys a b leads other_leads collide (at_line p.line p.other_line p.at p.other_at p.same sees)
           go (picks two) = may_pick (record { place = p.place; before = before; picks = two })
           go (memory wants) = may_memory (record { place = p.place; before = before; wants = wants })
-          go (fewer on is both) =
-              let cell : ℕ = cell_of trace.config.cells on.at in
-              let There : (ℕ → List Event) → Type 0 = λ shards.
-              HoldsFewer (cell_number trace.config cell) (outline_behind trace (front_at one.run.work.lines p.place) cell) (shard_found trace.config shards on.tick p.line.work.brought) in
-              may_fewer (before_line p.place before p.line p.other_line p.at p.other_at p.same on is (subst There (sym p.stands)
-              (fewer-front trace valid p.cells (front_at one.run.work.lines p.place) p.there.did on (shard_found trace.config p.shards on.tick p.line.work.brought) both)))

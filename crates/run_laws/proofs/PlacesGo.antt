@@ -158,14 +158,14 @@ made-gives g shard (e ∷ es) all = if-more (option_map_or (λ k. shard_of g.sha
 -- ---- events of a sync and of a capacity
 
 insert-gives : (g : Config) (tick i shard : ℕ) (history : List Event) (e : CellEvent) → GiveNone (insert_noted g tick i shard history e)
-insert-gives g tick i shard history (cell_event.Synced n at ptr) =
+insert-gives g tick i shard history (cell_event.Synced n at ptr keeps) =
     if-gives (shard_of g.shards ptr.key == shard && is_new_here ptr.key (replay (opening_of g) history)) (Insert (cell_number g i) ptr.key ptr.digest tick ∷ []) ((λ j. refl), tt)
 insert-gives g tick i shard history (cell_event.Get n at) = tt
 insert-gives g tick i shard history (cell_event.Put n at size fill) = tt
 insert-gives g tick i shard history (cell_event.Patch n at from bytes) = tt
 insert-gives g tick i shard history (cell_event.Pin n at) = tt
 insert-gives g tick i shard history (cell_event.Unpin n at) = tt
-insert-gives g tick i shard history (cell_event.Load n at) = tt
+insert-gives g tick i shard history (cell_event.Load n at keeps) = tt
 insert-gives g tick i shard history (cell_event.Evict n at) = tt
 insert-gives g tick i shard history (cell_event.End n) = tt
 

@@ -117,16 +117,16 @@ abbrev pub IsEven : (cells others : List OnHeap) → Due → Type 0
 IsEven cells others due = bytes_of_due others due ≡ bytes_of_due cells due
 
 module _ (cells others : List OnHeap) where
-  at-same : (group place : ℕ) (due : Due) → IsEven cells others due → at_place group place others due ≡ at_place group place cells due
-  at-same group place due same = λ i. record { due = due; bytes = same i; ptr = ptr_at group place (same i) }
+  at-same : (held : Due → Bool) (group place : ℕ) (due : Due) → IsEven cells others due → at_place held group place others due ≡ at_place held group place cells due
+  at-same held group place due same = λ i. record { due = due; bytes = same i; ptr = ptr_at group place (same i); held = held due }
 
   -- blocks of the same bytes are written to the same places
-  pub items-same : (group place : ℕ) (dues : List Due) → AllByRecursion (IsEven cells others) dues → items_from group place others dues ≡ items_from group place cells dues
-  items-same group place [] even = refl
-  items-same group place (due ∷ dues) even =
-      let here : items_from group place others (due ∷ dues) ≡ at_place group place cells due ∷ items_from group (place + length (bytes_of_due cells due)) others dues =
-      λ i. at-same group place due even.0 i ∷ items_from group (place + length (even.0 i)) others dues in
-      here ∙ ap (λ (xs : List SyncItem). at_place group place cells due ∷ xs) (items-same group (place + length (bytes_of_due cells due)) dues even.1)
+  pub items-same : (held : Due → Bool) (group place : ℕ) (dues : List Due) → AllByRecursion (IsEven cells others) dues → items_from held group place others dues ≡ items_from held group place cells dues
+  items-same held group place [] even = refl
+  items-same held group place (due ∷ dues) even =
+      let here : items_from held group place others (due ∷ dues) ≡ at_place held group place cells due ∷ items_from held group (place + length (bytes_of_due cells due)) others dues =
+      λ i. at-same held group place due even.0 i ∷ items_from held group (place + length (even.0 i)) others dues in
+      here ∙ ap (λ (xs : List SyncItem). at_place held group place cells due ∷ xs) (items-same held group (place + length (bytes_of_due cells due)) dues even.1)
 
   -- one of these blocks has other bytes
   pub record DueApart (dues : List Due) : Type 0 where

@@ -202,7 +202,7 @@ module _ {P D : Type 0} (pools : Ghosts P) (devices : Devices D) (pool_len : (p 
   abbrev Comes : (op : Op) (r q : Reply) (w v : Work) (here there : List FeedDone) (from to other other_to : BetweenLines P D) → DoesAnyLine pools devices trace (caller_of op) (line_of op r w) here from to
       → DoesAnyLine pools devices trace (caller_of op) (line_of op q v) there other other_to → Type 0
   Comes op r q w v here there from to other other_to did other_did =
-      StepAlike pools devices trace (line_of op r w) (line_of op q v) here there from to other other_to did other_did ⊎ PartsAt pools devices trace from.cells from.shards (line_of op r w) (line_of op q v) here there
+      StepAlike pools devices trace (line_of op r w) (line_of op q v) here there from to other other_to did other_did ⊎ PartsAt pools devices trace from.cells (line_of op r w) (line_of op q v) here there
 
   -- a read, a hold or a drop
   pub block-step : (op : Op) → IsOnBlock op → (r q : Reply) (w v : Work) (here there : List FeedDone) (from to other other_to : BetweenLines P D) (did : DoesAnyLine pools devices trace (caller_of op) (line_of op r w) here from to)

@@ -56,9 +56,9 @@ not-due c (events.Put n at size fill) un legal = legal
 not-due c (events.Patch n at from bytes) un legal = (and-parts (not (is_due c)) _ legal).0
 not-due c (events.Pin n at) un legal = (and-parts (not (is_due c)) _ legal).0
 not-due c (events.Unpin n at) un legal = (and-parts (not (is_due c)) _ legal).0
-not-due c (events.Load n at) un legal = (and-parts (not (is_due c)) _ legal).0
+not-due c (events.Load n at keeps) un legal = (and-parts (not (is_due c)) _ legal).0
 not-due c (events.Evict n at) un legal = absurd (let clash : true ≡ false = un in cc)
-not-due c (events.Synced n at ptr) un legal = legal.0
+not-due c (events.Synced n at ptr keeps) un legal = legal.0
 not-due c (events.End n) un legal = legal
 
 -- these events are the front of a legal history, which goes on with one that is no eviction

@@ -1,6 +1,6 @@
 -- How the lines of two runs end: where one run has no room for a sync, or a write of it fails, the other has none or fails at the same block. Where a write of both failed, one history may have led a cell to two states (spa_sync for a
 -- single thread).
-use Rattle.std.proofs.Common.{◌≡◌, ◌⊎◌, ◌+◌, ◌-◌, ◌<◌, ◌≤◌, ℕ, suc, List, [], ◌∷◌, ◌++◌, length, length-append, map, Option, Some, refl, sym, ap, ◌∙◌, subst, inl, inr, arith}
+use Rattle.std.proofs.Common.{◌≡◌, ◌⊎◌, ◌+◌, ◌-◌, ◌<◌, ◌≤◌, ℕ, suc, List, [], ◌∷◌, ◌++◌, length, length-append, map, Option, Some, refl, sym, ap, ◌∙◌, subst, inl, inr, arith, Bool}
 use Rattle.std.proofs.lemmas.Bool.{cases_lt}
 use Rattle.std.proofs.lemmas.Option.{slice_get_within}
 use Rattle.arc_core.specs.declared.config.Config.{Config}
@@ -22,7 +22,7 @@ use Rattle.trace_run.specs.declared.ran.Ending.{Ending}
 use Rattle.trace_run.specs.declared.ran.Ending.TheVariants.{Fork, Full, Sync, Whole}
 use Rattle.trace_run.specs.Deeds.{Noted}
 use Rattle.trace_run.specs.Effects.{calls_of}
-use Rattle.trace_run.specs.Syncing.{inserts_noted, noted_of}
+use Rattle.trace_run.specs.Syncing.{AreHeldNew, inserts_noted, noted_of}
 use Rattle.trace_run.specs.callers.Together.{StopsAtSync}
 use Rattle.trace_run.specs.callers.WorkLines.{effect_with}
 use Rattle.trace_run.specs.dbufs.Objects.{Nothing, Work}
@@ -33,7 +33,7 @@ use Rattle.run_laws.proofs.LinesAlike.{alike-sym}
 use Rattle.run_laws.proofs.PlainDues.{even-or-apart, views_of}
 use Rattle.run_laws.proofs.Rows.{given-failed, so-far-sym}
 use Rattle.run_laws.proofs.SyncCells.{CollidesIn, apart-collides, dirty-one, views-alike}
-use Rattle.run_laws.proofs.SyncStep.{items-one, need-one, sync_line}
+use Rattle.run_laws.proofs.SyncStep.{need-one, sync_line, written-one}
 
 -- ---- lists
 
@@ -50,9 +50,9 @@ front-same (x ∷ xs) (y ∷ ys) us vs many is =
     λ i. first i ∷ rest i
 
 -- one note for each block
-many-noted : (n group place : ℕ) (cells : List OnHeap) (dues : List Due) → length (noted_of n (items_from group place cells dues)) ≡ length dues
-many-noted n group place cells [] = refl
-many-noted n group place cells (due ∷ dues) = ap suc (many-noted n group (place + length (bytes_of_due cells due)) cells dues)
+many-noted : (held : Due → Bool) (n group place : ℕ) (cells : List OnHeap) (dues : List Due) → length (noted_of n (items_from held group place cells dues)) ≡ length dues
+many-noted held n group place cells [] = refl
+many-noted held n group place cells (due ∷ dues) = ap suc (many-noted held n group (place + length (bytes_of_due cells due)) cells dues)
 
 -- rows that failed behind what they gave are alike only where they gave as often
 given-same : (xs ys : List Noted) → AreAlikeSoFar (map (λ x. Gave) xs ++ Failed ∷ []) (map (λ y. Gave) ys ++ Failed ∷ []) → length ys ≡ length xs
@@ -117,20 +117,21 @@ module _ {P D : Type 0} (pools : Ghosts P) (devices : Devices D) (pool_len : (p 
     both-fail one two rows =
         let a = one.stops.answer.stops in
         let b = two.stops.answer.stops in
-        let xs : List SyncItem = items_from at.outside.group at.outside.next a.cells a.done in
-        let ys : List SyncItem = items_from other.outside.group other.outside.next b.cells b.done in
+        let xs : List SyncItem = items_from a.held at.outside.group at.outside.next a.cells a.done in
+        let ys : List SyncItem = items_from b.held other.outside.group other.outside.next b.cells b.done in
         let same : views_of b.cells ≡ views_of a.cells = views-alike trace at.cells other.cells like.cells v w a.cells b.cells xs ys a.turns b.turns in
         let whole : b.done ++ b.due ∷ b.rest ≡ a.done ++ a.due ∷ a.rest = dirty-one a.cells b.cells (a.done ++ a.due ∷ a.rest) (b.done ++ b.due ∷ b.rest) same a.dirty b.dirty in
-        let first : length v.noted ≡ length a.done = ap length a.turns.noted ∙ many-noted g.callers at.outside.group at.outside.next a.cells a.done in
-        let second : length w.noted ≡ length b.done = ap length b.turns.noted ∙ many-noted g.callers other.outside.group other.outside.next b.cells b.done in
+        let first : length v.noted ≡ length a.done = ap length a.turns.noted ∙ many-noted a.held g.callers at.outside.group at.outside.next a.cells a.done in
+        let second : length w.noted ≡ length b.done = ap length b.turns.noted ∙ many-noted b.held g.callers other.outside.group other.outside.next b.cells b.done in
         let many : length b.done ≡ length a.done = sym second ∙ (given-same v.noted w.noted rows ∙ first) in
         let done : b.done ≡ a.done = front-same b.done a.done (b.due ∷ b.rest) (a.due ∷ a.rest) many whole in
         elim (even-or-apart a.cells b.cells a.done) [
           | inl even ↦
-              let items : ys ≡ xs = items-one a.cells b.cells a.done b.done at.outside.group other.outside.group at.outside.next other.outside.next even done like.group like.next in
+              let items : ys ≡ xs = written-one g one.stops.behind.tick g.callers v.noted w.noted a.cells b.cells a.held b.held a.done b.done at.outside.group other.outside.group at.outside.next other.outside.next at.shards other.shards
+              even done like.group like.next like.shards a.turns.noted b.turns.noted one.leaves.held (subst (λ (t : ℕ). (shard : ℕ) → AreHeldNew g t w.noted shard (other.shards shard)) (same-tick trace replies one.stops.behind two.stops.behind) two.leaves.held) in
               let noted : w.noted ≡ v.noted = b.turns.noted ∙ (ap (noted_of g.callers) items ∙ sym a.turns.noted) in
               inl (leaves-alike one.stops.behind.tick two.stops.behind.tick v w at to other other_to Sync Sync one.leaves two.leaves like (same-tick trace replies one.stops.behind two.stops.behind) refl noted)
-          | inr x ↦ inr (apart-collides trace at.cells other.cells like.cells v w a.cells b.cells xs ys a.turns b.turns at.outside.group at.outside.next other.outside.group other.outside.next a.done b.done done a.turns.noted b.turns.noted x)
+          | inr x ↦ inr (apart-collides trace at.cells other.cells like.cells v w a.cells b.cells xs ys a.turns b.turns a.held b.held at.outside.group at.outside.next other.outside.group other.outside.next a.done b.done done a.turns.noted b.turns.noted x)
         ]
 
     -- neither had room
@@ -151,7 +152,7 @@ module _ {P D : Type 0} (pools : Ghosts P) (devices : Devices D) (pool_len : (p 
     fail-full need left one two =
         let a = one.stops.answer.stops in
         let b = two.stops.answer in
-        let same : views_of b.cells ≡ views_of a.cells = views-alike trace at.cells other.cells like.cells v w a.cells b.cells (items_from at.outside.group at.outside.next a.cells a.done) [] a.turns b.turns in
+        let same : views_of b.cells ≡ views_of a.cells = views-alike trace at.cells other.cells like.cells v w a.cells b.cells (items_from a.held at.outside.group at.outside.next a.cells a.done) [] a.turns b.turns in
         let full : pools.size other.outside.pool - other.outside.next < need_of b.cells b.dues = (let x = b.full in let y = b.need_is in let z = b.left_is in omega (arith, x, y, z)) in
         fits-full a.cells b.cells (a.done ++ a.due ∷ a.rest) b.dues (pools.size at.outside.pool - at.outside.next) (pools.size other.outside.pool - other.outside.next) same a.dirty b.dirty (room-same at other like) a.fits full
 
@@ -159,7 +160,7 @@ module _ {P D : Type 0} (pools : Ghosts P) (devices : Devices D) (pool_len : (p 
     full-fail need left one two =
         let a = one.stops.answer in
         let b = two.stops.answer.stops in
-        let same : views_of b.cells ≡ views_of a.cells = views-alike trace at.cells other.cells like.cells v w a.cells b.cells [] (items_from other.outside.group other.outside.next b.cells b.done) a.turns b.turns in
+        let same : views_of b.cells ≡ views_of a.cells = views-alike trace at.cells other.cells like.cells v w a.cells b.cells [] (items_from b.held other.outside.group other.outside.next b.cells b.done) a.turns b.turns in
         let full : pools.size at.outside.pool - at.outside.next < need_of a.cells a.dues = (let x = a.full in let y = a.need_is in let z = a.left_is in omega (arith, x, y, z)) in
         full-fits a.cells b.cells a.dues (b.done ++ b.due ∷ b.rest) (pools.size at.outside.pool - at.outside.next) (pools.size other.outside.pool - other.outside.next) same a.dirty b.dirty (room-same at other like) full b.fits
 
@@ -201,11 +202,11 @@ module _ {P D : Type 0} (pools : Ghosts P) (devices : Devices D) (pool_len : (p 
     on-fail two us rows =
         let a = did.synced.answer in
         let b = two.stops.answer.stops in
-        let same : views_of b.cells ≡ views_of a.cells = views-alike trace at.cells other.cells like.cells v w a.cells b.cells (items_from at.outside.group at.outside.next a.cells a.dues)
-        (items_from other.outside.group other.outside.next b.cells b.done) a.turns b.turns in
+        let same : views_of b.cells ≡ views_of a.cells = views-alike trace at.cells other.cells like.cells v w a.cells b.cells (items_from a.held at.outside.group at.outside.next a.cells a.dues)
+        (items_from b.held other.outside.group other.outside.next b.cells b.done) a.turns b.turns in
         let whole : b.done ++ b.due ∷ b.rest ≡ a.dues = dirty-one a.cells b.cells a.dues (b.done ++ b.due ∷ b.rest) same a.dirty b.dirty in
-        let first : length v.noted ≡ length a.dues = ap length a.turns.noted ∙ many-noted g.callers at.outside.group at.outside.next a.cells a.dues in
-        let second : length w.noted ≡ length b.done = ap length b.turns.noted ∙ many-noted g.callers other.outside.group other.outside.next b.cells b.done in
+        let first : length v.noted ≡ length a.dues = ap length a.turns.noted ∙ many-noted a.held g.callers at.outside.group at.outside.next a.cells a.dues in
+        let second : length w.noted ≡ length b.done = ap length b.turns.noted ∙ many-noted b.held g.callers other.outside.group other.outside.next b.cells b.done in
         let split = length-append b.done (b.due ∷ b.rest) in
         let long = ap length whole in
         given-failed v.noted w.noted us [] (omega (arith, first, second, split, long)) rows
@@ -214,7 +215,7 @@ module _ {P D : Type 0} (pools : Ghosts P) (devices : Devices D) (pool_len : (p 
     on-full need left two =
         let a = did.synced.answer in
         let b = two.stops.answer in
-        let same : views_of b.cells ≡ views_of a.cells = views-alike trace at.cells other.cells like.cells v w a.cells b.cells (items_from at.outside.group at.outside.next a.cells a.dues) [] a.turns b.turns in
+        let same : views_of b.cells ≡ views_of a.cells = views-alike trace at.cells other.cells like.cells v w a.cells b.cells (items_from a.held at.outside.group at.outside.next a.cells a.dues) [] a.turns b.turns in
         let full : pools.size other.outside.pool - other.outside.next < need_of b.cells b.dues = (let x = b.full in let y = b.need_is in let z = b.left_is in omega (arith, x, y, z)) in
         fits-full a.cells b.cells a.dues b.dues (pools.size at.outside.pool - at.outside.next) (pools.size other.outside.pool - other.outside.next) same a.dirty b.dirty (room-same at other like) a.fits full
 

@@ -1,6 +1,6 @@
 -- The cells that two syncs took, to which the same had been done: they have the same outlines, so the same dirty blocks; and a block of which they have other bytes is of a cell that has come by one history to two
 -- states (spa_sync, dbuf_sync_list).
-use Rattle.std.proofs.Common.{◌≡◌, ◌<◌, ◌+◌, ℕ, zero, suc, IsPermutation, List, [], ◌∷◌, length, Option, Some, None, slice_get, refl, sym, ap, ◌∙◌, subst, inl, inr}
+use Rattle.std.proofs.Common.{◌≡◌, ◌<◌, ◌+◌, ℕ, zero, suc, IsPermutation, List, [], ◌∷◌, length, Option, Some, None, slice_get, refl, sym, ap, ◌∙◌, subst, inl, inr, Bool}
 use Rattle.std.specs.Option.{option_map}
 use Rattle.std.proofs.lemmas.Option.{slice_get_within}
 use Rattle.arc_table.specs.Geometry.{IsCell}
@@ -40,13 +40,13 @@ due-same : (x y : Due) → ◌≡◌ {A = Option Due} (Some x) (Some y) → x �
 due-same x y is = cc
 
 -- at the place of a block it is noted that its bytes were written
-abbrev note_of : (n group place : ℕ) → List OnHeap → Due → Noted
-note_of n group place cells due = record { cell = due.cell; event = WasSynced n due.at (ptr_at group place (bytes_of_due cells due)) }
+abbrev note_of : (held : Due → Bool) → (n group place : ℕ) → List OnHeap → Due → Noted
+note_of held n group place cells due = record { cell = due.cell; event = WasSynced n due.at (ptr_at group place (bytes_of_due cells due)) (held due) }
 
-note-at : (n group place : ℕ) (cells : List OnHeap) (dues : List Due) (k : ℕ) (due : Due) → slice_get dues k ≡ Some due → (p : ℕ) × (slice_get (noted_of n (items_from group place cells dues)) k ≡ Some (note_of n group p cells due))
-note-at n group place cells [] k due at = absurd (let clash : ◌≡◌ {A = Option Due} None (Some due) = at in cc)
-note-at n group place cells (x ∷ dues) zero due at = (place, ap (λ (d : Due). Some (note_of n group place cells d)) (due-same x due at))
-note-at n group place cells (x ∷ dues) (suc k) due at = note-at n group (place + length (bytes_of_due cells x)) cells dues k due at
+note-at : (held : Due → Bool) (n group place : ℕ) (cells : List OnHeap) (dues : List Due) (k : ℕ) (due : Due) → slice_get dues k ≡ Some due → (p : ℕ) × (slice_get (noted_of n (items_from held group place cells dues)) k ≡ Some (note_of held n group p cells due))
+note-at held n group place cells [] k due at = absurd (let clash : ◌≡◌ {A = Option Due} None (Some due) = at in cc)
+note-at held n group place cells (x ∷ dues) zero due at = (place, ap (λ (d : Due). Some (note_of held n group place cells d)) (due-same x due at))
+note-at held n group place cells (x ∷ dues) (suc k) due at = note-at held n group (place + length (bytes_of_due cells x)) cells dues k due at
 
 -- one dbuf has one list of dirty bytes
 dirty-same : (d e : PlainDbuf) (xs ys : List ℕ) → ◌≡◌ {A = Option PlainDbuf} (Some d) (Some e) → d.block ≡ Dirty xs → e.block ≡ Dirty ys → xs ≡ ys
@@ -76,16 +76,17 @@ module _ (trace : Trace) where
       subst (λ (x : ℕ × List Mapping × List CellEvent). Leads (opening_cell x.0 x.1) x.2 sound.bases (plain_cell sound.evicting c.value)) (λ z. (takes.limit i c there z, takes.opening i c there z, takes.history i c there z)) sound.history.legal
 
   -- so a block that is dirty there was written of a state to which they lead
-  wrote-there : (work : Work) (cells : List OnHeap) (group next : ℕ) (dues : List Due) (k : ℕ) (due : Due) → work.noted ≡ noted_of trace.config.callers (items_from group next cells dues) → slice_get dues k ≡ Some due
+  wrote-there : (held : Due → Bool) (work : Work) (cells : List OnHeap) (group next : ℕ) (dues : List Due) (k : ℕ) (due : Due) → work.noted ≡ noted_of trace.config.callers (items_from held group next cells dues) → slice_get dues k ≡ Some due
       → (f : DueFound cells due) (sound : IsSound f.cell.value) → WroteFrom due.cell (plain_cell sound.evicting f.cell.value) due.at (bytes_of_due cells due) work.noted k
-  wrote-there work cells group next dues k due noted at f sound =
-      let note = note-at trace.config.callers group next cells dues k due at in
+  wrote-there held work cells group next dues k due noted at f sound =
+      let note = note-at held trace.config.callers group next cells dues k due at in
       record {
         dbuf = plain_dbuf f.dbuf;
         there = plain-found due.at f.cell.value.dbufs ∙ ap (option_map plain_dbuf) f.found;
         dirty = ap (λ (c : Content). plain_block c f.dbuf.state) f.dirty;
         n = trace.config.callers;
         ptr = ptr_at group note.0 (bytes_of_due cells due);
+        held = held due;
         of = record { size = refl; digest = refl };
         note = ap (λ (ns : List Noted). slice_get ns k) noted ∙ note.1;
       }
@@ -117,8 +118,8 @@ module _ (trace : Trace) where
     pub views-alike : views_of others ≡ views_of cells
     views-alike = views-by cells others (takes.many ∙ sym other_takes.many) view-alike
 
-    module _ (group next other_group other_next : ℕ) (dues ends : List Due) (listed : ends ≡ dues) (noted : work.noted ≡ noted_of trace.config.callers (items_from group next cells dues))
-        (other_noted : other_work.noted ≡ noted_of trace.config.callers (items_from other_group other_next others ends)) where
+    module _ (held other_held : Due → Bool) (group next other_group other_next : ℕ) (dues ends : List Due) (listed : ends ≡ dues) (noted : work.noted ≡ noted_of trace.config.callers (items_from held group next cells dues))
+        (other_noted : other_work.noted ≡ noted_of trace.config.callers (items_from other_held other_group other_next others ends)) where
       -- a block of which they have other bytes is of a cell that has come to two states
       pub apart-collides : DueApart cells others dues → CollidesIn from work.noted other_work.noted
       apart-collides x =
@@ -131,8 +132,8 @@ module _ (trace : Trace) where
           let is_cell : IsCell trace.config due.cell = its-cell due.cell f.cell f.at in
           let state : PlainCell = plain_cell one.evicting f.cell.value in
           let other_state : PlainCell = plain_cell two.evicting g.cell.value in
-          let wrote = wrote-there work cells group next dues x.k due noted x.at f one in
-          let other_wrote = wrote-there other_work others other_group other_next ends x.k due other_noted (ap (λ (ds : List Due). slice_get ds x.k) listed ∙ x.at) g two in
+          let wrote = wrote-there held work cells group next dues x.k due noted x.at f one in
+          let other_wrote = wrote-there other_held other_work others other_group other_next ends x.k due other_noted (ap (λ (ds : List Due). slice_get ds x.k) listed ∙ x.at) g two in
           let writes : WritesTwo due.cell state other_state work.noted other_work.noted = record { at = due.at; k = x.k; bytes = bytes_of_due cells due; others = bytes_of_due others due; differ = x.apart; wrote = wrote; other_wrote = other_wrote } in
           let first = one-leads due.cell f.cell f.at one in
           let second = other-leads due.cell is_cell g.cell g.at two in

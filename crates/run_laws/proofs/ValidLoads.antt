@@ -36,7 +36,7 @@ use Rattle.trace_run.specs.Openings.{opening_map}
 use Rattle.trace_run.specs.RunWork.{AllFit, FitsBy, FitsFeeder, IsSyncedNote}
 use Rattle.trace_run.specs.dbufs.ObjectLines.{OnObject, on_object}
 use Rattle.trace_run.specs.dbufs.ObjectReplies.{ActsAt, ActsBy, ActsFor, BringsAt}
-use Rattle.trace_run.specs.dbufs.Objects.{Brought, Line, Loaded, Nothing, OwnEvent, Refused, Work, loads_of, no_work, own_event}
+use Rattle.trace_run.specs.dbufs.Objects.{Brought, Line, Loaded, Nothing, OwnEvent, Refused, Work, gives_hold, loads_of, no_work, own_event}
 use Rattle.trace_run.specs.one_caller.Sequence.{AreInSequence, BetweenLines, DoesAnyLine, DoesOther, DoesOwn, outline_behind}
 use Rattle.trace_run.proofs.deeds.NotedCells.{noted-else, noted-here}
 use Rattle.trace_run.proofs.in_place.AloneStands.{IsToldUpTo, StandsFine, line-fine}
@@ -91,8 +91,8 @@ module _ (len : ℕ) where
 
   -- what the event makes the cell keep has a valid key
   abbrev pub IsValidNote : Outline → CellEvent → Type 0
-  IsValidNote o (events.Load n at) = (ptr : Ptr) → mapped_at at o ≡ Some (Clean ptr) → IsValid len ptr.key
-  IsValidNote o (events.Synced n at ptr) = IsValid len ptr.key
+  IsValidNote o (events.Load n at keeps) = (ptr : Ptr) → mapped_at at o ≡ Some (Clean ptr) → IsValid len ptr.key
+  IsValidNote o (events.Synced n at ptr keeps) = IsValid len ptr.key
   IsValidNote o (events.Get n at) = Unit {0}
   IsValidNote o (events.Put n at size fill) = Unit {0}
   IsValidNote o (events.Patch n at from bytes) = Unit {0}
@@ -117,10 +117,10 @@ module _ (len : ℕ) where
   effect-valid o (events.Patch n at from bytes) note all = changed-all IsKeptValid at (λ d. dirtied (mapped_size d.mapped) d) o.dbufs (λ d found v. keeps-none (dirtied (mapped_size d.mapped) d) refl) all
   effect-valid o (events.Pin n at) note all = changed-all IsKeptValid at (with_pins (pinned n)) o.dbufs (λ d found v. record { valid = v.valid }) all
   effect-valid o (events.Unpin n at) note all = changed-all IsKeptValid at (with_pins (unpinned n)) o.dbufs (λ d found v. record { valid = v.valid }) all
-  effect-valid o (events.Load n at) note all = changed-all IsKeptValid at (λ d. record d { cached = is_clean d.mapped }) o.dbufs
+  effect-valid o (events.Load n at keeps) note all = changed-all IsKeptValid at (λ d. record d { cached = is_clean d.mapped }) o.dbufs
       (λ d found v. record { valid = λ kept ptr is. note ptr (ap (option_map (λ (x : OutlineDbuf). x.mapped)) found ∙ ap (λ (m : Mapped). Some m) is) }) all
   effect-valid o (events.Evict n at) note all = changed-all IsKeptValid at (λ d. record d { cached = false }) o.dbufs (λ d found v. keeps-none (record d { cached = false }) refl) all
-  effect-valid o (events.Synced n at ptr) note all = changed-all IsKeptValid at (λ d. record d { mapped = Clean ptr; cached = true }) o.dbufs
+  effect-valid o (events.Synced n at ptr keeps) note all = changed-all IsKeptValid at (λ d. record d { mapped = Clean ptr; cached = true }) o.dbufs
       (λ d found v. record { valid = λ kept other is. subst (λ (p : Ptr). IsValid len p.key) (same-pointer ptr other is) note }) all
   effect-valid o (events.End n) note all = mapped-all IsKeptValid ended o.dbufs (λ d. keeps-none (ended d) refl)
 
@@ -164,7 +164,7 @@ module _ (len : ℕ) where
   line-noted n at Nothing e xs o own brings = (own o, evicts-noted n xs (after o e))
   line-noted n at (Loaded ptr from) e xs o own brings = (
     (λ other is. subst (λ (p : Ptr). IsValid len p.key) (same-pointer ptr other (same-mapped (Clean ptr) (Clean other) (sym brings.0.pointer ∙ is))) brings.1),
-    (own (after o (events.Load n at)), evicts-noted n xs (after (after o (events.Load n at)) e)),
+    (own (after o (events.Load n at (gives_hold from))), evicts-noted n xs (after (after o (events.Load n at (gives_hold from))) e)),
   )
   line-noted n at (Refused ptr) e xs o own brings = (own o, evicts-noted n xs (after o e))
 

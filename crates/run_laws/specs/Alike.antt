@@ -1,22 +1,22 @@
 -- Two runs of one trace by one caller, over the same bytes, of which the same calls failed: they come to the same (arc_read, dmu_read, dmu_write, spa_sync and l2arc_feed_thread, for a single thread).
-use Rattle.std.specs.Prelude.{◌≡◌, ◌≢◌, ◌⊎◌, ◌<◌, ◌≤◌, ℕ, zero, suc, true, false, List, [], ◌∷◌, ◌++◌, length, map, take, Option, None, Some, IfSome, slice_get}
+use Rattle.std.specs.Prelude.{◌≡◌, ◌≢◌, ◌⊎◌, ◌<◌, ◌≤◌, ℕ, Bool, zero, suc, true, false, List, [], ◌∷◌, ◌++◌, length, map, take, Option, None, Some, IfSome, slice_get}
 use Rattle.blk_ptr.specs.Hash.{shard_of}
 use Rattle.blk_ptr.specs.declared.key.Key.{Key}
 use Rattle.blk_ptr.specs.declared.ptr.Ptr.{Ptr}
 use Rattle.blk_ptr.specs.Ptr.{IsOf}
-use Rattle.arc_core.specs.PlainShard.{PlainShard, count_of, place_of}
+use Rattle.arc_core.specs.PlainShard.{PlainShard, place_of}
 use Rattle.arc_core.specs.declared.config.Config.{Config}
-use Rattle.arc_core.specs.declared.event.Event.{Event}
 use Rattle.arc_core.specs.declared.served.Served.{Served}
+use Rattle.arc_core.specs.declared.served.Served.TheVariants as served
 use Rattle.arc_table.specs.Ended.{Ended}
 use Rattle.arc_table.specs.Fetching.{bytes_from}
-use Rattle.arc_table.specs.Geometry.{IsCell, cell_number}
+use Rattle.arc_table.specs.Geometry.{IsCell}
 use Rattle.dbuf_cells.specs.Places.{cell_of}
-use Rattle.dbuf_cells.specs.Turns.{OnHeap, cached_under}
+use Rattle.dbuf_cells.specs.Turns.{OnHeap}
 use Rattle.dbuf_state.specs.Dbufs.{window_of}
 use Rattle.dbuf_state.specs.History.{Collide, Leads}
 use Rattle.dbuf_state.specs.Objects.{Dirty, PlainCell, PlainDbuf, dbuf_at, opening_cell}
-use Rattle.dbuf_state.specs.Outline.{Outline, mapped_at}
+use Rattle.dbuf_state.specs.Outline.{mapped_at}
 use Rattle.dbuf_state.specs.declared.event.CellEvent.{CellEvent}
 use Rattle.dbuf_state.specs.declared.event.CellEvent.TheVariants.{Synced as WasSynced}
 use Rattle.dbuf_state.specs.declared.oid.Oid.{Oid}
@@ -57,14 +57,11 @@ use Rattle.trace_run.specs.Restores.{found_keys}
 use Rattle.trace_run.specs.States.{Handed}
 use Rattle.trace_run.specs.callers.Together.{between_groups}
 use Rattle.trace_run.specs.callers.WorkLines.{AsksBrought, effect_with}
-use Rattle.trace_run.specs.KeptBlocks.{held_in_shard}
-use Rattle.trace_run.specs.dbufs.CellEnds.{with_more}
 use Rattle.trace_run.specs.dbufs.ObjectLines.{OnObject, on_object}
 use Rattle.trace_run.specs.dbufs.Objects.{Brought, Line, Loaded, Nothing, Refused, Work, replies_of}
 use Rattle.trace_run.specs.one_caller.Asking.{AsksLine}
 use Rattle.trace_run.specs.one_caller.InTurn.{RunsInTurn}
-use Rattle.trace_run.specs.one_caller.Sequence.{AreInSequence, BetweenLines, DoesAnyLine, DoesOwn, IfLent, NotFromDevice, begins_so, outline_behind, shard_behind, shard_found}
-use Rattle.trace_run.specs.one_caller.OneCaller.{events_of_drops}
+use Rattle.trace_run.specs.one_caller.Sequence.{AreInSequence, BetweenLines, DoesAnyLine, DoesOwn, IfLent, NotFromDevice, begins_so, outline_behind, shard_behind}
 
 -- ---- which calls failed
 
@@ -144,12 +141,6 @@ module _ {P D : Type 0} (pools : Ghosts P) (devices : Devices D) (trace : Trace)
   feeds_at [] feeds from to did place = []
   feeds_at (l ∷ ls) feeds from to did zero = did.1
   feeds_at (l ∷ ls) feeds from to did (suc place) = feeds_at ls did.2 did.0 to did.5 place
-
-  -- what stood before the line at this place
-  abbrev pub stands_at : (ls : List Line) (feeds : List FeedDone) (from to : BetweenLines P D) → AreInSequence pools devices trace ls feeds from to → (place : ℕ) → BetweenLines P D
-  stands_at [] feeds from to did place = from
-  stands_at (l ∷ ls) feeds from to did zero = from
-  stands_at (l ∷ ls) feeds from to did (suc place) = stands_at ls did.2 did.0 to did.5 place
 
 -- ---- what stands between two lines is alike
 
@@ -282,8 +273,9 @@ pub record WroteFrom (i : ℕ) (state : PlainCell) (at : Oid) (bytes : List ℕ)
   pub dirty : dbuf.block ≡ Dirty bytes
   pub n : ℕ
   pub ptr : Ptr
+  pub held : Bool
   pub of : IsOf bytes ptr
-  pub note : slice_get noted k ≡ Some (record { cell = i; event = WasSynced n at ptr })
+  pub note : slice_get noted k ≡ Some (record { cell = i; event = WasSynced n at ptr held })
 
 -- of one Oid two syncs wrote bytes that differ, which two states of its cell have
 pub record WritesTwo (i : ℕ) (state other_state : PlainCell) (noted other_noted : List Noted) : Type 0 where
@@ -347,16 +339,6 @@ pub record WantsMemory (feeds : List FeedDone) : Type 0 where
   pub at : slice_get feeds place ≡ Some feed
   pub wants : (feed.report.end ≡ stop.NoMemory) ⊎ (¬ NoneRefused feed.acts)
 
--- Under a key the number c of a cell has a hold in this shard, and fewer than the cell has blocks cached: for which of them, nothing tells.
-pub record HoldsFewer (c : ℕ) (o : Outline) (shard : Key → PlainShard) : Type 0 where
-  pub key : Key
-  pub some : 0 < count_of c key (shard key)
-  pub fewer : count_of c key (shard key) < cached_under key o
-
--- what all lines did to a cell, and the sync that stopped behind them
-abbrev pub front_last : List Line → (stopped : Work) → (i : ℕ) → List CellEvent
-front_last lines stopped i = done_to i lines ++ events_of_cell i stopped.noted
-
 -- ---- the law
 
 -- A run of one caller that came to a report, of a trace with a line on an object, a sync or a feed. Its device was started by these reads; its lines were done in sequence; its feeds went on from the cursor that the
@@ -398,15 +380,6 @@ module _ {P D : Type 0} (pools : Ghosts P) (devices : Devices D) (trace : Trace)
   abbrev pub feeds_of : OneRun pools devices trace → (place : ℕ) → List FeedDone
   feeds_of run place = feeds_at pools devices trace run.run.work.lines run.run.work.feeds (begun run) run.in_turn.reached run.in_turn.lines place
 
-  -- what stood before its line at this place
-  abbrev pub stands_of : OneRun pools devices trace → (place : ℕ) → BetweenLines P D
-  stands_of run place = stands_at pools devices trace run.run.work.lines run.run.work.feeds (begun run) run.in_turn.reached run.in_turn.lines place
-
-  -- the shard of a key as it closes, behind the drops of the caller's kept reads and these of what cells keep
-  abbrev pub shard_closing : OneRun pools devices trace → (drops : List Event) → Key → PlainShard
-  shard_closing run drops k = shard_behind trace.config (with_more trace.config (λ shard. run.in_turn.last_line.shards shard ++ events_of_drops 0 (held_in_shard trace.config shard run.in_turn.last_line.kept)) drops)
-      (shard_of trace.config.shards k)
-
 module _ {P D : Type 0} (pools : Ghosts P) (devices : Devices D) (trace : Trace) (one other : OneRun pools devices trace) where
   -- both began over the same bytes of the pool and of the device
   pub record BeginAlike : Type 0 where
@@ -432,32 +405,18 @@ module _ {P D : Type 0} (pools : Ghosts P) (devices : Devices D) (trace : Trace)
     pub before : SameUpTo trace one.run.work.lines other.run.work.lines place
     pub wants : WantsMemory (feeds_of pools devices trace one place) ⊎ WantsMemory (feeds_of pools devices trace other place)
 
-  -- At a line of both on an object, before which both came to the same, the line's cell holds fewer entries under a key than it has blocks cached, as the shards tell behind the line's access. Or so it is of a cell at the close, behind
-  -- all that both did before it and these drops.
-  pub data HoldsFewerThere : Type 0 where
-    before_line : (place : ℕ) → SameUpTo trace one.run.work.lines other.run.work.lines place → (line other_line : Line) → slice_get one.run.work.lines place ≡ Some line → slice_get other.run.work.lines place ≡ Some other_line
-        → other_line.op ≡ line.op → (on : OnObject) → on_object line.op ≡ Some on
-        → HoldsFewer (cell_number trace.config (cell_of trace.config.cells on.at)) (outline_behind trace (front_at one.run.work.lines place) (cell_of trace.config.cells on.at))
-        (shard_found trace.config (stands_of pools devices trace one place).shards on.tick line.work.brought) → HoldsFewerThere
-    before_close : SameUpTo trace one.run.work.lines other.run.work.lines (length one.run.work.lines) → length other.run.work.lines ≡ length one.run.work.lines
-        → ((i : ℕ) → IsCell trace.config i → front_last other.run.work.lines other.run.work.stopped i ≡ front_last one.run.work.lines one.run.work.stopped i) → (i : ℕ) → IsCell trace.config i
-        → (drops rest : List Event) → one.run.work.ended ≡ drops ++ rest
-        → HoldsFewer (cell_number trace.config i) (outline_behind trace (front_last one.run.work.lines one.run.work.stopped) i) (shard_closing pools devices trace one drops) → HoldsFewerThere
-
   -- the same report, so the same replies and histories of shards, the same end of the lines, and the same histories of cells
   pub record ComeToTheSame : Type 0 where
     pub report : other.report ≡ one.report
     pub ending : other.ending ≡ one.ending
     pub cells : (i : ℕ) (cell there : OnHeap) → slice_get one.closed.cells i ≡ Some cell → slice_get other.closed.cells i ≡ Some there → there.value.history ≡ cell.value.history
 
-  -- At a line before which both came to the same, two contents of one digest are in hand, which a reply shows, a patch began from or a feed picked; or a feed wanted memory there. Or a cell that gives up holds there, or at the close,
-  -- holds fewer entries under a key than it has blocks cached.
+  -- At a line before which both came to the same, two contents of one digest are in hand, which a reply shows, a patch began from or a feed picked; or a feed wanted memory there.
   pub data MayPart : Type 0 where
     shows : ShowsTwo trace one.run.work.lines other.run.work.lines → MayPart
     replays : ReplaysTwo trace one.run.work.lines other.run.work.lines one.run.work.stopped other.run.work.stopped → MayPart
     picks : PicksThere → MayPart
     memory : WantsMemoryThere → MayPart
-    fewer : HoldsFewerThere → MayPart
 
 -- Two runs of one trace with one caller, over a pool and a device that tell the same bytes, of which the same calls failed, come to the same; but for these cases.
 abbrev pub RunsAreAlike : {P D : Type 0} → Ghosts P → Devices D → Type 0

@@ -5,7 +5,7 @@ use std::marker::PhantomData;
 use vdev_io::{CacheDev, Pool};
 
 /// A law of one caller: two runs of one trace over the same bytes, of which the same calls failed, come to the same report, or two
-/// contents of one digest are in hand, a feed wanted memory, or a cell held fewer entries under a key than it had blocks cached.
+/// contents of one digest are in hand, or a feed wanted memory.
 pub fn one_callers_runs_are_alike<P: Pool, D: CacheDev>(
     _pool: PhantomData<P>,
     _device: PhantomData<D>,
