@@ -30,7 +30,7 @@ use Rattle.trace_text.specs.declared.reply.Reply.{Reply}
 use Rattle.trace_run.specs.callers.WorkLines.{AsksBrought, DidAlone}
 use Rattle.trace_run.specs.dbufs.CellEnds.{done_by}
 use Rattle.trace_run.specs.Deeds.{HasAct, HasToldAll, Noted, acts_of_events, events_of_cell, noted_in}
-use Rattle.trace_run.specs.dbufs.Holders.{AreHolders, any_held}
+use Rattle.trace_run.specs.dbufs.Holders.{AreHolders}
 use Rattle.trace_run.specs.dbufs.ObjectLines.{Did, DidNot, EndsInside, FindsCell, IsBrought, ReleasesFor, SpentOn, TellsBrought, WasToBring, cell_lines}
 use Rattle.trace_run.specs.dbufs.ObjectReplies.{ActsAt, ActsFor, AnswersObject, BringsAt, LooksFrom}
 use Rattle.trace_run.specs.dbufs.Objects.{AnswersKey, AnswersNoBlock, AnswersRange, Brought, Line, Loaded, NotesNothing, Nothing, Refused, Work, held_once, loads_of, own_event}
@@ -204,7 +204,7 @@ module _ {P D : Type 0} (pools : PoolGhosts P) (devices : DeviceGhosts D) (g : C
         mine = told-is valid at d.cell d.found did had told_all;
         front = d.placed;
         brought = brings;
-        acts = so any_held (acts-at g at t p q own brought Fits d any_held tt);
+        acts = so (AreHolders d.cell.value.history) (acts-at g at t p q own brought Fits d (AreHolders d.cell.value.history) d.holders);
         answer = answer;
         range = range-so brought reply spent;
       };
@@ -241,7 +241,7 @@ module _ {P D : Type 0} (pools : PoolGhosts P) (devices : DeviceGhosts D) (g : C
         mine = told-is valid at d.cell d.found did had told_all;
         front = (d.found.seen.0, d.found.seen.1 ∙ ap (λ (l : List Seen). l ++ d.found.seen.0) (sym (append-nil (cell_lines d.cell))));
         brought = brings;
-        acts = so any_held (refl, refl);
+        acts = so (AreHolders d.cell.value.history) (refl, refl);
         answer = answer;
         range = range-so brought reply spent;
       };

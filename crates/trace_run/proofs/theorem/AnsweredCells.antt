@@ -35,7 +35,7 @@ use Rattle.trace_run.specs.Deeds.{events_of_cell, lines_of_cell, noted_in}
 use Rattle.trace_run.specs.Lines.{is_of_caller, caller_of}
 use Rattle.trace_run.specs.dbufs.ObjectAnswers.{AreAnsweredByCells, IsAnsweredBy, LookedAt}
 use Rattle.trace_run.specs.dbufs.ObjectLines.{OnObject, cell_lines, on_object}
-use Rattle.trace_run.specs.dbufs.Holders.{any_held}
+use Rattle.trace_run.specs.dbufs.Holders.{AreHolders}
 use Rattle.trace_run.specs.dbufs.ObjectReplies.{ActsFor, AnswersObject, BringsAt}
 use Rattle.trace_run.specs.dbufs.Objects.{Line, OwnEvent, Work, no_work, own_event}
 use Rattle.trace_run.specs.RunWork.{AllFit, FitsBy, lines_of_caller, lines_of_feeder}
@@ -321,7 +321,7 @@ module _ (cache : Cache) (valid : IsConfig cache.config) (ps : List PartyPlace) 
           unsynced = λ x v lt at_x stops. all-unsynced i range n below k l at refl cut before.0 before.1 behind_front x lt (slice_get_within ls x v at_x);
           unstopped = all-unstopped i range n below k l at refl cut before.0 before.1 behind_front;
           brought = subst (λ (x : ℕ × List Mapping). BringsAt len at (outline_after x.0 x.1 a.cell.value.history) l.work.brought) (λ z. (began.0 z, began.1 z)) a.brought;
-          acts = subst (λ (x : ℕ × List Mapping). ActsFor g n any_held (own_event l.op) (outline_after x.0 x.1 a.cell.value.history) l.work l.reply) (λ z. (began.0 z, began.1 z)) a.acts;
+          acts = subst (λ (x : ℕ × List Mapping). ActsFor g n (AreHolders a.cell.value.history) (own_event l.op) (outline_after x.0 x.1 a.cell.value.history) l.work l.reply) (λ z. (began.0 z, began.1 z)) a.acts;
           answer = subst (λ (x : ℕ × List Mapping). AnswersObject len (told k) x.0 x.1 a.cell.value.history l.work.brought l.op l.reply) (λ z. (began.0 z, began.1 z)) a.answer;
           range = a.range;
         }

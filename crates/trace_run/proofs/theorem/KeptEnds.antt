@@ -21,7 +21,7 @@ use Rattle.dbuf_state.specs.declared.oid.Oid.{Oid}
 use Rattle.dbuf_state.specs.declared.state.Mapping.{Mapping}
 use Rattle.trace_text.specs.declared.trace.Trace.{Trace}
 use Rattle.trace_run.specs.dbufs.CellEnds.{AreCellsOf, AreEndedSo, DropsKept, EndedSo, SeesEnd, SeesEnds}
-use Rattle.trace_run.specs.dbufs.Holders.{any_held}
+use Rattle.trace_run.specs.dbufs.Holders.{AreHolders}
 use Rattle.trace_run.specs.RunWork.{only_ended}
 use Rattle.trace_run.proofs.CellEnds.{opened-uncached}
 use Rattle.trace_run.proofs.CellLemmas.{only-end-left, opening-same}
@@ -36,7 +36,7 @@ module _ (g : Config) where
     history = is;
     kept = record {
       held = λ at. false;
-      are_held = tt;
+      are_held = λ at. refl;
       kept = [];
       all = record {
         rising = λ k d low high. absurd (omega arith);
@@ -57,10 +57,6 @@ plain-kept trace closed are = none-kept trace.config 0 closed.cells
 
 -- ---- cells with any history
 
--- whichever dbufs had a hold
-some-held : (g : Config) (i : ℕ) (o : Outline) (AreHeld : (Oid → Bool) → Type 0) (drops : List Event) → DropsKept g i o AreHeld drops → DropsKept g i o any_held drops
-some-held g i o AreHeld drops d = record { held = d.held; are_held = tt; kept = d.kept; all = d.all; dropped = d.dropped }
-
 module _ (openings : List (List ℕ)) (seen : List (List Line)) where
   -- all that was done to the cell was seen, and it began as the openings say
   pub record IsSeenWhole (i : ℕ) (cell : OnHeap) : Type 0 where
@@ -72,7 +68,7 @@ module _ (openings : List (List ℕ)) (seen : List (List Line)) where
     one-ended i cell drops whole e = record {
       front = h;
       history = entries-read cell.value.history (h ++ End g.callers ∷ []) (whole.entries ∙ (e.last ∙ sym both));
-      kept = subst (λ (x : ℕ × List Mapping). DropsKept g i (outline_after x.0 x.1 h) any_held drops) (λ z. (same.0 z, same.1 z)) (some-held g i _ _ drops e.kept);
+      kept = subst (λ (x : ℕ × List Mapping). DropsKept g i (outline_after x.0 x.1 h) (AreHolders h) drops) (λ z. (same.0 z, same.1 z)) e.kept;
     }
       where
         h : List CellEvent

@@ -28,7 +28,7 @@ use Rattle.dbuf_state.specs.declared.oid.Oid.{Oid}
 use Rattle.trace_text.specs.declared.trace.Trace.{Trace}
 use Rattle.trace_run.specs.Deeds.{HasToldOthers, Noted, acts_of_events, events_of_cell, events_there, KeepsCells}
 use Rattle.trace_run.specs.KeptBlocks.{Stands}
-use Rattle.trace_run.specs.dbufs.Holders.{AreHolders, any_held}
+use Rattle.trace_run.specs.dbufs.Holders.{AreHolders}
 use Rattle.trace_run.specs.Making.{AreEventsSeen, AreNoEntries}
 use Rattle.trace_run.specs.Meeting.{HasSettled, HaveParted, IsLevel, SeesEntries}
 use Rattle.trace_run.specs.Openings.{Knows, opening_map}
@@ -171,7 +171,7 @@ pub record AreCellsOf (trace : Trace) (noted : ℕ → List Noted) (closed : End
 pub record EndedSo (g : Config) (i : ℕ) (cell : OnHeap) (drops : List Event) : Type 0 where
   pub front : List CellEvent
   pub history : cell.value.history ≡ front ++ End g.callers ∷ []
-  pub kept : DropsKept g i (outline_after cell.value.limit cell.value.opening front) any_held drops
+  pub kept : DropsKept g i (outline_after cell.value.limit cell.value.opening front) (AreHolders front) drops
 
 -- What each of these cells still kept was given back as it was ended, by rising cells and Oids, from the cell i on; and nothing else was.
 abbrev pub AreEndedSo : Config → (i : ℕ) → List OnHeap → List Event → Type 0

@@ -7,7 +7,3 @@ use Rattle.dbuf_state.specs.declared.oid.Oid.{Oid}
 -- these are the dbufs that keep one behind what was done to their cell
 abbrev pub AreHolders : List CellEvent → (held : Oid → Bool) → Type 0
 AreHolders history held = (at : Oid) → held at ≡ held_by at history
-
--- whichever dbufs have one
-abbrev pub any_held : (Oid → Bool) → Type 0
-any_held held = Unit {0}

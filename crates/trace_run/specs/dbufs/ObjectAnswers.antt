@@ -11,7 +11,7 @@ use Rattle.dbuf_state.specs.declared.oid.Oid.{Oid}
 use Rattle.trace_run.specs.dbufs.CellEnds.{done_by}
 use Rattle.trace_run.specs.Deeds.{events_of_cell}
 use Rattle.trace_run.specs.Lines.{is_of_caller}
-use Rattle.trace_run.specs.dbufs.Holders.{any_held}
+use Rattle.trace_run.specs.dbufs.Holders.{AreHolders}
 use Rattle.trace_run.specs.dbufs.ObjectLines.{OnObject, TellsBrought, on_object}
 use Rattle.trace_run.specs.dbufs.ObjectReplies.{ActsFor, AnswersObject, BringsAt}
 use Rattle.trace_run.specs.dbufs.Objects.{Line, own_event}
@@ -42,7 +42,7 @@ pub record LookedAt (g : Config) (pool_len : ℕ) (told : (k : ℕ) → Option (
   -- and nothing of one that stopped, which is none of these lines: the feeder had done there at most what the syncs among them wrote
   pub unstopped : StartsWith (events_of_cell (cell_of g.cells at) (noted_of_work (lines_of_feeder lines))) (done_by g.callers front)
   pub brought : BringsAt pool_len at (outline_after cell.value.limit cell.value.opening front) l.work.brought
-  pub acts : ActsFor g n any_held (own_event l.op) (outline_after cell.value.limit cell.value.opening front) l.work l.reply
+  pub acts : ActsFor g n (AreHolders front) (own_event l.op) (outline_after cell.value.limit cell.value.opening front) l.work l.reply
   pub answer : AnswersObject pool_len (told k) cell.value.limit cell.value.opening front l.work.brought l.op l.reply
   pub range : TellsBrought (told k) l.work.brought
 

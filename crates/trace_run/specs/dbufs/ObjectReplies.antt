@@ -26,7 +26,7 @@ use Rattle.trace_text.specs.declared.reply.Reply.{Reply}
 use Rattle.trace_text.specs.declared.reply.Reply.TheVariants as replies
 use Rattle.trace_run.specs.Answers.{IsReadRefusal}
 use Rattle.trace_run.specs.dbufs.CellEnds.{done_by}
-use Rattle.trace_run.specs.dbufs.Holders.{any_held}
+use Rattle.trace_run.specs.dbufs.Holders.{AreHolders}
 use Rattle.trace_run.specs.Deeds.{Noted, acts_of_events, events_of_cell, lines_of_cell, noted_in}
 use Rattle.trace_run.specs.dbufs.ObjectLines.{EndsInside, ReleasesFor, TellsBrought, WasToBring, cell_lines}
 use Rattle.trace_run.specs.dbufs.Objects.{AnswersKey, AnswersNoBlock, AnswersRange, Brought, Line, Loaded, NotesNothing, Nothing, OwnEvent, Refused, Work, held_once, loads_of, no_work, own_event}
@@ -163,7 +163,7 @@ pub record AnswersFrom (g : Config) (pool_len : ℕ) (image : Option (List ℕ))
   pub mine : done_by n cell.value.history ≡ events_of_cell (cell_of g.cells at) had
   pub front : StartsWith (front_of (cell_of g.cells at) seen) (cell_lines cell ++ lines_of_cell (cell_of g.cells at) l.work.noted)
   pub brought : BringsAt pool_len at (outline_after cell.value.limit cell.value.opening cell.value.history) l.work.brought
-  pub acts : ActsFor g n any_held (own_event l.op) (outline_after cell.value.limit cell.value.opening cell.value.history) l.work l.reply
+  pub acts : ActsFor g n (AreHolders cell.value.history) (own_event l.op) (outline_after cell.value.limit cell.value.opening cell.value.history) l.work l.reply
   pub answer : AnswersObject pool_len image cell.value.limit cell.value.opening cell.value.history l.work.brought l.op l.reply
   pub range : TellsBrought image l.work.brought
 
