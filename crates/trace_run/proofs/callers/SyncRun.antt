@@ -43,6 +43,7 @@ module _ {P : Type 0} (pools : Ghosts P) (config : Config) (Said So : OfCells) (
       dirty = s.answer.dirty;
       sized = s.answer.sized;
       fits = s.answer.fits;
+      held = s.answer.held;
       turns = turned before t work s.answer.cells _ s.answer.turns;
       told = s.answer.told;
       outside = s.answer.outside;
@@ -88,6 +89,7 @@ module _ {P : Type 0} (pools : Ghosts P) (config : Config) (Said So : OfCells) (
       rest = f.stops.rest;
       dirty = f.stops.dirty;
       fits = f.stops.fits;
+      held = f.stops.held;
       turns = turned before t work f.stops.cells _ f.stops.turns;
       told = f.stops.told;
     };
