@@ -43,6 +43,7 @@ module _ {P : Type 0} (pools : Ghosts P) (config : Config) (Said So : OfCells) (
       dirty = s.answer.dirty;
       sized = s.answer.sized;
       fits = s.answer.fits;
+      held = s.answer.held;
       turns = turned before t work s.answer.cells _ s.answer.turns;
       told = s.answer.told;
       outside = s.answer.outside;
@@ -88,6 +89,7 @@ module _ {P : Type 0} (pools : Ghosts P) (config : Config) (Said So : OfCells) (
       rest = f.stops.rest;
       dirty = f.stops.dirty;
       fits = f.stops.fits;
+      held = f.stops.held;
       turns = turned before t work f.stops.cells _ f.stops.turns;
       told = f.stops.told;
     };
@@ -111,8 +113,8 @@ module _ {P : Type 0} (pools : Ghosts P) (config : Config) (Said So : OfCells) (
       stops : RefusedFirst pools group next from after config (λ cells xs Besides. Said before t work cells xs) ⊎ RefusedAt pools group next from after config (λ cells xs Besides. Said before t work cells xs)
           → RefusedFirst pools group next from after config (λ cells xs Besides. So before t work cells xs) ⊎ RefusedAt pools group next from after config (λ cells xs Besides. So before t work cells xs)
       stops (inl first) = inl (record { cells = first.cells; turns = turned before t work first.cells [] first.turns; told = first.told })
-      stops (inr (inl s)) = inr (inl (record { cells = s.cells; done = s.done; due = s.due; rest = s.rest; dirty = s.dirty; fits = s.fits; turns = turned before t work s.cells _ s.turns; told = s.told }))
-      stops (inr (inr s)) = inr (inr (record { cells = s.cells; done = s.done; due = s.due; rest = s.rest; dirty = s.dirty; fits = s.fits; turns = turned before t work s.cells _ s.turns; told = s.told }))
+      stops (inr (inl s)) = inr (inl (record { cells = s.cells; done = s.done; due = s.due; rest = s.rest; dirty = s.dirty; fits = s.fits; held = s.held; turns = turned before t work s.cells _ s.turns; told = s.told }))
+      stops (inr (inr s)) = inr (inr (record { cells = s.cells; done = s.done; due = s.due; rest = s.rest; dirty = s.dirty; fits = s.fits; held = s.held; turns = turned before t work s.cells _ s.turns; told = s.told }))
 
   pub stops-sync-as : (trace : Trace) (replies : List Reply) (before : List Line) (work : Work) (why : SyncFault) (from : BetweenGroups P) (after : P) → StopsSync pools config Said trace replies before work why from after
       → StopsSync pools config So trace replies before work why from after
