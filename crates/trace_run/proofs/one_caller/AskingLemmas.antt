@@ -51,7 +51,7 @@ use Rattle.arc_table.proofs.Reached.{sound_log}
 use Rattle.arc_table.proofs.scans.ScanAlone.{scan-alone}
 use Rattle.trace_run.specs.one_caller.Access as access
 use Rattle.trace_run.specs.one_caller.Access.{Access, access_of}
-use Rattle.trace_run.specs.one_caller.Asking.{Asks, AsksGot, AsksRead, CameFromDevice, NamesServed, asked_by_read, place_asked, place_in, place_on, place_to_ask, read_on, serves, source_at, source_of}
+use Rattle.trace_run.specs.one_caller.Asking.{Asks, AsksGot, CameFromDevice, NamesServed, place_asked, place_in, place_on, place_to_ask, read_on, serves, source_at, source_of}
 use Rattle.trace_run.specs.Effects.{Answered, PoolRefused, NoEffect, effect_of}
 use Rattle.trace_run.specs.Read.{IsFromPool}
 use Rattle.trace_run.specs.Reads.{IsRefused, now_of}
