@@ -7,7 +7,6 @@ use Rattle.blk_ptr.specs.Ptr.{IsOf}
 use Rattle.arc_core.specs.PlainShard.{PlainShard, place_of}
 use Rattle.arc_core.specs.declared.config.Config.{Config}
 use Rattle.arc_core.specs.declared.served.Served.{Served}
-use Rattle.arc_core.specs.declared.served.Served.TheVariants as served
 use Rattle.arc_table.specs.Ended.{Ended}
 use Rattle.arc_table.specs.Fetching.{bytes_from}
 use Rattle.arc_table.specs.Geometry.{IsCell}

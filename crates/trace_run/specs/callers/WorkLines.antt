@@ -126,8 +126,7 @@ AsksBrought devices g s Nothing reply old new = new ≡ old
 AsksBrought devices g s (Loaded ptr from) reply old new = Asks devices (s (shard_of g.shards ptr.key)) ptr (Answered from) old new
 AsksBrought devices g s (Refused ptr) reply old new = Asks devices (s (shard_of g.shards ptr.key)) ptr (effect_of reply) old new
 
--- What a line came to for a party that has every number. It found its block's cell with just what it had seen of it, and by that go what was brought, what the line did and what it was answered. Which keys
--- the cell holds, the shards tell, as they were behind the access. The party has
+-- What a line came to for a party that has every number. It found its block's cell with just what it had seen of it, and by that go what was brought, what the line did and what it was answered. The party has
 -- seen in each shard just the events for what was brought, and then these more, which are the line's acts; and of each cell what the line did there. The device was asked by the shard.
 pub record DidAlone {P D : Type 0} (pools : PoolGhosts P) (devices : DeviceGhosts D) (g : Config) (before now : Outside P D) (p q : PartyPlace) (on : OnObject) (l : Line) : Type 0 where
   pub cell : OnHeap
