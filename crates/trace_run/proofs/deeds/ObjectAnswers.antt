@@ -5,7 +5,6 @@ use Rattle.blk_ptr.specs.declared.digest.Digest.{Digest}
 use Rattle.blk_ptr.specs.declared.key.KeyFault.{KeyFault}
 use Rattle.blk_ptr.specs.declared.ptr.Ptr.{Ptr}
 use Rattle.blk_ptr.specs.Hash.{shard_of}
-use Rattle.blk_ptr.specs.declared.key.Key.{Key}
 use Rattle.blk_ptr.specs.Key.{IsFirstKeyFault, IsValid}
 use Rattle.vdev_io.specs.declared.device.CacheDev.{Ghosts as DeviceGhosts}
 use Rattle.vdev_io.specs.declared.pool.Pool.{Ghosts as PoolGhosts}
