@@ -14,6 +14,7 @@ use Rattle.dbuf_state.specs.declared.dbuf.Dbuf.{Dbuf}
 use Rattle.dbuf_state.specs.declared.event.CellEvent.{CellEvent}
 use Rattle.dbuf_state.specs.declared.state.DbState.TheVariants.{Uncached}
 use Rattle.dbuf_state.specs.declared.state.Mapping.{Mapping}
+use Rattle.dbuf_state.proofs.HeldLemmas.{mapped-tells}
 use Rattle.dbuf_state.proofs.StepLemmas.{mapped-is-sound}
 use Rattle.dbuf_cells.specs.Kept.{bytes_of, is_held, key_of}
 use Rattle.dbuf_cells.specs.Turns.{OnHeap, dbuf_meanings}
@@ -30,7 +31,7 @@ fresh-claims n (m ∷ ms) = fresh-claims n ms
 
 is-fresh : (c : OnHeap) → IsMapped c.value → IsFreshCell dbuf_meanings c
 is-fresh c h = record {
-  sound = mapped-is-sound c.value h.history h.dbufs;
+  sound = record { sound = mapped-is-sound c.value h.history h.dbufs; tells = mapped-tells is_held c.value h.history h.dbufs };
   holds = ap (λ (ds : List (Dbuf Kept)). holds_in key_of bytes_of is_held ds) h.dbufs ∙ fresh-holds c.value.opening;
   entries = ap (λ (es : List CellEvent). map event_numbers es) h.history;
   claims = λ n. ap mapping_numbers (ap (λ (ds : List (Dbuf Kept)). claims_in n ds) h.dbufs ∙ fresh-claims n c.value.opening);
