@@ -17,7 +17,7 @@ use Rattle.trace_run.specs.callers.WorkLines.{calls_of_lines}
 use Rattle.trace_run.specs.one_caller.Sequence.{BetweenLines, DoesLine, GoesOn, shard_behind}
 use Rattle.trace_run.proofs.in_place.AloneStands.{calls-keep}
 use Rattle.run_laws.specs.Alike.{AreAlike, AreDevicesAlike}
-use Rattle.run_laws.proofs.PlacesGo.{PlacesGo, own-places}
+use Rattle.run_laws.proofs.feeds.PlacesGo.{PlacesGo, own-places}
 use Rattle.run_laws.proofs.ShardsLegal.{AreLegalShards}
 
 -- one more of each history

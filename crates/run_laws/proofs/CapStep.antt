@@ -14,7 +14,7 @@ use Rattle.trace_run.specs.dbufs.Objects.{Work, no_work}
 use Rattle.trace_run.specs.one_caller.Sequence.{BetweenLines, DoesAnyLine, DoesCap, shard_behind}
 use Rattle.run_laws.specs.Alike.{AreAlike, AreDevicesAlike, feed_answers, pool_answers_to}
 use Rattle.run_laws.proofs.Behind.{devices-go, goes-cell, goes-shard}
-use Rattle.run_laws.proofs.PlacesGo.{cap-places}
+use Rattle.run_laws.proofs.feeds.PlacesGo.{cap-places}
 use Rattle.run_laws.proofs.ReadStep.{line_of}
 use Rattle.run_laws.proofs.ShardsLegal.{AreLegalShards}
 use Rattle.run_laws.proofs.Steps.{StepAlike}

@@ -27,8 +27,8 @@ use Rattle.trace_run.specs.one_caller.Sequence.{AreInSequence, BetweenLines, Doe
 use Rattle.run_laws.specs.Alike.{AreAlike, AreAlikeSoFar, AreDevicesAlike, device_answers, device_answers_to, feeds_at, front_at, pool_answers, pool_answers_to}
 use Rattle.run_laws.proofs.Behind.{same-shard}
 use Rattle.run_laws.proofs.Facts.{OfEachLine}
-use Rattle.run_laws.proofs.LinePlaces.{line-live}
-use Rattle.run_laws.proofs.FeedPlaces.{PlacesLive}
+use Rattle.run_laws.proofs.feeds.LinePlaces.{line-live}
+use Rattle.run_laws.proofs.feeds.FeedPlaces.{PlacesLive}
 use Rattle.run_laws.proofs.Rows.{so-far-front, so-far-rest, so-far-sym}
 use Rattle.run_laws.proofs.Settled.{NotesAll, line-notes}
 use Rattle.run_laws.proofs.ShardsLegal.{AreLegalShards}

@@ -43,12 +43,12 @@ use Rattle.run_laws.specs.Alike.{AreAlike, AreAlikeSoFar, BeginAlike, FailAlike,
 use Rattle.run_laws.proofs.Begins.{AreFirstAlike, AreStartedSame, start-same}
 use Rattle.run_laws.proofs.BoundedTrace.{formed-bound}
 use Rattle.run_laws.proofs.Facts.{OfEachLine}
-use Rattle.run_laws.proofs.FeedPlaces.{PlacesLive}
+use Rattle.run_laws.proofs.feeds.FeedPlaces.{PlacesLive}
 use Rattle.run_laws.proofs.LinesAlike.{BothGo, ComeTo, Kind, StepsAlike, lines-alike}
 use Rattle.run_laws.proofs.Rows.{so-far-front}
 use Rattle.run_laws.proofs.ShardsLegal.{AreLegalShards, begun-legal}
 use Rattle.run_laws.proofs.StartOne.{too-long}
-use Rattle.run_laws.proofs.StartPlaces.{live_first, start-live}
+use Rattle.run_laws.proofs.feeds.StartPlaces.{live_first, start-live}
 
 -- ---- the place of the first sync: the greatest end of the declared blocks that a pool of this length has (spa_sync's first allocation)
 

@@ -16,7 +16,7 @@ use Rattle.trace_run.specs.RunWork.{FitsBy}
 use Rattle.trace_run.specs.dbufs.Objects.{Line, Work}
 use Rattle.trace_run.specs.one_caller.Sequence.{BetweenLines, DoesAnyLine}
 use Rattle.run_laws.proofs.CapStep.{cap-step}
-use Rattle.run_laws.proofs.FeedStep.{feed-step}
+use Rattle.run_laws.proofs.feeds.FeedStep.{feed-step}
 use Rattle.run_laws.proofs.LinesAlike.{Caps, Feeds, Objects, Reads, StepsAlike, Syncs, kind_of}
 use Rattle.run_laws.proofs.ReadStep.{IsOnBlock, block-step, line_of}
 use Rattle.run_laws.proofs.ShardsLegal.{AreLegalShards}

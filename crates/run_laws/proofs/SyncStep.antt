@@ -27,7 +27,7 @@ use Rattle.trace_run.specs.dbufs.Objects.{Line, Nothing, Work}
 use Rattle.trace_run.specs.one_caller.Sequence.{BetweenLines, DoesSync, shard_behind}
 use Rattle.run_laws.specs.Alike.{AreAlike, AreDevicesAlike, feed_answers}
 use Rattle.run_laws.proofs.Behind.{devices-go, goes-cell, goes-shard}
-use Rattle.run_laws.proofs.PlacesGo.{sync-places}
+use Rattle.run_laws.proofs.feeds.PlacesGo.{sync-places}
 use Rattle.run_laws.proofs.PlainDues.{DueApart, IsEven, even-or-apart, items-same, need-same, sizes-same, views_of}
 use Rattle.run_laws.proofs.ShardsLegal.{AreLegalShards}
 use Rattle.run_laws.proofs.Steps.{PartsAt, StepAlike, replays}

@@ -26,8 +26,8 @@ use Rattle.trace_text.specs.declared.trace.Trace.{Trace}
 use Rattle.trace_run.specs.Restores.{found_keys, restores_in}
 use Rattle.trace_run.specs.one_caller.Sequence.{shard_behind}
 use Rattle.run_laws.specs.Alike.{Starts, StartsSo}
-use Rattle.run_laws.proofs.FeedPlaces.{PlacesLive}
-use Rattle.run_laws.proofs.PlacesGo.{shard-below}
+use Rattle.run_laws.proofs.feeds.FeedPlaces.{PlacesLive}
+use Rattle.run_laws.proofs.feeds.PlacesGo.{shard-below}
 use Rattle.run_laws.proofs.ShardsLegal.{AreLegalShards}
 
 -- what is live in the ring of a start, where a device was started

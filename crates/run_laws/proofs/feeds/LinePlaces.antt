@@ -32,9 +32,9 @@ use Rattle.trace_run.specs.dbufs.ObjectLines.{on_object}
 use Rattle.trace_run.specs.dbufs.Objects.{Line, Work}
 use Rattle.trace_run.specs.one_caller.Sequence.{BetweenLines, DoesAnyLine, DoesFeed, DoesOther, IsFeedHere, shard_behind}
 use Rattle.run_laws.specs.Alike.{WantsMemory}
-use Rattle.run_laws.proofs.FeedPlaces.{AllMay, PlacesLive, after-acts, fed-live}
-use Rattle.run_laws.proofs.FeedRows.{plain-known}
-use Rattle.run_laws.proofs.PlacesGo.{PlacesGo, cap-places, own-places, shard-below, sync-places}
+use Rattle.run_laws.proofs.feeds.FeedPlaces.{AllMay, PlacesLive, after-acts, fed-live}
+use Rattle.run_laws.proofs.feeds.FeedRows.{plain-known}
+use Rattle.run_laws.proofs.feeds.PlacesGo.{PlacesGo, cap-places, own-places, shard-below, sync-places}
 use Rattle.run_laws.proofs.ShardsLegal.{AreLegalShards}
 
 -- ---- a feed

@@ -28,7 +28,7 @@ use Rattle.l2_feed.proofs.Lists.{bytes_cons, bytes_split}
 use Rattle.l2_feed.proofs.Running.{drop_more}
 use Rattle.vdev_io.specs.Calls.{Asked, DeviceCall, Failed, Gave, Write, answered}
 use Rattle.trace_run.proofs.one_caller.TellLemmas.{all-append}
-use Rattle.run_laws.proofs.FeedWrites.{FailBeside, IsBeside, WroteIn}
+use Rattle.run_laws.proofs.feeds.FeedWrites.{FailBeside, IsBeside, WroteIn}
 use Rattle.run_laws.proofs.Rows.{gave-not-failed}
 
 -- ---- calls beside a range

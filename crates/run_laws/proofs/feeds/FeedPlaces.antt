@@ -40,7 +40,7 @@ use Rattle.l2_feed.proofs.Plain.{after_two, none_two, of_two}
 use Rattle.l2_feed.proofs.Stepped.{sound_front, taking}
 use Rattle.l2_feed.proofs.Taking.{none_placed, placed_only}
 use Rattle.vdev_io.specs.Calls.{DeviceCall}
-use Rattle.run_laws.proofs.PlacesGo.{GiveNone, if-gives}
+use Rattle.run_laws.proofs.feeds.PlacesGo.{GiveNone, if-gives}
 
 -- each place that a key has in these shards is live for it
 abbrev pub PlacesLive : Config → (s : ℕ → PlainShard) → List Written → Type 0

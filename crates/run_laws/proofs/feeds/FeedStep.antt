@@ -27,11 +27,11 @@ use Rattle.trace_run.specs.dbufs.Objects.{Line, Work, no_work}
 use Rattle.trace_run.specs.one_caller.Sequence.{BetweenLines, DoesFeed, IsFeedHere, shard_behind}
 use Rattle.run_laws.specs.Alike.{AreAlike, AreAlikeSoFar, AreDevicesAlike, FeedsPickTwo, WantsMemory, feed_answers, pool_answers_to}
 use Rattle.run_laws.proofs.Behind.{goes-cell, goes-shard, same-shard}
-use Rattle.run_laws.proofs.LinePlaces.{FedFrom, feed-leads, feed-live, feed-may, line-fed}
-use Rattle.run_laws.proofs.FeedPlaces.{PlacesLive, acts-take}
-use Rattle.run_laws.proofs.FeedRanges.{fed-beside, fed-wrote}
-use Rattle.run_laws.proofs.FeedRows.{AreFedAlike, feeds-alike, told-at}
-use Rattle.run_laws.proofs.FeedWrites.{SameIn, TellBoth, WroteIn, calls-keep, calls-tell}
+use Rattle.run_laws.proofs.feeds.LinePlaces.{FedFrom, feed-leads, feed-live, feed-may, line-fed}
+use Rattle.run_laws.proofs.feeds.FeedPlaces.{PlacesLive, acts-take}
+use Rattle.run_laws.proofs.feeds.FeedRanges.{fed-beside, fed-wrote}
+use Rattle.run_laws.proofs.feeds.FeedRows.{AreFedAlike, feeds-alike, told-at}
+use Rattle.run_laws.proofs.feeds.FeedWrites.{SameIn, TellBoth, WroteIn, calls-keep, calls-tell}
 use Rattle.run_laws.proofs.ShardsLegal.{AreLegalShards}
 use Rattle.run_laws.proofs.Steps.{PartsAt, StepAlike, memory, picks}
 
